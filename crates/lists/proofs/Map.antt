@@ -1,0 +1,17 @@
+-- The length of a mapped list, and its elements.
+use mathlib.Core.Path.{_≡_, refl, ap}
+use Prim.Native.Nat.{ℕ, zero, suc, _<_}
+use native.Mathlib.Nat.{not-suc-le-zero, le-of-suc-le-suc}
+use mathlib.Core.List.{List, [], _∷_, map}
+use lib.ListN.{length, getD}
+
+module _ {ℓ κ} {A : Type ℓ} {B : Type κ} (f : A → B) where
+  pub length-map : (l : List A) → length (map f l) ≡ length l
+  length-map [] = refl
+  length-map (x ∷ l) = ap suc (length-map l)
+
+  -- whatever stands for an element past the end, on either side
+  pub getD-map : (l : List A) (n : ℕ) (d : A) (e : B) → n < length l → getD (map f l) n e ≡ f (getD l n d)
+  getD-map [] n d e h = absurd (not-suc-le-zero h)
+  getD-map (x ∷ l) zero d e h = refl
+  getD-map (x ∷ l) (suc n) d e h = getD-map l n d e (le-of-suc-le-suc h)

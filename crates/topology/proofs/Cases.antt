@@ -1,0 +1,78 @@
+-- The cases of the definitions over bytes: one law for each answer that the code gives.
+use mathlib.Core.Path.{_≡_, refl, sym, _∙_}
+use Prim.Native.Nat.{ℕ, zero, suc, _+_, _-_, _≤_, _<_}
+use native.Mathlib.Omega.{arith}
+use mathlib.Core.List.{List, []}
+use mathlib.Core.Bool.{false}
+use lib.ListN.{length, take, drop, getD, List·getD-eq-default}
+use lib.Dec.{ltb}
+use borrow.Author.Tests.{lt-ltb, le-ltb, le-leb, lt-leb}
+use Rattle.topology.specs.Reader.{pick, orElse, fault, reading}
+use Rattle.topology.specs.Branch.{branchEnd, start, childAt, isAbove, branchFault, unless, branchPart}
+use Rattle.topology.specs.declared.Reading.{Reading}
+use Rattle.topology.specs.declared.Reading.the-variants.{Tree, Refused}
+use Rattle.topology.specs.declared.Found.the-variants.{Node, Missing}
+
+pub clash : _≡_ {A = ℕ} 0 1 → ⊥
+clash e = omega arith
+
+pub child-zero : (bytes : List ℕ) (n i : ℕ) → i ≡ 0 → Missing ≡ childAt bytes n i
+unfolding childAt
+child-zero bytes n i e = rw e
+
+pub child-none : (bytes : List ℕ) (n i : ℕ) → getD bytes n 0 < i → Missing ≡ childAt bytes n i
+unfolding childAt
+child-none bytes n zero h = refl
+child-none bytes n (suc i) h = simp (le-ltb i (getD bytes n 0) (omega arith))
+
+pub child-out : (bytes : List ℕ) (n i : ℕ) → length bytes ≤ n → (i ≡ 0 → ⊥) → Missing ≡ childAt bytes n i
+child-out bytes n i h g = child-none bytes n i (omega (arith, List·getD-eq-default bytes 0 h))
+
+pub child-found : (bytes : List ℕ) (n i k at : ℕ) → at ≡ start bytes n (k - 1) → k ≡ i → (i ≡ 0 → ⊥) → i ≤ getD bytes n 0
+    → Node at ≡ childAt bytes n i
+unfolding childAt
+child-found bytes n zero k at e f g h = absurd (g refl)
+child-found bytes n (suc i) k at e f g h =
+    let d : k - 1 ≡ i = omega arith in
+    rw (e, d, lt-ltb i (getD bytes n 0) h)
+
+pub start-next : (bytes : List ℕ) (n k : ℕ) → 1 ≤ k → branchEnd bytes (start bytes n (k - 1)) ≡ start bytes n (k + 1 - 1)
+start-next bytes n k h =
+    let e : k + 1 - 1 ≡ suc (k - 1) = omega arith in
+    rw e
+
+pub above-test : (bytes : List ℕ) (a b end : ℕ) → a ≤ b → end ≡ branchEnd bytes a → ltb b end ≡ isAbove bytes a b
+unfolding isAbove
+above-test bytes a b end h e = rw (le-leb a b h, e)
+
+pub above-not : (bytes : List ℕ) (a b : ℕ) → b < a → false ≡ isAbove bytes a b
+unfolding isAbove
+above-not bytes a b h = rw (lt-leb a b h)
+
+-- The branch's three answers: the reader's refusal, 19, and a stretch of the bytes.
+module _ (bytes : List ℕ) (n : ℕ) (r : Reading) (e : r ≡ reading (fault 64 bytes)) where
+  pub branch-refused : (number : ℕ) → r ≡ Refused number → (number ≡ branchFault bytes n) × ([] ≡ branchPart bytes n)
+  unfolding branchFault branchPart
+  branch-refused number t = by-fault (fault 64 bytes) (sym t ∙ e)
+    where
+      by-fault : (f : ℕ) → Refused number ≡ reading f
+          → (number ≡ orElse f (pick (ltb n (length bytes)) 0 19))
+          × ([] ≡ unless (orElse f (pick (ltb n (length bytes)) 0 19)) (take (branchEnd bytes n - n) (drop n bytes)))
+      by-fault zero q = absurd (clash (cc))
+      by-fault (suc f) q = (cc, refl)
+
+  no-fault : r ≡ Tree → fault 64 bytes ≡ 0
+  no-fault t = by-fault (fault 64 bytes) (sym t ∙ e)
+    where
+      by-fault : (f : ℕ) → Tree ≡ reading f → f ≡ 0
+      by-fault zero q = refl
+      by-fault (suc f) q = absurd (clash (cc))
+
+  pub branch-missing : r ≡ Tree → length bytes ≤ n → (19 ≡ branchFault bytes n) × ([] ≡ branchPart bytes n)
+  unfolding branchFault branchPart
+  branch-missing t h = rw (no-fault t, le-ltb n (length bytes) h) (refl, refl)
+
+  pub branch-there : r ≡ Tree → n < length bytes → (end : ℕ) → end ≡ branchEnd bytes n
+      → (0 ≡ branchFault bytes n) × (take (end - n) (drop n bytes) ≡ branchPart bytes n)
+  unfolding branchFault branchPart
+  branch-there t h end q = rw (no-fault t, lt-ltb n (length bytes) h, q) (refl, refl)

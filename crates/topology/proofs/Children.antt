@@ -1,0 +1,95 @@
+-- The children of a node, by number: the first comes right after the node, the next one where its elder's branch ends. Each node but
+-- the root is the child of one node.
+use mathlib.Core.Path.{_≡_, refl, sym, ap, _∙_, subst}
+use Prim.Native.Nat.{ℕ, zero, suc, _+_, _≤_, _<_}
+use native.Mathlib.Nat.{not-suc-le-zero, le-of-suc-le-suc}
+use native.Mathlib.Omega.{arith}
+use mathlib.Core.List.{[], _∷_, _++_}
+use lib.ListN.{length, length-append}
+use Rattle.lists.proofs.Last.{split-last, last-unique}
+use Rattle.topology.specs.Tree.{Topo, Forest, node, fnil, fcons, count, kids, width, size}
+use Rattle.topology.specs.Address.{Addr, nth, child, In, sub, addr, ahead, num, subtree, childOf, depth}
+use Rattle.topology.proofs.Numbering.{addr-in, num-addr, num-lt, addr-num}
+use Rattle.topology.proofs.Ancestry.{in-front, in-below, in-join, sub-append, num-append, addr-inj}
+
+-- Child i of node n is there.
+abbrev pub HasChild : Topo → ℕ → ℕ → Type 0
+HasChild t n i = (n < size t) × (0 < i) × (i ≤ width (subtree t n))
+
+module _ (t : Topo) (n i : ℕ) (h : HasChild t n i) where
+  in-child : In t (addr t n ++ (i ∷ []))
+  in-child = in-join t (addr t n) (i ∷ []) (addr-in t n (h .0)) (h .1, h .2, tt)
+
+  pub childOf-lt : childOf t n i < size t
+  unfolding childOf
+  childOf-lt = num-lt t (addr t n ++ (i ∷ [])) in-child
+
+  pub addr-childOf : addr t (childOf t n i) ≡ addr t n ++ (i ∷ [])
+  unfolding childOf
+  addr-childOf = addr-num t (addr t n ++ (i ∷ [])) in-child
+
+  pub subtree-childOf : subtree t (childOf t n i) ≡ child (subtree t n) i
+  subtree-childOf = ap (sub t) addr-childOf ∙ sub-append t (addr t n) (i ∷ [])
+
+  pub depth-childOf : depth t (childOf t n i) ≡ suc (depth t n)
+  depth-childOf = omega (arith, ap length addr-childOf, length-append (addr t n) (i ∷ []))
+
+-- the number of child i + 1: the node's, one more, and the nodes of the elder children
+pub childOf-ahead : (t : Topo) (n i : ℕ) → n < size t → childOf t n (suc i) ≡ suc (n + ahead (kids (subtree t n)) i)
+unfolding childOf
+childOf-ahead t n i h =
+    let e = num-append t (addr t n) (suc i ∷ []) (addr-in t n h) in
+    let m = num-addr t n h in
+    omega arith
+
+pub childOf-after : (t : Topo) (n i : ℕ) → HasChild t n i → n < childOf t n i
+childOf-after t n zero h = absurd (not-suc-le-zero (h .1))
+childOf-after t n (suc i) h = omega (arith, childOf-ahead t n i (h .0))
+
+ahead-zero : (ts : Forest) → ahead ts 0 ≡ 0
+ahead-zero fnil = refl
+ahead-zero (fcons t ts) = refl
+
+ahead-suc : (ts : Forest) (i : ℕ) → i < count ts → ahead ts (suc i) ≡ ahead ts i + size (nth ts i)
+ahead-suc fnil i h = absurd (not-suc-le-zero h)
+ahead-suc (fcons t ts) zero h = omega (arith, ahead-zero ts)
+ahead-suc (fcons t ts) (suc i) h = omega (arith, ahead-suc ts i (le-of-suc-le-suc h))
+
+pub childOf-first : (t : Topo) (n : ℕ) → n < size t → childOf t n 1 ≡ suc n
+childOf-first t n h = omega (arith, childOf-ahead t n 0 h, ahead-zero (kids (subtree t n)))
+
+pub childOf-next : (t : Topo) (n i : ℕ) → HasChild t n i → childOf t n (suc i) ≡ childOf t n i + size (child (subtree t n) i)
+childOf-next t n zero h = absurd (not-suc-le-zero (h .1))
+childOf-next t n (suc i) h =
+    omega (arith, childOf-ahead t n (suc i) (h .0), childOf-ahead t n i (h .0), ahead-suc (kids (subtree t n)) i (h .2))
+
+-- a node's parent, and which of its children the node is
+pub record Parent (t : Topo) (n : ℕ) : Type 0 where
+  pub node : ℕ
+  pub index : ℕ
+  pub has : HasChild t node index
+  pub child : childOf t node index ≡ n
+
+pub parent : (t : Topo) (n : ℕ) → 0 < n → n < size t → Parent t n
+unfolding childOf
+parent t n p h = by-address (addr t n) refl
+  where
+    by-address : (a : Addr) → addr t n ≡ a → Parent t n
+    by-address [] e = absurd (omega (arith, num-addr t n h, ap (num t) e))
+    by-address (k ∷ a) e =
+        let s = split-last k a in
+        let there = e ∙ s .2 in
+        let i = subst (In t) there (addr-in t n h) in
+        let up = in-front t (s .0) (s .1 ∷ []) i in
+        let back = addr-num t (s .0) up in
+        let under : In (subtree t (num t (s .0))) (s .1 ∷ []) =
+        subst (λ (b : Addr). In (sub t b) (s .1 ∷ [])) (sym back) (in-below t (s .0) (s .1 ∷ []) i) in
+        let has : HasChild t (num t (s .0)) (s .1) = (num-lt t (s .0) up, under .0, under .1) in
+        let is : childOf t (num t (s .0)) (s .1) ≡ n =
+        ap (λ (b : Addr). num t (b ++ (s .1 ∷ []))) back ∙ ap (num t) (sym there) ∙ num-addr t n h in
+        record { node = num t (s .0); index = s .1; has = has; child = is }
+
+pub parent-unique : (t : Topo) (n i m j : ℕ) → HasChild t n i → HasChild t m j → childOf t n i ≡ childOf t m j → (n ≡ m) × (i ≡ j)
+parent-unique t n i m j h g e =
+    let r = last-unique (addr t n) (addr t m) i j (sym (addr-childOf t n i h) ∙ ap (addr t) e ∙ addr-childOf t m j g) in
+    (addr-inj t n m (h .0) (g .0) (r .0), r .1)

@@ -1,0 +1,10 @@
+pub mod Numbering
+pub mod Ancestry
+pub mod Children
+pub mod Decoding
+pub mod Reader
+pub mod Scan
+pub mod Levels
+pub mod Cases
+pub mod Progress
+pub mod Lookup

@@ -1,0 +1,104 @@
+-- What the definitions over bytes are where the bytes are the code of a tree: the branch's end, the branch, the children and ancestry.
+use mathlib.Core.Path.{_≡_, refl, sym, ap, _∙_}
+use Prim.Native.Nat.{ℕ, zero, suc, _+_, _-_, _<_}
+use native.Mathlib.Nat.{zero-add, not-suc-le-zero}
+use native.Mathlib.Decide.{decLt}
+use native.Mathlib.Omega.{arith}
+use mathlib.Core.List.{List, _++_, append-assoc}
+use mathlib.Core.Bool.{Bool, true, false, _&&_}
+use lib.ListN.{length, take, drop, getD, List·getD-eq-default}
+use lib.Dec.{leb, ltb}
+use borrow.Author.Tests.{leb-true, ltb-true, le-leb, lt-ltb}
+use Rattle.lists.proofs.Part.{drop-part, take-part}
+use Rattle.topology.specs.Tree.{Topo, Forest, node, fnil, fcons, count, width, code, codes, size, sizes}
+use Rattle.topology.specs.Address.{Above, addr, subtree, childOf}
+use Rattle.topology.specs.Reader.{pick, fault, tree, reading}
+use Rattle.topology.specs.Branch.{span, branchEnd, start, childAt, isAbove, branchPart}
+use Rattle.topology.specs.declared.Found.the-variants.{Node, Missing}
+use Rattle.topology.specs.declared.Reading.the-variants.{Tree}
+use Rattle.topology.proofs.Ancestry.{above-from, above-to}
+use Rattle.topology.proofs.Children.{HasChild, childOf-lt, childOf-first, childOf-next, subtree-childOf}
+use Rattle.topology.proofs.Decoding.{code-at, length-code, byte-width}
+use Rattle.topology.proofs.Scan.{span-zero}
+use Rattle.topology.proofs.Cases.{clash, child-found, branch-there}
+use Rattle.topology.proofs.Reader.{drawn}
+
+mutual
+  span-code : (t : Topo) (k : ℕ) (bs : List ℕ) → span (suc k) (code t ++ bs) ≡ size t + span k bs
+  span-code (node ts) k bs = omega (arith, span-codes ts k bs)
+
+  span-codes : (ts : Forest) (k : ℕ) (bs : List ℕ) → span (count ts + k) (codes ts ++ bs) ≡ sizes ts + span k bs
+  span-codes fnil k bs = ap (λ (n : ℕ). span n bs) (zero-add k) ∙ sym (zero-add (span k bs))
+  span-codes (fcons t ts) k bs =
+      let e : suc (count ts) + k ≡ suc (count ts + k) = omega arith in
+      ap (λ (n : ℕ). span n (codes (fcons t ts) ++ bs)) e
+      ∙ ap (span (suc (count ts + k))) (append-assoc (code t) (codes ts) bs)
+      ∙ omega (arith, span-code t (count ts + k) (codes ts ++ bs), span-codes ts k bs)
+
+-- the branch under node n has as many nodes as the subtree there
+pub end-code : (t : Topo) (n : ℕ) → n < size t → branchEnd (code t) n ≡ n + size (subtree t n)
+unfolding branchEnd
+end-code t n h =
+    let p = code-at t n h in
+    ap (λ (l : List ℕ). n + span 1 l) (drop-part p)
+    ∙ omega (arith, span-code (subtree t n) 0 (p .back), span-zero (p .back))
+
+-- The branch under a node of a valid topology is the code of the subtree there.
+pub part-code : (bytes : List ℕ) (n : ℕ) → fault 64 bytes ≡ 0 → n < length bytes → branchPart bytes n ≡ code (subtree (tree bytes) n)
+part-code bytes n e h = within-tree (tree bytes) (drawn 64 bytes e)
+  where
+    within-tree : (t : Topo) → code t ≡ bytes → branchPart bytes n ≡ code (subtree t n)
+    within-tree t c =
+        let l : n < size t = omega (arith, length-code t, ap length c) in
+        let s : branchEnd bytes n - n ≡ length (code (subtree t n)) =
+        omega (arith, end-code t n l, ap (λ (bs : List ℕ). branchEnd bs n) c, length-code (subtree t n)) in
+        sym (branch-there bytes n Tree (ap reading (sym e)) refl h (branchEnd bytes n) refl .1)
+        ∙ ap (λ (k : ℕ). take k (drop n bytes)) s
+        ∙ ap (λ (bs : List ℕ). take (length (code (subtree t n))) (drop n bs)) (sym c)
+        ∙ take-part (code-at t n l)
+
+-- child i of node n is where the code finds it
+pub start-code : (t : Topo) (n i : ℕ) → n < size t → i < width (subtree t n) → start (code t) n i ≡ childOf t n (suc i)
+start-code t n zero h g = sym (childOf-first t n h)
+start-code t n (suc i) h g =
+    let has : HasChild t n (suc i) = (h, omega arith, omega arith) in
+    ap (branchEnd (code t)) (start-code t n i h (omega arith))
+    ∙ end-code t (childOf t n (suc i)) (childOf-lt t n (suc i) has)
+    ∙ ap (λ (s : Topo). childOf t n (suc i) + size s) (subtree-childOf t n (suc i) has)
+    ∙ sym (childOf-next t n (suc i) has)
+
+pub child-code : (t : Topo) (n i : ℕ) → HasChild t n i → childAt (code t) n i ≡ Node (childOf t n i)
+child-code t n zero h = absurd (not-suc-le-zero (h .1))
+child-code t n (suc i) h =
+    let e : i ≡ suc i - 1 = omega arith in
+    sym (child-found (code t) n (suc i) (suc i) (start (code t) n i) (ap (start (code t) n) e) refl (omega arith) (omega (arith, byte-width t n (h .0), h .2)))
+    ∙ ap Node (start-code t n i (h .0) (h .2))
+
+-- and a node has no other
+pub child-there : (t : Topo) (n i m : ℕ) → childAt (code t) n i ≡ Node m → HasChild t n i
+unfolding childAt
+child-there t n zero m e = absurd (clash (cc))
+child-there t n (suc i) m e = by-tests (ltb i (getD (code t) n 0)) refl e (decLt n (size t))
+  where
+    by-tests : (b : Bool) → ltb i (getD (code t) n 0) ≡ b → pick b (Node (start (code t) n i)) Missing ≡ Node m → Dec (n < size t) → HasChild t n (suc i)
+    by-tests true q e (yes h) = (h, omega arith, omega (arith, ltb-true i (getD (code t) n 0) q, byte-width t n h))
+    by-tests true q e (no g) =
+        let d = List·getD-eq-default (code t) 0 {n = n} (omega (arith, length-code t)) in
+        absurd (omega (arith, ltb-true i (getD (code t) n 0) q))
+    by-tests false q e d = absurd (clash (cc))
+
+-- Node a is b or lies above it exactly where the code says so.
+pub above-code : (t : Topo) (a b : ℕ) → a < size t → b < size t → Above (addr t a) (addr t b) → isAbove (code t) a b ≡ true
+unfolding isAbove
+above-code t a b h g u =
+    let i = above-from t a b h g u in
+    simp (le-leb a b (i .0), lt-ltb b (branchEnd (code t) a) (omega (arith, i .1, end-code t a h)))
+
+pub code-above : (t : Topo) (a b : ℕ) → a < size t → isAbove (code t) a b ≡ true → Above (addr t a) (addr t b)
+unfolding isAbove
+code-above t a b h e = by-tests (leb a b) (ltb b (branchEnd (code t) a)) refl refl e
+  where
+    by-tests : (x y : Bool) → leb a b ≡ x → ltb b (branchEnd (code t) a) ≡ y → x && y ≡ true → Above (addr t a) (addr t b)
+    by-tests true true p q e = above-to t a b h (leb-true a b p) (omega (arith, ltb-true b (branchEnd (code t) a) q, end-code t a h))
+    by-tests true false p q e = absurd (clash (cc))
+    by-tests false y p q e = absurd (clash (cc))

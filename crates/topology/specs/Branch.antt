@@ -1,0 +1,46 @@
+-- Branches, children and ancestry read off the bytes of a topology, for any bytes and numbers. `proofs/Lookup.antt` shows what they
+-- are where the bytes are a tree's.
+use Prim.Native.Nat.{ℕ, zero, suc, _+_, _-_}
+use mathlib.Core.List.{List, [], _∷_}
+use mathlib.Core.Bool.{Bool, _&&_}
+use lib.ListN.{length, take, drop, getD}
+use lib.Dec.{leb, ltb}
+use Rattle.topology.specs.Reader.{pick, orElse, fault}
+use Rattle.topology.specs.declared.Found.{Found}
+use Rattle.topology.specs.declared.Found.the-variants.{Node, Missing}
+
+-- how many bytes are read until k trees are complete; all of them where they end before that
+abbrev pub span : ℕ → List ℕ → ℕ
+span k [] = 0
+span zero (b ∷ bs) = 0
+span (suc k) (b ∷ bs) = suc (span (b + k) bs)
+
+-- one past the last node of the branch under node n
+unfoldable pub branchEnd : List ℕ → ℕ → ℕ
+branchEnd bytes n = n + span 1 (drop n bytes)
+
+-- where the branch under node n's child i + 1 starts: the first right after n, each other where its elder's branch ends
+abbrev pub start : List ℕ → ℕ → ℕ → ℕ
+start bytes n zero = suc n
+start bytes n (suc i) = branchEnd bytes (start bytes n i)
+
+-- child i of node n
+unfoldable pub childAt : List ℕ → ℕ → ℕ → Found
+childAt bytes n zero = Missing
+childAt bytes n (suc i) = pick (ltb i (getD bytes n 0)) (Node (start bytes n i)) Missing
+
+-- whether node a is node b or lies above it
+unfoldable pub isAbove : List ℕ → ℕ → ℕ → Bool
+isAbove bytes a b = leb a b && ltb b (branchEnd bytes a)
+
+-- The refusal of a branch: the topology's fault under the target's limit, then 19 for a node that is not there; 0: none.
+unfoldable pub branchFault : List ℕ → ℕ → ℕ
+branchFault bytes n = orElse (fault 64 bytes) (pick (ltb n (length bytes)) 0 19)
+
+-- the branch under node n as a stretch of the bytes; nothing where it is refused
+abbrev pub unless : ℕ → List ℕ → List ℕ
+unless zero l = l
+unless (suc f) l = []
+
+unfoldable pub branchPart : List ℕ → ℕ → List ℕ
+branchPart bytes n = unless (branchFault bytes n) (take (branchEnd bytes n - n) (drop n bytes))

@@ -1,0 +1,4 @@
+pub mod Tree
+pub mod Address
+pub mod Reader
+pub mod Branch

@@ -1,0 +1,91 @@
+-- The topology reader of paper 01, "Drawing a tree": which byte strings are trees, and by which number the others are refused.
+use mathlib.Core.Path.{_≡_}
+use Prim.Native.Nat.{ℕ, zero, suc, pred, _≤_}
+use mathlib.Core.List.{List, [], _∷_}
+use mathlib.Core.Bool.{Bool, true, false}
+use lib.ListN.{length, drop}
+use lib.Dec.{leb, ltb, eqb}
+use Rattle.topology.specs.Tree.{Topo, Forest, node, fnil, fcons, leaf, size, height, breadth}
+use Rattle.topology.specs.declared.Owed.{Owed}
+use Rattle.topology.specs.declared.Reading.{Reading}
+use Rattle.topology.specs.declared.Reading.the-variants.{Tree, Refused}
+
+-- What keeps a tree within the limits: a source has at most 32 nodes, a target at most 64.
+pub record Within (limit : ℕ) (t : Topo) : Type 0 where
+  pub nodes : size t ≤ limit
+  pub children : breadth t ≤ 8
+  pub steps : height t ≤ 8
+
+abbrev pub pick {ℓ} : {A : Type ℓ} → Bool → A → A → A
+pick true a b = a
+pick false a b = b
+
+-- a fault's number, or, where that is 0, what comes after
+abbrev pub orElse : ℕ → ℕ → ℕ
+orElse zero rest = rest
+orElse (suc f) rest = suc f
+
+-- The nodes still owed are counted level by level, the deepest first, the root alone at first. So the next node belongs to the
+-- first level and lies as many steps down as there are levels behind that one. No level that is complete stands first.
+abbrev pub settle : List ℕ → List ℕ
+settle [] = []
+settle (zero ∷ ks) = settle ks
+settle (suc k ∷ ks) = suc k ∷ ks
+
+abbrev pub Settled : List ℕ → Type 0
+Settled [] = Unit
+Settled (zero ∷ ks) = ⊥
+Settled (suc k ∷ ks) = Unit
+
+-- what is owed once the next node has come, with b children
+abbrev pub after : ℕ → List ℕ → List ℕ
+after b [] = []
+after b (k ∷ ks) = settle (b ∷ pred k ∷ ks)
+
+-- The fault of byte b where n nodes came before it and nodes are owed at so many levels, in the order of the tests; 0: none.
+abbrev pub faultAt : ℕ → ℕ → ℕ → ℕ → ℕ
+faultAt limit n levels b = pick (eqb levels 0) 2 (pick (leb limit n) 3 (pick (ltb 8 b) 4 (pick (ltb 9 levels) 5 0)))
+
+-- the first fault of the bytes that are left
+abbrev pub faultFrom : ℕ → ℕ → List ℕ → List ℕ → ℕ
+faultFrom limit n owed [] = pick (eqb (length owed) 0) 0 1
+faultFrom limit n owed (b ∷ bs) =
+    let rest = faultFrom limit (suc n) (after b owed) bs in orElse (faultAt limit n (length owed) b) rest
+
+-- The number by which the bytes are refused, 0 where they are a tree.
+unfoldable pub fault : ℕ → List ℕ → ℕ
+fault limit bytes = faultFrom limit 0 (1 ∷ []) bytes
+
+-- The tree that the bytes draw, read from the last byte to the first: a node takes the first b of the trees behind it as its
+-- children. It is of use where there is no fault.
+abbrev pub first : ℕ → Forest → Forest
+first zero ts = fnil
+first (suc b) fnil = fnil
+first (suc b) (fcons t ts) = fcons t (first b ts)
+
+abbrev pub others : ℕ → Forest → Forest
+others zero ts = ts
+others (suc b) fnil = fnil
+others (suc b) (fcons t ts) = others b ts
+
+abbrev pub forest : List ℕ → Forest
+forest [] = fnil
+forest (b ∷ bs) = let ts = forest bs in fcons (node (first b ts)) (others b ts)
+
+abbrev pub head : Forest → Topo
+head fnil = leaf
+head (fcons t ts) = t
+
+unfoldable pub tree : List ℕ → Topo
+tree bytes = head (forest bytes)
+
+-- the reader's answer for a fault's number
+abbrev pub reading : ℕ → Reading
+reading zero = Tree
+reading (suc n) = Refused (suc n)
+
+-- the code's `Owed` stands for the given levels
+pub record Counts (o : Owed) (ks : List ℕ) : Type 0 where
+  pub places : length (o .counts) ≡ 10
+  pub top : o .top ≤ 10
+  pub levels : drop (o .top) (o .counts) ≡ ks

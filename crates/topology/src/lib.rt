@@ -1,0 +1,188 @@
+// Topologies: trees drawn as one byte a node, its number of children, in preorder.
+//
+// `read` and `branch` are the calls of paper 01. `branch_end`, `child` and `is_above` serve the crates above; they take any bytes and
+// mean what their names say where `read` accepts those bytes.
+ghost use mathlib.Core.Path.{_≡_};
+ghost use Prim.Native.Nat.{_≤_, _<_};
+ghost use mathlib.Core.List.{List, [], _∷_};
+ghost use lib.ListN.{drop};
+ghost use Rattle.topology.specs.Reader.{fault, faultAt, reading, settle, Settled, after, Counts};
+ghost use Rattle.topology.specs.Branch.{branchEnd, childAt, isAbove, branchFault, branchPart};
+
+// The most nodes that a source has.
+pub const SOURCE_NODES: usize = 32;
+// The most nodes that a target has, and a topology that is given by itself.
+pub const TARGET_NODES: usize = 64;
+
+// The reader's answer: the bytes are a tree, or they are refused by a number from 1 to 5.
+pub enum Reading {
+    Tree,
+    Refused(u8),
+}
+
+// A child of a node, by its number, or the answer that the node has no such child.
+pub enum Found {
+    Node(usize),
+    Missing,
+}
+
+// The nodes that the reader is still owed, level by level: counts[top..], the deepest level first. Ten levels are open at the most,
+// since a node is refused once nine lie above it.
+struct Owed {
+    counts: [u8; 10],
+    top: usize,
+}
+
+// The root alone is owed.
+fn root_owed() -> Owed
+    ensures { λ r. ⌜ Counts r (1 ∷ []) ⌝ }
+{
+    let mut counts = [0u8; 10];
+    counts[9] = 1;
+    Owed { counts, top: 9 }
+}
+
+// The first level from `top` on that is not complete.
+fn first_open(counts: [u8; 10], top: usize) -> usize
+    requires { ⌜ top ≤ 10 ⌝ }
+    ensures { λ r. ⌜ (r ≤ 10) × (drop r counts ≡ settle (drop top counts)) ⌝ }
+{
+    let mut i = top;
+    while i < 10 {
+        if counts[i] != 0 {
+            return i;
+        }
+        i += 1;
+    }
+    i
+}
+
+// What is owed once the next node has come, with `children` children.
+fn owed_after(owed: Owed, children: u8) -> Owed
+    requires { ⌜ (0 < owed .top) × (owed .top < 10) × Settled (drop (owed .top) (owed .counts)) ⌝ }
+    ensures { λ r. ⌜ Counts r (after children (drop (owed .top) (owed .counts))) ⌝ }
+{
+    let mut counts = owed.counts;
+    let top = owed.top;
+    counts[top] -= 1;
+    counts[top - 1] = children;
+    Owed {
+        counts,
+        top: first_open(counts, top - 1),
+    }
+}
+
+// The refusal of one byte, in the order of the tests, where `nodes` nodes came before it and nodes are owed at `levels` levels; or 0.
+fn fault_at(limit: usize, nodes: usize, levels: usize, children: u8) -> u8
+    ensures { λ r. ⌜ r ≡ faultAt limit nodes levels children ⌝ }
+{
+    if levels == 0 {
+        return 2;
+    }
+    if limit <= nodes {
+        return 3;
+    }
+    if 8 < children {
+        return 4;
+    }
+    if 9 < levels {
+        return 5;
+    }
+    0
+}
+
+// Reads a topology of at most `limit` nodes: bytes in turn, and the first byte at fault decides.
+pub fn read(bytes: &[u8], limit: usize) -> Reading
+    ensures { λ r. ⌜ r ≡ reading (fault limit (now (bytes .entry))) ⌝ }
+{
+    let mut owed = root_owed();
+    let mut i = 0;
+    while i < bytes.len() {
+        let number = fault_at(limit, i, 10 - owed.top, bytes[i]);
+        if number != 0 {
+            return Reading::Refused(number);
+        }
+        owed = owed_after(owed, bytes[i]);
+        i += 1;
+    }
+    if owed.top == 10 {
+        Reading::Tree
+    } else {
+        Reading::Refused(1)
+    }
+}
+
+// One past the last node of the branch under `node`; the end of the bytes where they stop short of that.
+pub fn branch_end(bytes: &[u8], node: usize) -> usize
+    ensures { λ r. ⌜ r ≡ branchEnd (now (bytes .entry)) node ⌝ }
+{
+    if bytes.len() <= node {
+        return node;
+    }
+    let mut end = node + 1;
+    let mut i = node;
+    while i < end {
+        let children = bytes[i] as usize;
+        if bytes.len() - end < children {
+            return bytes.len();
+        }
+        end += children;
+        i += 1;
+    }
+    end
+}
+
+// Child `index`, from 1, of `node`.
+pub fn child(bytes: &[u8], node: usize, index: usize) -> Found
+    ensures { λ r. ⌜ r ≡ childAt (now (bytes .entry)) node index ⌝ }
+{
+    if index == 0 {
+        return Found::Missing;
+    }
+    if bytes.len() <= node {
+        return Found::Missing;
+    }
+    if (bytes[node] as usize) < index {
+        return Found::Missing;
+    }
+    let mut at = node + 1;
+    let mut k = 1;
+    while k < index {
+        at = branch_end(bytes, at);
+        k += 1;
+    }
+    Found::Node(at)
+}
+
+// Whether node `a` is node `b` or lies above it.
+pub fn is_above(bytes: &[u8], a: usize, b: usize) -> bool
+    ensures { λ r. ⌜ r ≡ isAbove (now (bytes .entry)) a b ⌝ }
+{
+    if a <= b {
+        b < branch_end(bytes, a)
+    } else {
+        false
+    }
+}
+
+// The branch under `node`, as the stretch of the caller's own bytes, and 0 in `refusal`; or nothing, and the refusal's number.
+pub fn branch<'a>(bytes: &'a [u8], node: usize, refusal: &mut u8) -> &'a [u8]
+    ensures { λ r. ⌜ (now (refusal .exit) ≡ branchFault (now (bytes .entry)) node) × (now r ≡ branchPart (now (bytes .entry)) node) ⌝ }
+{
+    match read(bytes, TARGET_NODES) {
+        Reading::Refused(number) => {
+            *refusal = number;
+            &bytes[..0]
+        }
+        Reading::Tree => {
+            if node < bytes.len() {
+                *refusal = 0;
+                let end = branch_end(bytes, node);
+                &bytes[node..end]
+            } else {
+                *refusal = 19;
+                &bytes[..0]
+            }
+        }
+    }
+}

@@ -1,0 +1,357 @@
+//! Puts the same questions to the Rattle library and to the second
+//! implementation. The first difference ends the run.
+
+use linduvar_tests::random::Random;
+use linduvar_tests::topology::{
+    Reading, Topology, MOST_CHILDREN, MOST_STEPS_DOWN, SOURCE_NODES, TARGET_NODES,
+};
+use linduvar_tests::{generate, random, rattle};
+use std::fmt;
+
+const RANDOM_STRINGS: usize = 200_000;
+
+/// Each answer, and each kind of tree at a limit, must be met this often.
+const OFTEN_ENOUGH: usize = 100;
+
+fn main() {
+    let seed = random::seed();
+    println!("seed {seed} (LINDUVAR_SEED={seed} repeats this run)");
+    examples(seed);
+    long_strings();
+    every_short_string(seed);
+    random_strings(seed);
+    println!("no difference");
+}
+
+/// The paper's examples, and some worked by hand.
+fn examples(seed: u64) {
+    let mut comparison = Comparison::new(seed);
+    let mut read = |bytes: &[u8], limit: usize, answer: u8| {
+        comparison.read(bytes, limit);
+        assert_eq!(rattle::read(bytes, limit), answer, "{bytes:?} to {limit}");
+    };
+
+    for limit in [SOURCE_NODES, TARGET_NODES] {
+        read(&[], limit, 1);
+        read(&[2, 0], limit, 1);
+        read(&[0, 0], limit, 2);
+        read(&[9], limit, 4);
+        read(&[1, 1, 1, 1, 1, 1, 1, 1, 0], limit, 0);
+        read(&[1, 1, 1, 1, 1, 1, 1, 1, 1, 0], limit, 5);
+    }
+
+    // One node more or less than the limit.
+    read(&[0], 0, 3);
+    read(&[2, 0, 0], 3, 0);
+    read(&[2, 0, 0], 2, 3);
+
+    // Two faults at one byte: the order is 2, 3, 4, 5.
+    read(&[0, 0], 1, 2);
+    read(&[0, 9], 64, 2);
+    read(&[3, 0, 0, 9], 3, 3);
+    read(&[1, 1, 1, 1, 1, 1, 1, 1, 1, 0], 9, 3);
+    read(&[1, 1, 1, 1, 1, 1, 1, 1, 1, 9], 64, 4);
+
+    // Node 0 has the children 1 and 3, node 1 has the child 2.
+    let bytes = &[2, 1, 0, 0];
+    comparison.every_node(bytes);
+    assert_eq!(rattle::branch(bytes, 0), (0, 4));
+    assert_eq!(rattle::branch(bytes, 1), (0, 2));
+    assert_eq!(rattle::branch(bytes, 3), (0, 1));
+    assert_eq!(rattle::branch(bytes, 4), (19, 0));
+    assert_eq!(rattle::branch(&[2, 0], 4), (1, 0));
+    assert_eq!(rattle::branch_byte(bytes, 1, 0), 1);
+    assert_eq!(rattle::branch_byte(bytes, 1, 1), 0);
+    assert_eq!(rattle::branch_byte(bytes, 1, 2), 255);
+    assert_eq!(rattle::branch_end(bytes, 1), 3);
+    assert_eq!(rattle::branch_end(bytes, 9), 9);
+    assert_eq!(rattle::child(bytes, 0, 0), 0);
+    assert_eq!(rattle::child(bytes, 0, 1), 1);
+    assert_eq!(rattle::child(bytes, 0, 2), 3);
+    assert_eq!(rattle::child(bytes, 0, 3), 0);
+    assert_eq!(rattle::above(bytes, 1, 2), 1);
+    assert_eq!(rattle::above(bytes, 1, 3), 0);
+    println!("examples: as the paper has them");
+}
+
+/// Strings far beyond any limit still get an answer.
+fn long_strings() {
+    const LENGTH: usize = 1_000_000;
+    let chain = vec![1; LENGTH];
+    assert_eq!(rattle::read(&chain, TARGET_NODES), 5);
+    assert_eq!(rattle::branch_end(&chain, 0), LENGTH);
+    assert_eq!(rattle::child(&chain, 0, 1), 1);
+    assert_eq!(rattle::above(&chain, 0, LENGTH - 1), 1);
+
+    let crowd = vec![255; LENGTH];
+    assert_eq!(rattle::read(&crowd, TARGET_NODES), 4);
+    assert_eq!(rattle::branch_end(&crowd, 0), LENGTH);
+    assert_eq!(rattle::child(&crowd, 0, 255), LENGTH);
+    assert_eq!(rattle::above(&crowd, LENGTH - 1, 0), 0);
+    println!("long strings: answered");
+}
+
+/// Every string of up to 6 bytes from 0 to 4.
+fn every_short_string(seed: u64) {
+    const LONGEST: u32 = 6;
+    const BYTES: usize = 5;
+    let mut comparison = Comparison::new(seed);
+    for length in 0..=LONGEST {
+        for code in 0..BYTES.pow(length) {
+            // What lies behind the string would complete many a tree.
+            let mut memory = [0; LONGEST as usize + 1];
+            let bytes = &mut memory[..length as usize];
+            let mut rest = code;
+            for byte in bytes.iter_mut() {
+                *byte = (rest % BYTES) as u8;
+                rest /= BYTES;
+            }
+            for limit in [1, 3, SOURCE_NODES, TARGET_NODES] {
+                comparison.read(bytes, limit);
+            }
+            comparison.every_node(bytes);
+            comparison.next_input();
+        }
+    }
+    comparison.print("short strings");
+}
+
+/// Random strings, valid and damaged.
+fn random_strings(seed: u64) {
+    let mut random = Random::new(seed);
+    let mut comparison = Comparison::new(seed);
+    let mut at_limits = AtLimits::default();
+    for _ in 0..RANDOM_STRINGS {
+        let bytes = generate::any(&mut random);
+        comparison.read(&bytes, SOURCE_NODES);
+        comparison.read(&bytes, TARGET_NODES);
+        if random.one_in(4) {
+            comparison.read(&bytes, random.within(0..=130));
+        }
+        if random.one_in(16) {
+            comparison.read(&bytes, usize::MAX);
+        }
+        if let Ok(topology) = Topology::read(&bytes, TARGET_NODES) {
+            at_limits.count(&topology);
+            comparison.every_node(&bytes);
+        }
+        comparison.some_nodes(&bytes, &mut random);
+        comparison.next_input();
+    }
+    comparison.print("random strings");
+    at_limits.print();
+    comparison.require_every_answer();
+    at_limits.require_every_kind();
+}
+
+/// A number that may stand for a node or a child: mostly up to just past
+/// `last`, now and then far beyond.
+fn number_near(last: usize, random: &mut Random) -> usize {
+    if random.one_in(50) {
+        usize::MAX - random.below(2)
+    } else {
+        random.within(0..=last + 2)
+    }
+}
+
+/// Asks both sides, and counts the inputs at which each answer was met.
+struct Comparison {
+    seed: u64,
+    inputs: usize,
+    read_answers: Answers,
+    branch_answers: Answers,
+}
+
+impl Comparison {
+    fn new(seed: u64) -> Comparison {
+        Comparison {
+            seed,
+            inputs: 0,
+            read_answers: Answers::default(),
+            branch_answers: Answers::default(),
+        }
+    }
+
+    fn next_input(&mut self) {
+        self.inputs += 1;
+        self.read_answers.next_input();
+        self.branch_answers.next_input();
+    }
+
+    fn agree<T: PartialEq + fmt::Debug>(
+        &self,
+        question: fmt::Arguments,
+        bytes: &[u8],
+        rattle: T,
+        rust: T,
+    ) {
+        if rattle != rust {
+            panic!(
+                "a difference: {question}\n  seed   {}\n  bytes  {bytes:?}\n  \
+                 Rattle {rattle:?}\n  Rust   {rust:?}",
+                self.seed
+            );
+        }
+    }
+
+    fn read(&mut self, bytes: &[u8], limit: usize) {
+        let rattle = rattle::read(bytes, limit);
+        let rust = match Topology::read(bytes, limit) {
+            Ok(_) => 0,
+            Err(refusal) => refusal as u8,
+        };
+        self.agree(format_args!("read, limit {limit}"), bytes, rattle, rust);
+        self.read_answers.meet(rust);
+    }
+
+    /// The branch under `node`: its length, its bytes and its end.
+    fn branch(&mut self, bytes: &[u8], reading: &Reading, node: usize) {
+        let (refusal, branch) = match reading.branch(node) {
+            Ok(branch) => (0, branch),
+            Err(refusal) => (refusal as u8, Vec::new()),
+        };
+        let question = format_args!("refusal and length of branch {node}");
+        let rattle = rattle::branch(bytes, node);
+        self.agree(question, bytes, rattle, (refusal, branch.len()));
+        self.branch_answers.meet(refusal);
+
+        for at in (0..=branch.len()).chain([usize::MAX]) {
+            let question = format_args!("byte {at} of branch {node}");
+            let rattle = rattle::branch_byte(bytes, node, at);
+            let rust = branch.get(at).copied().unwrap_or(255);
+            self.agree(question, bytes, rattle, rust);
+        }
+
+        let question = format_args!("end of branch {node}");
+        let rattle = rattle::branch_end(bytes, node);
+        self.agree(question, bytes, rattle, reading.branch_end(node));
+    }
+
+    fn child(&self, bytes: &[u8], reading: &Reading, node: usize, i: usize) {
+        let question = format_args!("child {i} of node {node}");
+        let rattle = rattle::child(bytes, node, i);
+        self.agree(question, bytes, rattle, reading.child(node, i));
+    }
+
+    fn above(&self, bytes: &[u8], reading: &Reading, a: usize, b: usize) {
+        let question = format_args!("is {a} above {b}");
+        let rattle = rattle::above(bytes, a, b);
+        self.agree(question, bytes, rattle, u8::from(reading.above(a, b)));
+    }
+
+    /// Every node, two that are not there, and every pair of these.
+    fn every_node(&mut self, bytes: &[u8]) {
+        let reading = Reading::new(bytes);
+        for node in 0..bytes.len() + 2 {
+            self.branch(bytes, &reading, node);
+            let children = bytes.get(node).copied().map_or(0, usize::from);
+            for i in 0..children + 2 {
+                self.child(bytes, &reading, node, i);
+            }
+            for other in 0..bytes.len() + 2 {
+                self.above(bytes, &reading, node, other);
+            }
+        }
+    }
+
+    /// A few nodes, there or not.
+    fn some_nodes(&mut self, bytes: &[u8], random: &mut Random) {
+        let reading = Reading::new(bytes);
+        for _ in 0..4 {
+            let node = number_near(bytes.len(), random);
+            let other = number_near(bytes.len(), random);
+            let children = bytes.get(node).copied().map_or(0, usize::from);
+            let i = number_near(children, random);
+            self.branch(bytes, &reading, node);
+            self.child(bytes, &reading, node, i);
+            self.above(bytes, &reading, node, other);
+        }
+    }
+
+    fn print(&self, what: &str) {
+        println!("{what}: {}; how many met each answer:", self.inputs);
+        println!("  read    {}", self.read_answers.line(&READ_ANSWERS));
+        println!("  branch  {}", self.branch_answers.line(&BRANCH_ANSWERS));
+    }
+
+    fn require_every_answer(&self) {
+        self.read_answers.require("read", &READ_ANSWERS);
+        self.branch_answers.require("branch", &BRANCH_ANSWERS);
+    }
+}
+
+const READ_ANSWERS: [u8; 6] = [0, 1, 2, 3, 4, 5];
+const BRANCH_ANSWERS: [u8; 7] = [0, 1, 2, 3, 4, 5, 19];
+
+/// For each answer from 0 to 19, the number of inputs that met it.
+#[derive(Default)]
+struct Answers {
+    inputs: [usize; 20],
+    met_now: [bool; 20],
+}
+
+impl Answers {
+    fn meet(&mut self, answer: u8) {
+        self.met_now[usize::from(answer)] = true;
+    }
+
+    fn next_input(&mut self) {
+        for (inputs, met) in self.inputs.iter_mut().zip(&mut self.met_now) {
+            *inputs += usize::from(*met);
+            *met = false;
+        }
+    }
+
+    fn line(&self, answers: &[u8]) -> String {
+        let mut line = String::new();
+        for &answer in answers {
+            line += &format!("{answer}: {}  ", self.inputs[usize::from(answer)]);
+        }
+        line.trim_end().to_string()
+    }
+
+    fn require(&self, function: &str, answers: &[u8]) {
+        for &answer in answers {
+            let met = self.inputs[usize::from(answer)];
+            assert!(
+                met >= OFTEN_ENOUGH,
+                "only {met} inputs met the answer {answer} of {function}"
+            );
+        }
+    }
+}
+
+/// The number of valid topologies that reach a limit.
+#[derive(Default)]
+struct AtLimits {
+    source_nodes: usize,
+    target_nodes: usize,
+    deep: usize,
+    wide: usize,
+}
+
+impl AtLimits {
+    fn count(&mut self, topology: &Topology) {
+        let nodes = topology.node_count();
+        let deep = (0..nodes).any(|node| topology.depth(node) == MOST_STEPS_DOWN);
+        let wide = (0..nodes).any(|node| topology.child_count(node) == MOST_CHILDREN);
+        self.source_nodes += usize::from(nodes == SOURCE_NODES);
+        self.target_nodes += usize::from(nodes == TARGET_NODES);
+        self.deep += usize::from(deep);
+        self.wide += usize::from(wide);
+    }
+
+    fn print(&self) {
+        println!(
+            "  valid with {SOURCE_NODES} nodes: {}, {TARGET_NODES} nodes: {}, \
+             depth {MOST_STEPS_DOWN}: {}, {MOST_CHILDREN} children: {}",
+            self.source_nodes, self.target_nodes, self.deep, self.wide
+        );
+    }
+
+    fn require_every_kind(&self) {
+        for met in [self.source_nodes, self.target_nodes, self.deep, self.wide] {
+            assert!(met >= OFTEN_ENOUGH, "too few valid topologies at a limit");
+        }
+    }
+}
