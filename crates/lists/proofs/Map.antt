@@ -5,6 +5,12 @@ use native.Mathlib.Nat.{not-suc-le-zero, le-of-suc-le-suc}
 use mathlib.Core.List.{List, [], _∷_, map}
 use lib.ListN.{length, getD}
 
+-- what stands for an element past the end makes no difference before it
+pub getD-in {ℓ} : {A : Type ℓ} (l : List A) (n : ℕ) (d e : A) → n < length l → getD l n d ≡ getD l n e
+getD-in [] n d e h = absurd (not-suc-le-zero h)
+getD-in (x ∷ l) zero d e h = refl
+getD-in (x ∷ l) (suc n) d e h = getD-in l n d e (le-of-suc-le-suc h)
+
 module _ {ℓ κ} {A : Type ℓ} {B : Type κ} (f : A → B) where
   pub length-map : (l : List A) → length (map f l) ≡ length l
   length-map [] = refl

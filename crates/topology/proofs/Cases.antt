@@ -1,5 +1,6 @@
 -- The cases of the definitions over bytes: one law for each answer that the code gives.
 use mathlib.Core.Path.{_≡_, refl, sym, _∙_}
+use mathlib.Core.Logic.{_≢_}
 use Prim.Native.Nat.{ℕ, zero, suc, _+_, _-_, _≤_, _<_}
 use native.Mathlib.Omega.{arith}
 use mathlib.Core.List.{List, []}
@@ -25,10 +26,10 @@ unfolding childAt
 child-none bytes n zero h = refl
 child-none bytes n (suc i) h = simp (le-ltb i (getD bytes n 0) (omega arith))
 
-pub child-out : (bytes : List ℕ) (n i : ℕ) → length bytes ≤ n → (i ≡ 0 → ⊥) → Missing ≡ childAt bytes n i
+pub child-out : (bytes : List ℕ) (n i : ℕ) → length bytes ≤ n → i ≢ 0 → Missing ≡ childAt bytes n i
 child-out bytes n i h g = child-none bytes n i (omega (arith, List·getD-eq-default bytes 0 h))
 
-pub child-found : (bytes : List ℕ) (n i k at : ℕ) → at ≡ start bytes n (k - 1) → k ≡ i → (i ≡ 0 → ⊥) → i ≤ getD bytes n 0
+pub child-found : (bytes : List ℕ) (n i k at : ℕ) → at ≡ start bytes n (k - 1) → k ≡ i → i ≢ 0 → i ≤ getD bytes n 0
     → Node at ≡ childAt bytes n i
 unfolding childAt
 child-found bytes n zero k at e f g h = absurd (g refl)
@@ -49,30 +50,44 @@ pub above-not : (bytes : List ℕ) (a b : ℕ) → b < a → false ≡ isAbove b
 unfolding isAbove
 above-not bytes a b h = rw (lt-leb a b h)
 
--- The branch's three answers: the reader's refusal, 19, and a stretch of the bytes.
-module _ (bytes : List ℕ) (n : ℕ) (r : Reading) (e : r ≡ reading (fault 64 bytes)) where
-  pub branch-refused : (number : ℕ) → r ≡ Refused number → (number ≡ branchFault bytes n) × ([] ≡ branchPart bytes n)
-  unfolding branchFault branchPart
-  branch-refused number t = by-fault (fault 64 bytes) (sym t ∙ e)
-    where
-      by-fault : (f : ℕ) → Refused number ≡ reading f
-          → (number ≡ orElse f (pick (ltb n (length bytes)) 0 19))
-          × ([] ≡ unless (orElse f (pick (ltb n (length bytes)) 0 19)) (take (branchEnd bytes n - n) (drop n bytes)))
-      by-fault zero q = absurd (clash (cc))
-      by-fault (suc f) q = (cc, refl)
-
-  no-fault : r ≡ Tree → fault 64 bytes ≡ 0
-  no-fault t = by-fault (fault 64 bytes) (sym t ∙ e)
+-- what the reader's answer says of the fault
+module _ (f : ℕ) (r : Reading) (e : r ≡ reading f) where
+  pub read-tree : r ≡ Tree → f ≡ 0
+  read-tree t = by-fault f (sym t ∙ e)
     where
       by-fault : (f : ℕ) → Tree ≡ reading f → f ≡ 0
       by-fault zero q = refl
       by-fault (suc f) q = absurd (clash (cc))
 
+  pub read-refused : (number : ℕ) → r ≡ Refused number → (number ≡ f) × (f ≢ 0)
+  read-refused number t = by-fault f (sym t ∙ e)
+    where
+      by-fault : (f : ℕ) → Refused number ≡ reading f → (number ≡ f) × (f ≢ 0)
+      by-fault zero q = absurd (clash (cc))
+      by-fault (suc f) q = (cc, omega arith)
+
+orElse-fault : (f rest : ℕ) → f ≢ 0 → orElse f rest ≡ f
+orElse-fault zero rest n = absurd (n refl)
+orElse-fault (suc f) rest n = refl
+
+unless-fault : (f : ℕ) (l : List ℕ) → f ≢ 0 → unless f l ≡ []
+unless-fault zero l n = absurd (n refl)
+unless-fault (suc f) l n = refl
+
+-- The branch's three answers: the reader's refusal, 19, and a stretch of the bytes.
+module _ (bytes : List ℕ) (n : ℕ) (r : Reading) (e : r ≡ reading (fault 64 bytes)) where
+  pub branch-refused : (number : ℕ) → r ≡ Refused number → (number ≡ branchFault bytes n) × ([] ≡ branchPart bytes n)
+  unfolding branchFault branchPart
+  branch-refused number t =
+      let q = read-refused (fault 64 bytes) r e number t in
+      rw (orElse-fault (fault 64 bytes) (pick (ltb n (length bytes)) 0 19) (q .1))
+      (q .0, sym (unless-fault (fault 64 bytes) (take (branchEnd bytes n - n) (drop n bytes)) (q .1)))
+
   pub branch-missing : r ≡ Tree → length bytes ≤ n → (19 ≡ branchFault bytes n) × ([] ≡ branchPart bytes n)
   unfolding branchFault branchPart
-  branch-missing t h = rw (no-fault t, le-ltb n (length bytes) h) (refl, refl)
+  branch-missing t h = rw (read-tree (fault 64 bytes) r e t, le-ltb n (length bytes) h) (refl, refl)
 
   pub branch-there : r ≡ Tree → n < length bytes → (end : ℕ) → end ≡ branchEnd bytes n
       → (0 ≡ branchFault bytes n) × (take (end - n) (drop n bytes) ≡ branchPart bytes n)
   unfolding branchFault branchPart
-  branch-there t h end q = rw (no-fault t, lt-ltb n (length bytes) h, q) (refl, refl)
+  branch-there t h end q = rw (read-tree (fault 64 bytes) r e t, lt-ltb n (length bytes) h, q) (refl, refl)

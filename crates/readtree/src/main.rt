@@ -1,0 +1,45 @@
+// Reads a topology from standard input, its bytes as they are, and writes a line for each node: its number, its number of children and
+// the number after its branch's last; or `no` and the refusal's number.
+use topology::Reading;
+use topology::TARGET_NODES;
+
+const OUT: i32 = 1;
+
+fn wide(b: u8) -> usize {
+    b as usize
+}
+
+fn print(n: usize, after: u8) {
+    io::print_decimal(OUT, n as u64);
+    io::write_all(OUT, &[after]);
+}
+
+fn print_node(bytes: &[u8], node: usize) {
+    let end = topology::branch_end(bytes, node);
+    if node < bytes.len() {
+        print(node, b' ');
+        print(wide(bytes[node]), b' ');
+        print(end, b'\n');
+    }
+}
+
+fn print_tree(bytes: &[u8]) {
+    let mut node = 0;
+    while node < bytes.len() {
+        print_node(bytes, node);
+        node += 1;
+    }
+}
+
+fn main() {
+    let mut buffer = [0u8; 256];
+    let n = io::read_full(0, &mut buffer);
+    let bytes = &buffer[..n];
+    match topology::read(bytes, TARGET_NODES) {
+        Reading::Tree => print_tree(bytes),
+        Reading::Refused(number) => {
+            io::write_all(OUT, b"no ");
+            print(wide(number), b'\n');
+        }
+    }
+}
