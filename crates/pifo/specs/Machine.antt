@@ -1,0 +1,67 @@
+-- The queue tree of paper 01 as a machine that answers calls: a topology, a packet limit, the count of refusals and a PIFO tree.
+use Prim.Native.Nat.{ℕ, zero, suc, min}
+use mathlib.Core.List.{List, [], _∷_}
+use mathlib.Core.Option.{Option, none, some}
+use lib.Dec.{leb}
+use Rattle.topology.specs.Tree.{Topo}
+use Rattle.topology.specs.Reader.{pick}
+use Rattle.pifo.specs.Tree.{Step, pathFault, PTree, empty, push, pop, held}
+
+pub record Machine (P : Type 0) : Type 0 where
+  pub topology : Topo
+  pub limit : ℕ
+  pub refusals : ℕ
+  pub tree : PTree P
+
+-- a push along a path, with the leaf's rank and the packet; a pop
+pub data Call (P : Type 0) : Type 0 where
+  pushing : List Step → ℕ → P → Call P
+  popping : Call P
+
+-- A refusal is known by its number; 15 comes with the new count of refusals.
+pub data Answer (P : Type 0) : Type 0 where
+  accepted : Answer P
+  departed : P → Answer P
+  refused : ℕ → Answer P
+  full : ℕ → Answer P
+
+-- the largest count of refusals
+abbrev pub most : ℕ
+most = 4294967295
+
+module _ {P : Type 0} where
+  -- the machine with another tree, and with another count of refusals
+  abbrev pub holding : Machine P → PTree P → Machine P
+  holding m t = record { topology = m .topology; limit = m .limit; refusals = m .refusals; tree = t }
+
+  abbrev pub counting : Machine P → ℕ → Machine P
+  counting m c = record { topology = m .topology; limit = m .limit; refusals = c; tree = m .tree }
+
+  -- opened empty
+  abbrev pub opened : Topo → ℕ → Machine P
+  opened t limit = record { topology = t; limit = limit; refusals = 0; tree = empty t }
+
+  -- a push whose path has no fault
+  abbrev pub servePath : ℕ → Machine P → List Step → ℕ → P → Answer P × Machine P
+  servePath (suc f) m ss l p = (refused (suc f), m)
+  servePath zero m ss l p =
+      let c = min (suc (m .refusals)) most in
+      pick (leb (m .limit) (held (m .tree))) (full c, counting m c) (accepted, holding m (push (m .tree) ss l p))
+
+  abbrev pub servePop : Machine P → Option (P × PTree P) → Answer P × Machine P
+  servePop m none = (refused 16, m)
+  servePop m (some (p, t)) = (departed p, holding m t)
+
+  -- the answer to a call, and the machine after it
+  abbrev pub serve : Machine P → Call P → Answer P × Machine P
+  serve m (pushing ss l p) = servePath (pathFault (m .topology) ss) m ss l p
+  serve m popping = servePop m (pop (m .tree))
+
+  -- the machine after a list of calls, and the answers on the way
+  abbrev pub after : Machine P → List (Call P) → Machine P
+  after m [] = m
+  after m (c ∷ cs) = after (serve m c .1) cs
+
+  abbrev pub answers : Machine P → List (Call P) → List (Answer P)
+  answers m [] = []
+  answers m (c ∷ cs) = serve m c .0 ∷ answers (serve m c .1) cs
