@@ -1,3 +1,6 @@
 pub mod Map
 pub mod Last
 pub mod Part
+pub mod Permutation
+pub mod Prefix
+pub mod Slice

@@ -1,3 +1,4 @@
 pub mod Queue
 pub mod Tree
+pub mod Numbered
 pub mod Machine

@@ -79,23 +79,23 @@ subtree-end t a h =
 pub addr-inj : (t : Topo) (a b : ℕ) → a < size t → b < size t → addr t a ≡ addr t b → a ≡ b
 addr-inj t a b h g e = sym (num-addr t a h) ∙ ap (num t) e ∙ num-addr t b g
 
--- a node's depth and number of children are within the tree's
+-- a child's branch is less high than the tree, and no broader; a node's depth and number of children are within the tree's
+pub nth-height : (ts : Forest) (k : ℕ) → k < count ts → height (nth ts k) < heights ts
+nth-height fnil k h = absurd (not-suc-le-zero h)
+nth-height (fcons t ts) zero h = omega arith
+nth-height (fcons t ts) (suc k) h = omega (arith, nth-height ts k (le-of-suc-le-suc h))
+
+nth-breadth : (ts : Forest) (k : ℕ) → k < count ts → breadth (nth ts k) ≤ breadths ts
+nth-breadth fnil k h = absurd (not-suc-le-zero h)
+nth-breadth (fcons t ts) zero h = omega arith
+nth-breadth (fcons t ts) (suc k) h = omega (arith, nth-breadth ts k (le-of-suc-le-suc h))
+
 pub in-height : (t : Topo) (a : Addr) → In t a → length a ≤ height t
 in-height t [] i = zero-le
 in-height t (zero ∷ a) i = absurd (not-suc-le-zero (i .0))
 in-height (node ts) (suc k ∷ a) (p, l, r) = omega (arith, in-height (nth ts k) a r, nth-height ts k l)
-  where
-    nth-height : (ts : Forest) (k : ℕ) → k < count ts → height (nth ts k) < heights ts
-    nth-height fnil k h = absurd (not-suc-le-zero h)
-    nth-height (fcons t ts) zero h = omega arith
-    nth-height (fcons t ts) (suc k) h = omega (arith, nth-height ts k (le-of-suc-le-suc h))
 
 pub in-breadth : (t : Topo) (a : Addr) → In t a → width (sub t a) ≤ breadth t
 in-breadth (node ts) [] i = omega arith
 in-breadth t (zero ∷ a) i = absurd (not-suc-le-zero (i .0))
 in-breadth (node ts) (suc k ∷ a) (p, l, r) = omega (arith, in-breadth (nth ts k) a r, nth-breadth ts k l)
-  where
-    nth-breadth : (ts : Forest) (k : ℕ) → k < count ts → breadth (nth ts k) ≤ breadths ts
-    nth-breadth fnil k h = absurd (not-suc-le-zero h)
-    nth-breadth (fcons t ts) zero h = omega arith
-    nth-breadth (fcons t ts) (suc k) h = omega (arith, nth-breadth ts k (le-of-suc-le-suc h))

@@ -1,6 +1,6 @@
 -- What the definitions over bytes are where the bytes are the code of a tree: the branch's end, the branch, the children and ancestry.
 use mathlib.Core.Path.{_≡_, refl, sym, ap, _∙_}
-use Prim.Native.Nat.{ℕ, zero, suc, _+_, _-_, _<_}
+use Prim.Native.Nat.{ℕ, zero, suc, _+_, _-_, _≤_, _<_}
 use native.Mathlib.Nat.{zero-add, not-suc-le-zero}
 use native.Mathlib.Decide.{decLt}
 use native.Mathlib.Omega.{arith}
@@ -16,12 +16,13 @@ use Rattle.topology.specs.Reader.{pick, fault, tree, reading}
 use Rattle.topology.specs.Branch.{span, branchEnd, start, childAt, isAbove, branchPart}
 use Rattle.topology.specs.declared.Found.the-variants.{Node, Missing}
 use Rattle.topology.specs.declared.Reading.the-variants.{Tree}
-use Rattle.topology.proofs.Ancestry.{above-from, above-to}
+use Rattle.topology.proofs.Numbering.{addr-in}
+use Rattle.topology.proofs.Ancestry.{above-from, above-to, in-breadth}
 use Rattle.topology.proofs.Children.{HasChild, childOf-lt, childOf-first, childOf-next, subtree-childOf}
 use Rattle.topology.proofs.Decoding.{code-at, length-code, byte-width}
 use Rattle.topology.proofs.Scan.{span-zero}
 use Rattle.topology.proofs.Cases.{clash, child-found, branch-there}
-use Rattle.topology.proofs.Reader.{drawn}
+use Rattle.topology.proofs.Reader.{drawn, within}
 
 mutual
   span-code : (t : Topo) (k : ℕ) (bs : List ℕ) → span (suc k) (code t ++ bs) ≡ size t + span k bs
@@ -102,3 +103,37 @@ code-above t a b h e = by-tests (leb a b) (ltb b (branchEnd (code t) a)) refl re
     by-tests true true p q e = above-to t a b h (leb-true a b p) (omega (arith, ltb-true b (branchEnd (code t) a) q, end-code t a h))
     by-tests true false p q e = absurd (clash (cc))
     by-tests false y p q e = absurd (clash (cc))
+
+-- ---- valid bytes: the same, for whoever has the bytes and no tree
+
+module _ (limit : ℕ) (bytes : List ℕ) (e : fault limit bytes ≡ 0) where
+  pub valid-size : size (tree bytes) ≡ length bytes
+  valid-size = sym (length-code (tree bytes)) ∙ ap length (drawn limit bytes e)
+
+  pub valid-length : length bytes ≤ limit
+  valid-length = omega (arith, valid-size, within limit bytes e .nodes)
+
+  pub valid-width : (n : ℕ) → n < length bytes → width (subtree (tree bytes) n) ≡ getD bytes n 0
+  valid-width n h =
+      sym (byte-width (tree bytes) n (omega (arith, valid-size))) ∙ ap (λ (bs : List ℕ). getD bs n 0) (drawn limit bytes e)
+
+  pub valid-byte : (n : ℕ) → getD bytes n 0 ≤ 8
+  valid-byte n = by-length (decLt n (length bytes))
+    where
+      by-length : Dec (n < length bytes) → getD bytes n 0 ≤ 8
+      by-length (yes h) =
+          let i = addr-in (tree bytes) n (omega (arith, valid-size)) in
+          omega (arith, valid-width n h, in-breadth (tree bytes) (addr (tree bytes) n) i, within limit bytes e .children)
+      by-length (no h) = omega (arith, List·getD-eq-default bytes 0 {n = n} (omega arith))
+
+  module _ (n i : ℕ) (h : n < length bytes) (g : i < getD bytes n 0) where
+    valid-has : HasChild (tree bytes) n (suc i)
+    valid-has = (omega (arith, valid-size), omega arith, omega (arith, valid-width n h))
+
+    pub valid-start : start bytes n i ≡ childOf (tree bytes) n (suc i)
+    valid-start =
+        ap (λ (bs : List ℕ). start bs n i) (sym (drawn limit bytes e))
+        ∙ start-code (tree bytes) n i (valid-has .0) (valid-has .2)
+
+    pub start-lt : start bytes n i < length bytes
+    start-lt = omega (arith, valid-start, childOf-lt (tree bytes) n (suc i) valid-has, valid-size)

@@ -97,7 +97,7 @@ unfolding addr
 addr-child (node ts) i m h g =
     getD-addrsFrom ts 1 i m h g ∙ ap (λ (n : ℕ). n ∷ getD (addrs (nth ts i)) m []) (one-add i)
 
-addr-root : (t : Topo) → addr t 0 ≡ []
+pub addr-root : (t : Topo) → addr t 0 ≡ []
 unfolding addr
 addr-root (node ts) = refl
 

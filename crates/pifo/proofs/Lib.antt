@@ -1,0 +1,15 @@
+pub mod Order
+pub mod Wellness
+pub mod Paths
+pub mod Push
+pub mod Pop
+pub mod Runs
+pub mod Examples
+pub mod Queues
+pub mod Nodes
+pub mod Build
+pub mod Answers
+pub mod Append
+pub mod Numbered
+pub mod Local
+pub mod Total

@@ -1,0 +1,207 @@
+-- What a carried path is: one with no fault where the path carried has none, of at most as many steps as the target is high, that makes
+-- at each target node the owner's entry, turned (`carried-along`). Push and pop both rest on this one law.
+use mathlib.Core.Path.{_≡_, refl, sym, ap, ap₂, _∙_, subst}
+use mathlib.Core.Logic.{_⊎_, inl, inr}
+use Prim.Native.Nat.{ℕ, suc, _≤_}
+use native.Mathlib.Decide.{ℕ-discrete}
+use native.Mathlib.Omega.{arith}
+use mathlib.Core.List.{List, [], _∷_, _++_, map, append-nil, append-assoc, append-cancel-left}
+use mathlib.Core.Option.{none, some}
+use lib.ListN.{length, drop}
+use lib.Seq.{drop-append-seam}
+use borrow.Author.Tests.{eq-eqb, ne-eqb}
+use Rattle.lists.proofs.Prefix.{Meet, below, over, apart, meet, apart-prefix}
+use Rattle.topology.specs.Tree.{Topo, width, height}
+use Rattle.topology.specs.Address.{Addr, child, In, sub, Above}
+use Rattle.topology.proofs.Ancestry.{in-below, in-join, sub-append, in-height}
+use Rattle.pifo.specs.Queue.{entry, child as childItem}
+use Rattle.pifo.specs.Tree.{Step, step, pathFault}
+use Rattle.pifo.proofs.Paths.{fault-end, end-fault, fault-step, step-fault}
+use Rattle.pifo.proofs.Queues.{along}
+use Rattle.simulation.specs.Mirror.{toward, Owns, ranked, turn}
+use Rattle.simulation.specs.Carrying.{carryFrom}
+use Rattle.simulation.proofs.Prefixes.{above-trans, above-strict, toward-over, toward-apart}
+use Rattle.simulation.proofs.Images.{Keeps}
+use Rattle.simulation.proofs.Turning.{after}
+use Rattle.simulation.proofs.Owners.{owner-low}
+
+-- the steps of one rank down a way
+abbrev pub steps : ℕ → Addr → List Step
+steps r g = map (λ (k : ℕ). step k r) g
+
+-- Steps down a way that is there have no fault but that of the rest.
+fault-steps : (t : Topo) (r : ℕ) (g : Addr) (rest : List Step) → In t g → pathFault (sub t g) rest ≡ 0 → pathFault t (steps r g ++ rest) ≡ 0
+fault-steps t r [] rest i h = h
+fault-steps t r (k ∷ g) rest (p, l, i) h =
+    step-fault t k r (steps r g ++ rest) record { low = p; high = l; rest = fault-steps (child t k) r g rest i h }
+
+-- a path with no fault is no longer than the tree is high
+pub fault-length : (t : Topo) (ss : List Step) → pathFault t ss ≡ 0 → length ss ≤ height t
+fault-length t ss h =
+    let w = way t ss h in
+    omega (arith, in-height t (w .0) (w .1), w .2)
+  where
+    way : (t : Topo) (ss : List Step) → pathFault t ss ≡ 0 → (a : Addr) × In t a × (length a ≡ length ss)
+    way t [] h = ([], tt, refl)
+    way t (step i r ∷ ss) h =
+        let f = fault-step t i r ss h in
+        let w = way (child t i) ss (f .rest) in
+        (i ∷ w .0, (f .low, f .high, w .1), ap suc (w .2))
+
+-- Below a leaf there is no node.
+leaf-only : (t : Topo) (a d : Addr) → width (sub t a) ≡ 0 → In t (a ++ d) → d ≡ []
+leaf-only t a [] e i = refl
+leaf-only t a (k ∷ d) e i =
+    let r = in-below t a (k ∷ d) i in
+    absurd (omega (arith, r .0, r .1))
+
+-- what a list of one element begins with
+one-element : (k : ℕ) (e y : Addr) → k ∷ [] ≡ e ++ y → (e ≡ []) ⊎ (e ≡ k ∷ [])
+one-element k [] y h = inl refl
+one-element k (x ∷ []) y h = inr (cc)
+one-element k (x ∷ z ∷ e) y h = absurd (omega (arith, ap length h))
+
+-- What steps down a way, and then some others, make at an address behind that way, on it, and off it.
+module _ {P : Type 0} (r : ℕ) (rest : List Step) (l : ℕ) (p : P) where
+  along-behind : (g d : Addr) → along (steps r g ++ rest) l p (g ++ d) ≡ along rest l p d
+  along-behind [] d = refl
+  along-behind (k ∷ g) d = rw (eq-eqb k k refl) (along-behind g d)
+
+  along-on : (d : Addr) (j : ℕ) (g : Addr) → along (steps r (d ++ (j ∷ g)) ++ rest) l p d ≡ some (entry r (childItem j))
+  along-on [] j g = refl
+  along-on (k ∷ d) j g = rw (eq-eqb k k refl) (along-on d j g)
+
+  along-off : (c : Addr) (x y : ℕ) (d g : Addr) → (x ≡ y → ⊥) → along (steps r (c ++ (y ∷ g)) ++ rest) l p (c ++ (x ∷ d)) ≡ none
+  along-off [] x y d g n = rw (ne-eqb y x (λ e. n (sym e)))
+  along-off (k ∷ c) x y d g n = rw (eq-eqb k k refl) (along-off c x y d g n)
+
+module _ {S T : Topo} {F : Addr → Addr} (K : Keeps S T F) where
+  -- one step from the node at c, which passes: where it leads, and the way its steps take
+  record Leg (c : Addr) (i : ℕ) (r : ℕ) (ss : List Step) : Type 0 where
+    there : In S (c ++ (i ∷ []))
+    rest : pathFault (sub S (c ++ (i ∷ []))) ss ≡ 0
+    way : Addr
+    to : F (c ++ (i ∷ [])) ≡ F c ++ way
+    carried : carryFrom F c (step i r ∷ ss) ≡ steps r way ++ carryFrom F (c ++ (i ∷ [])) ss
+
+  leg : (c : Addr) (i r : ℕ) (ss : List Step) → In S c → pathFault (sub S c) (step i r ∷ ss) ≡ 0 → Leg c i r ss
+  leg c i r ss h e =
+      let f = fault-step (sub S c) i r ss e in
+      let there = in-join S c (i ∷ []) h (f .low, f .high, tt) in
+      let w = K .down c (c ++ (i ∷ [])) h there (i ∷ [], refl) in
+      let dropped : drop (length (F c)) (F (c ++ (i ∷ []))) ≡ w .0 = ap (drop (length (F c))) (w .1) ∙ drop-append-seam (F c) (w .0) in
+      record {
+        there = there;
+        rest = rw (sub-append S c (i ∷ [])) (f .rest);
+        way = w .0;
+        to = w .1;
+        carried = ap (λ (g : Addr). steps r g ++ carryFrom F (c ++ (i ∷ [])) ss) dropped;
+      }
+
+  pub carried-fault : (c : Addr) (ss : List Step) → In S c → pathFault (sub S c) ss ≡ 0 → pathFault (sub T (F c)) (carryFrom F c ss) ≡ 0
+  carried-fault c [] h e = end-fault (sub T (F c)) (K .leaf c h (fault-end (sub S c) e))
+  carried-fault c (step i r ∷ ss) h e =
+      let g = leg c i r ss h e in
+      let down = in-below T (F c) (g .way) (subst (In T) (g .to) (K .there (c ++ (i ∷ [])) (g .there))) in
+      let same : sub T (F (c ++ (i ∷ []))) ≡ sub (sub T (F c)) (g .way) = ap (sub T) (g .to) ∙ sub-append T (F c) (g .way) in
+      rw (g .carried)
+      (fault-steps (sub T (F c)) r (g .way) (carryFrom F (c ++ (i ∷ [])) ss) down
+      (rw same at (carried-fault (c ++ (i ∷ [])) ss (g .there) (g .rest))))
+
+  -- The three cases of a step: the target node at a lies behind the way of the step from c to child k, on it, or off it.
+  module _ {P : Type 0} (l : ℕ) (p : P) (k r : ℕ) (ss : List Step) (c e d b a : Addr) (is : b ≡ c ++ e) (at : a ≡ F c ++ d) (i : In S b)
+      (o : Owns S F b a) (g : Leg c k r ss) where
+    abbrev next : Addr
+    next = c ++ (k ∷ [])
+
+    -- where the child is b or lies above it, its image is a or lies above it
+    child-low : Above next b → Above (F next) a
+    child-low u = above-trans (F (c ++ (k ∷ []))) (F b) a (K .down (c ++ (k ∷ [])) b (g .there) i u) (o .covers)
+
+    behind : (d′ : Addr) → d ≡ g .way ++ d′ → a ≡ F next ++ d′
+    behind d′ q =
+        at ∙ ap (λ (z : Addr). F c ++ z) q ∙ sym (append-assoc (F c) (g .way) d′) ∙ ap (λ (z : Addr). z ++ d′) (sym (g .to))
+
+    on : (x : ℕ) (g′ : Addr) → g .way ≡ d ++ (x ∷ g′) → F next ≡ a ++ (x ∷ g′)
+    on x g′ q =
+        g .to ∙ ap (λ (z : Addr). F c ++ z) q ∙ sym (append-assoc (F c) d (x ∷ g′)) ∙ ap (λ (z : Addr). z ++ (x ∷ g′)) (sym at)
+
+    -- where a lies on the way, its owner is c
+    on-owner : (x : ℕ) (g′ : Addr) → g .way ≡ d ++ (x ∷ g′) → e ≡ []
+    on-owner x g′ q =
+        let t = on x g′ q in
+        let up = K .up b (c ++ (k ∷ [])) i (g .there) (above-trans (F b) a (F (c ++ (k ∷ []))) (o .covers) (x ∷ g′, t)) in
+        let one : k ∷ [] ≡ e ++ up .0 =
+        append-cancel-left c (k ∷ []) (e ++ up .0) (up .1 ∙ ap (λ (z : Addr). z ++ up .0) is ∙ append-assoc c e (up .0)) in
+        by-element (one-element k e (up .0) one)
+      where
+        by-element : (e ≡ []) ⊎ (e ≡ k ∷ []) → e ≡ []
+        by-element (inl z) = z
+        by-element (inr z) =
+            let u = child-low ([], is ∙ ap (λ (y : Addr). c ++ y) z ∙ sym (append-nil (c ++ (k ∷ [])))) in
+            absurd (above-strict a x g′ (subst (λ (y : Addr). Above y a) (on x g′ q) u))
+
+    turn-on : (x : ℕ) (g′ : Addr) → g .way ≡ d ++ (x ∷ g′)
+        → along (steps r (g .way) ++ carryFrom F next ss) l p d ≡ after (turn F b a) (along (step k r ∷ ss) l p e)
+    turn-on x g′ q =
+        let e0 = on-owner x g′ q in
+        let same : F (b ++ (k ∷ [])) ≡ a ++ (x ∷ g′) =
+        ap (λ (z : Addr). F (z ++ (k ∷ []))) (is ∙ ap (λ (y : Addr). c ++ y) e0 ∙ append-nil c) ∙ on x g′ q in
+        rw (q, e0, same, toward-over a x g′) (along-on r (carryFrom F (c ++ (k ∷ [])) ss) l p d x g′)
+
+    turn-off : (m : Addr) (x y : ℕ) (u v : Addr) → (x ≡ y → ⊥) → d ≡ m ++ (x ∷ u) → g .way ≡ m ++ (y ∷ v)
+        → along (steps r (g .way) ++ carryFrom F next ss) l p d ≡ after (turn F b a) (along (step k r ∷ ss) l p e)
+    turn-off m x y u v n q w =
+        rw (q, w) (along-off r (carryFrom F (c ++ (k ∷ [])) ss) l p m x y u v n) ∙ sym (nothing e is)
+      where
+        here : a ≡ (F c ++ m) ++ (x ∷ u)
+        here = at ∙ ap (λ (z : Addr). F c ++ z) q ∙ sym (append-assoc (F c) m (x ∷ u))
+
+        there : F next ≡ (F c ++ m) ++ (y ∷ v)
+        there = g .to ∙ ap (λ (z : Addr). F c ++ z) w ∙ sym (append-assoc (F c) m (y ∷ v))
+
+        nothing : (e : Addr) → b ≡ c ++ e → after (turn F b a) (along (step k r ∷ ss) l p e) ≡ none
+        nothing [] is =
+            let same : F (b ++ (k ∷ [])) ≡ (F c ++ m) ++ (y ∷ v) = ap (λ (z : Addr). F (z ++ (k ∷ []))) (is ∙ append-nil c) ∙ there in
+            ap (ranked r) (ap₂ toward here same ∙ toward-apart (F c ++ m) x y u v n)
+        nothing (z ∷ e) is = by-child (ℕ-discrete k z)
+          where
+            by-child : Dec (k ≡ z) → after (turn F b a) (along (step k r ∷ ss) l p (z ∷ e)) ≡ none
+            by-child (yes q) =
+                let low = child-low (e, is ∙ ap (λ (z : ℕ). c ++ (z ∷ e)) (sym q) ∙ sym (append-assoc c (k ∷ []) e)) in
+                absurd (n (apart-prefix (F c ++ m) x y u v (low .0) (sym here ∙ low .1 ∙ ap (λ (z : Addr). z ++ low .0) there)))
+            by-child (no n) = rw (ne-eqb k z n)
+
+    turn-behind : (d′ : Addr) → d ≡ g .way ++ d′
+        → ((e′ : Addr) → b ≡ next ++ e′ → a ≡ F next ++ d′ → along (carryFrom F next ss) l p d′ ≡ after (turn F b a) (along ss l p e′))
+        → along (steps r (g .way) ++ carryFrom F next ss) l p d ≡ after (turn F b a) (along (step k r ∷ ss) l p e)
+    turn-behind d′ q more =
+        let at′ = behind d′ q in
+        let low = owner-low K b next a i (g .there) o (d′, at′) in
+        let rest : e ≡ k ∷ low .0 = append-cancel-left c e (k ∷ low .0) (sym is ∙ low .1 ∙ append-assoc c (k ∷ []) (low .0)) in
+        rw (q, rest, eq-eqb k k refl) (along-behind r (carryFrom F next ss) l p (g .way) d′ ∙ more (low .0) (low .1) at′)
+
+  -- What the carried path makes at the target node at a, owned by the source node at b, is what the path makes at b, turned. Here from the
+  -- source node at c on, where b lies e below c and a lies d below c's image. By the steps of the path:
+  -- * At its end c is a leaf, and so is its image: e and d are empty, and both make the packet.
+  -- * A step from c to child k goes down the way g to that child's image. Where d goes on behind g, the child's image is above a, so the
+  --   child is b or above it, and the steps left decide. Where d ends on the way, b is c itself, and its entry is turned toward the
+  --   child. Where d leaves the way, nothing is made at a; neither is at b, or what is made there points away from a.
+  pub carried-along : {P : Type 0} (ss : List Step) (l : ℕ) (p : P) (c e d b a : Addr) → In S c → pathFault (sub S c) ss ≡ 0
+      → b ≡ c ++ e → a ≡ F c ++ d → In S b → In T a → Owns S F b a → along (carryFrom F c ss) l p d ≡ after (turn F b a) (along ss l p e)
+  carried-along [] l p c e d b a h f is at i j o =
+      let e0 = leaf-only S c e (fault-end (sub S c) f) (subst (In S) is i) in
+      let d0 = leaf-only T (F c) d (K .leaf c h (fault-end (sub S c) f)) (subst (In T) at j) in
+      rw (e0, d0)
+  carried-along (step k r ∷ ss) l p c e d b a h f is at i j o =
+      let g = leg c k r ss h f in
+      rw (g .carried)
+      (by-meet g (meet d (g .way)) (λ e′ d′. carried-along ss l p (c ++ (k ∷ [])) e′ d′ b a (g .there) (g .rest)))
+    where
+      by-meet : (g : Leg c k r ss) → Meet d (g .way)
+          → ((e′ d′ : Addr) → b ≡ (c ++ (k ∷ [])) ++ e′ → a ≡ F (c ++ (k ∷ [])) ++ d′ → In S b → In T a → Owns S F b a
+          → along (carryFrom F (c ++ (k ∷ [])) ss) l p d′ ≡ after (turn F b a) (along ss l p e′))
+          → along (steps r (g .way) ++ carryFrom F (c ++ (k ∷ [])) ss) l p d ≡ after (turn F b a) (along (step k r ∷ ss) l p e)
+      by-meet g (below d′ q) more = turn-behind l p k r ss c e d b a is at i o g d′ q (λ e′ is′ at′. more e′ d′ is′ at′ i j o)
+      by-meet g (over x g′ q) more = turn-on l p k r ss c e d b a is at i o g x g′ q
+      by-meet g (apart m x y u v n q w) more = turn-off l p k r ss c e d b a is at i o g m x y u v n q w

@@ -1,0 +1,11 @@
+pub mod Prefixes
+pub mod Images
+pub mod Turning
+pub mod Owners
+pub mod Carried
+pub mod Mirrored
+pub mod Chip
+pub mod Simulation
+pub mod Runs
+pub mod Nodes
+pub mod Examples

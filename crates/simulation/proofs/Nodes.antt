@@ -1,0 +1,79 @@
+-- Maps and carried paths by node number, for code: no two source nodes have one image; a child's image lies strictly below its parent's;
+-- the way down from a node begins with the one child that is the way's end or lies above it; and a path carried from node to node is the
+-- carried path.
+use mathlib.Core.Path.{_≡_, refl, sym, ap, ap₂, _∙_, subst}
+use Prim.Native.Nat.{ℕ, _<_}
+use native.Mathlib.Omega.{arith}
+use mathlib.Core.List.{List, [], _∷_, _++_, append-nil, append-assoc}
+use lib.ListN.{length, drop}
+use lib.Seq.{drop-length, drop-append-seam}
+use Rattle.topology.specs.Tree.{Topo, size}
+use Rattle.topology.specs.Address.{Addr, In, Above, addr, subtree, childOf, depth}
+use Rattle.topology.proofs.Numbering.{addr-in, num-addr, num-lt, addr-num}
+use Rattle.topology.proofs.Ancestry.{in-below, addr-inj}
+use Rattle.topology.proofs.Children.{HasChild, childOf-lt, addr-childOf, subtree-childOf, childOf-after}
+use Rattle.pifo.specs.Tree.{Step, step, pathFault}
+use Rattle.pifo.proofs.Paths.{fault-step}
+use Rattle.simulation.specs.Embedding.{image, Embeds, imageAt}
+use Rattle.simulation.specs.Carrying.{carryFrom, carry, route, carryNodes}
+use Rattle.simulation.proofs.Prefixes.{above-refl, above-antisym}
+use Rattle.simulation.proofs.Carried.{steps}
+
+-- rule 1
+pub images-once : (S T : Topo) (m : List ℕ) → Embeds S T m → (a b : ℕ) → a < size S → b < size S → image m a ≡ image m b → a ≡ b
+images-once S T m E a b h g e =
+    let down : Above (addr T (image m a)) (addr T (image m b)) = rw e (above-refl (addr T (image m b))) in
+    let up : Above (addr T (image m b)) (addr T (image m a)) = rw e (above-refl (addr T (image m b))) in
+    addr-inj S a b h g (above-antisym (addr S a) (addr S b) (E .order a b h g .1 down) (E .order b a g h .1 up))
+
+pub image-below : (S T : Topo) (m : List ℕ) → Embeds S T m → (n i : ℕ) → HasChild S n i
+    → Above (addr T (image m n)) (addr T (image m (childOf S n i))) × (image m n ≡ image m (childOf S n i) → ⊥)
+image-below S T m E n i h =
+    let l = childOf-lt S n i h in
+    let next = childOf-after S n i h in (
+      E .order n (childOf S n i) (h .0) l .0 (i ∷ [], addr-childOf S n i h),
+      λ e. let same = images-once S T m E n (childOf S n i) (h .0) l e in omega arith,
+    )
+
+-- The way from a node to itself has no step.
+pub route-self : (t : Topo) (x : ℕ) → route t x x ≡ []
+route-self t x = drop-length (addr t x)
+
+-- The way down goes first to the child that is its end or lies above it.
+pub route-step : (t : Topo) (x y j : ℕ) → HasChild t x j → Above (addr t (childOf t x j)) (addr t y) → route t x y ≡ j ∷ route t (childOf t x j) y
+route-step t x y j h (d, e) =
+    let c = addr-childOf t x j h in
+    let way : addr t y ≡ addr t x ++ (j ∷ d) = e ∙ ap (λ (a : Addr). a ++ d) c ∙ append-assoc (addr t x) (j ∷ []) d in
+    ap (drop (depth t x)) way
+    ∙ drop-append-seam (addr t x) (j ∷ d)
+    ∙ ap (λ (a : Addr). j ∷ a) (sym (ap (drop (depth t (childOf t x j))) e ∙ drop-append-seam (addr t (childOf t x j)) d))
+
+-- There is such a child of every node strictly above the way's end.
+pub route-child : (t : Topo) (x y : ℕ) → x < size t → y < size t → Above (addr t x) (addr t y) → (x ≡ y → ⊥)
+    → (j : ℕ) × HasChild t x j × Above (addr t (childOf t x j)) (addr t y)
+route-child t x y h g ([], e) n = absurd (n (addr-inj t x y h g (sym (e ∙ append-nil (addr t x)))))
+route-child t x y h g (j ∷ d, e) n =
+    let i = in-below t (addr t x) (j ∷ d) (subst (In t) e (addr-in t y g)) in
+    let has : HasChild t x j = (h, i .0, i .1) in
+    (j, has, (d, e ∙ sym (append-assoc (addr t x) (j ∷ []) d) ∙ ap (λ (a : Addr). a ++ d) (sym (addr-childOf t x j has))))
+
+module _ (S T : Topo) (m : List ℕ) where
+  nodes-from : (n : ℕ) (ss : List Step) → n < size S → pathFault (subtree S n) ss ≡ 0 → carryNodes S T m n ss ≡ carryFrom (imageAt S T m) (addr S n) ss
+  nodes-from n [] h e = refl
+  nodes-from n (step i r ∷ ss) h e =
+      let f = fault-step (subtree S n) i r ss e in
+      let has : HasChild S n i = (h, f .low, f .high) in
+      let c : ℕ = childOf S n i in
+      let at = addr-childOf S n i has in
+      let rest = nodes-from c ss (childOf-lt S n i has) (rw (subtree-childOf S n i has) (f .rest)) in
+      let here : imageAt S T m (addr S n) ≡ addr T (image m n) = ap (λ (k : ℕ). addr T (image m k)) (num-addr S n h) in
+      let there : imageAt S T m (addr S n ++ (i ∷ [])) ≡ addr T (image m c) =
+      ap (imageAt S T m) (sym at) ∙ ap (λ (k : ℕ). addr T (image m k)) (num-addr S c (childOf-lt S n i has)) in
+      let way : route T (image m n) (image m c) ≡ drop (length (imageAt S T m (addr S n))) (imageAt S T m (addr S n ++ (i ∷ []))) =
+      ap₂ (λ (x y : Addr). drop (length x) y) (sym here) (sym there) in
+      ap₂ (λ (g : Addr) (l : List Step). steps r g ++ l) way (rest ∙ ap (λ (a : Addr). carryFrom (imageAt S T m) a ss) at)
+
+  pub carry-nodes : (ss : List Step) → pathFault S ss ≡ 0 → carryNodes S T m 0 ss ≡ carry S T m ss
+  carry-nodes ss e =
+      let root = addr-num S [] tt in
+      nodes-from 0 ss (num-lt S [] tt) (rw root e) ∙ ap (λ (a : Addr). carryFrom (imageAt S T m) a ss) root

@@ -1,0 +1,167 @@
+-- The simulation (Theorem 5.10 of document 001, demand 3 of paper 01): for every map that meets the rules, every limit and every list of
+-- calls, the source's machine and the chip's machine behind the carrying of paths answer alike, and alike are the packets held and the
+-- refusals counted before the first call and after every call.
+--
+-- What holds between the two machines from one call to the next is `Paired`: both sound, for one limit, the chip's tree the mirror of the
+-- source's, as many refusals counted; so they hold as many packets. `paired-next` shows one call; the rest is induction over the list.
+use mathlib.Core.Path.{_≡_, refl, sym, ap, _∙_}
+use Prim.Native.Nat.{ℕ, zero, suc, _≤_, min}
+use native.Mathlib.Omega.{arith}
+use mathlib.Core.List.{List, [], _∷_}
+use mathlib.Core.Bool.{Bool, true, false}
+use mathlib.Core.Option.{Option, none, some}
+use lib.ListN.{length}
+use lib.Dec.{leb}
+use borrow.Author.Tests.{leb-true, leb-false}
+use Rattle.topology.specs.Tree.{Topo, height}
+use Rattle.topology.specs.Reader.{pick}
+use Rattle.pifo.specs.Tree.{Step, pathFault, PTree, shape, push, pop, held}
+use Rattle.pifo.specs.Machine.{Machine, Call, pushing, popping, Answer, accepted, full, most, holding, counting, opened, servePath, servePop, serve}
+use Rattle.pifo.proofs.Pop.{pop-none, none-pop}
+use Rattle.pifo.proofs.Runs.{Sound, served, opened-sound}
+use Rattle.simulation.specs.Embedding.{Embeds, imageAt}
+use Rattle.simulation.specs.Carrying.{carry}
+use Rattle.simulation.specs.Mirror.{Mirrors}
+use Rattle.simulation.specs.Sheet.{pushCarried, serveCarried, view, lines, log}
+use Rattle.simulation.proofs.Images.{keeps}
+use Rattle.simulation.proofs.Carried.{fault-length}
+use Rattle.simulation.proofs.Chip.{serves-carried}
+use Rattle.simulation.proofs.Mirrored.{path-fault, mirrors-empty, mirrors-held, mirrors-push, mirrors-pop}
+
+pub record Paired {P : Type 0} (S T : Topo) (m : List ℕ) (x y : Machine P) : Type 0 where
+  pub source : Sound x
+  pub chip : Sound y
+  pub source-topology : x .topology ≡ S
+  pub chip-topology : y .topology ≡ T
+  pub limit : y .limit ≡ x .limit
+  pub refusals : y .refusals ≡ x .refusals
+  pub trees : Mirrors S T (imageAt S T m) (x .tree) (y .tree)
+
+-- what a call's two results have in common
+record Alike {P : Type 0} (S T : Topo) (m : List ℕ) (r s : Answer P × Machine P) : Type 0 where
+  answer : r .0 ≡ s .0
+  refusals : s .1 .refusals ≡ r .1 .refusals
+  trees : Mirrors S T (imageAt S T m) (r .1 .tree) (s .1 .tree)
+
+module _ (S T : Topo) (m : List ℕ) (E : Embeds S T m) where
+  -- A carried path has no fault, and no more steps than the target is high.
+  pub carry-fault : (ss : List Step) → pathFault S ss ≡ 0 → pathFault T (carry S T m ss) ≡ 0
+  carry-fault ss h = path-fault (keeps S T m E) ss h
+
+  pub carry-length : (ss : List Step) → pathFault S ss ≡ 0 → length (carry S T m ss) ≤ height T
+  carry-length ss h = fault-length T (carry S T m ss) (carry-fault ss h)
+
+  module _ {P : Type 0} where
+    pub paired-opened : (limit : ℕ) → Paired {P = P} S T m (opened S limit) (opened T limit)
+    paired-opened limit =
+        record {
+          source = opened-sound P S limit;
+          chip = opened-sound P T limit;
+          source-topology = refl;
+          chip-topology = refl;
+          limit = refl;
+          refusals = refl;
+          trees = mirrors-empty (keeps S T m E);
+        }
+
+    -- as many packets are held
+    pub held-alike : (x y : Machine P) → Paired S T m x y → held (y .tree) ≡ held (x .tree)
+    held-alike x y p =
+        mirrors-held (keeps S T m E) (x .tree) (y .tree) (p .source .tree) (p .chip .tree) (p .source .topology ∙ p .source-topology) (p .trees)
+
+    module _ (x y : Machine P) (p : Paired S T m x y) where
+      source-shape : shape (x .tree) ≡ S
+      source-shape = p .source .topology ∙ p .source-topology
+
+      chip-shape : shape (y .tree) ≡ T
+      chip-shape = p .chip .topology ∙ p .chip-topology
+
+      alike-push : (ss : List Step) (l : ℕ) (a : P) (f : ℕ) → pathFault S ss ≡ f
+          → Alike S T m (servePath f x ss l a) (pushCarried f y (pushing (carry S T m ss) l a))
+      alike-push ss l a (suc f) e = record { answer = refl; refusals = p .refusals; trees = p .trees }
+      alike-push ss l a zero e =
+          let g : pathFault (y .topology) (carry S T m ss) ≡ 0 = rw (p .chip-topology) (carry-fault ss e) in
+          rw g (by-tests (leb (x .limit) (held (x .tree))) (leb (y .limit) (held (y .tree))) refl refl)
+        where
+          cx : ℕ
+          cx = min (suc (x .refusals)) most
+
+          cy : ℕ
+          cy = min (suc (y .refusals)) most
+
+          by-tests : (b u : Bool) → leb (x .limit) (held (x .tree)) ≡ b → leb (y .limit) (held (y .tree)) ≡ u
+              → Alike S T m (pick b (full cx, counting x cx) (accepted, holding x (push (x .tree) ss l a)))
+              (pick u (full cy, counting y cy) (accepted, holding y (push (y .tree) (carry S T m ss) l a)))
+          by-tests true true b u =
+              let c : cy ≡ cx = omega (arith, p .refusals) in
+              record { answer = ap full (sym c); refusals = c; trees = p .trees }
+          by-tests true false b u =
+              absurd (omega (arith, leb-true (x .limit) (held (x .tree)) b, leb-false (y .limit) (held (y .tree)) u, p .limit, held-alike x y p))
+          by-tests false true b u =
+              absurd (omega (arith, leb-false (x .limit) (held (x .tree)) b, leb-true (y .limit) (held (y .tree)) u, p .limit, held-alike x y p))
+          by-tests false false b u =
+              record {
+                answer = refl;
+                refusals = p .refusals;
+                trees = mirrors-push (keeps S T m E) (x .tree) (y .tree) (p .source .tree) source-shape chip-shape (p .trees) ss l a e;
+              }
+
+      alike-pop : (o : Option (P × PTree P)) → pop (x .tree) ≡ o → Alike S T m (servePop x o) (servePop y (pop (y .tree)))
+      alike-pop none e =
+          let z = pop-none (x .tree) (p .source .tree) e in
+          rw (none-pop (y .tree) (p .chip .tree) (omega (arith, held-alike x y p)))
+          record { answer = refl; refusals = p .refusals; trees = p .trees }
+      alike-pop (some (a, u)) e =
+          let z = mirrors-pop (keeps S T m E) (x .tree) (y .tree) (p .source .tree) source-shape chip-shape (p .trees) a u e in
+          rw (z .is)
+          record {
+            answer = refl;
+            refusals = p .refusals;
+            trees = z .mirrors;
+          }
+
+      alike : (c : Call P) → Alike S T m (serve x c) (serveCarried S T m y c)
+      alike (pushing ss l a) =
+          let g : pathFault (x .topology) ss ≡ pathFault S ss = ap (λ (t : Topo). pathFault t ss) (p .source-topology) in
+          rw g (alike-push ss l a (pathFault S ss) refl)
+      alike popping = alike-pop (pop (x .tree)) refl
+
+      pub paired-next : (c : Call P) → Paired S T m (serve x c .1) (serveCarried S T m y c .1)
+      paired-next c =
+          let s = served x c (p .source) in
+          let a = alike c in
+          let g = serves-carried S T m y c (p .chip) in
+          record {
+            source = s .sound;
+            chip = g .sound;
+            source-topology = s .topology ∙ p .source-topology;
+            chip-topology = g .topology ∙ p .chip-topology;
+            limit = g .limit ∙ p .limit ∙ sym (s .limit);
+            refusals = a .refusals;
+            trees = a .trees;
+          }
+
+      pub answers-alike : (c : Call P) → serve x c .0 ≡ serveCarried S T m y c .0
+      answers-alike c = alike c .answer
+
+    views-alike : (x y : Machine P) → Paired S T m x y → view x ≡ view y
+    views-alike x y p = λ i. (sym (held-alike x y p) i, sym (p .refusals) i)
+
+    lines-alike : (x y : Machine P) (cs : List (Call P)) → Paired S T m x y → lines serve x cs ≡ lines (serveCarried S T m) y cs
+    lines-alike x y [] p = refl
+    lines-alike x y (c ∷ cs) p =
+        let n = paired-next x y p c in
+        let a = answers-alike x y p c in
+        let v = views-alike (serve x c .1) (serveCarried S T m y c .1) n in
+        let rest = lines-alike (serve x c .1) (serveCarried S T m y c .1) cs n in
+        λ i. (a i, v i) ∷ rest i
+
+    pub log-alike : (x y : Machine P) (cs : List (Call P)) → Paired S T m x y → log serve x cs ≡ log (serveCarried S T m) y cs
+    log-alike x y cs p =
+        let v = views-alike x y p in
+        let rest = lines-alike x y cs p in
+        λ i. (v i, rest i)
+
+    -- Demand 3.
+    pub same-log : (limit : ℕ) (cs : List (Call P)) → log serve (opened S limit) cs ≡ log (serveCarried S T m) (opened T limit) cs
+    same-log limit cs = log-alike (opened S limit) (opened T limit) cs (paired-opened limit)

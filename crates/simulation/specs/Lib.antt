@@ -1,0 +1,4 @@
+pub mod Embedding
+pub mod Carrying
+pub mod Mirror
+pub mod Sheet
