@@ -76,6 +76,10 @@ impl Topology {
         self.nodes[node].children.len()
     }
 
+    pub fn children(&self, node: usize) -> &[usize] {
+        &self.nodes[node].children
+    }
+
     /// How many steps `node` lies below the root.
     pub fn depth(&self, node: usize) -> usize {
         match self.nodes[node].parent {
@@ -91,7 +95,7 @@ impl Topology {
 
     /// One past the last node of the branch: that is the last child of the
     /// last child, and so on down.
-    fn branch_end(&self, node: usize) -> usize {
+    pub fn branch_end(&self, node: usize) -> usize {
         match self.nodes[node].children.last() {
             Some(&last) => self.branch_end(last),
             None => node + 1,
@@ -99,7 +103,7 @@ impl Topology {
     }
 
     /// Whether `a` is `b` or an ancestor of it: looks up from `b`.
-    fn is_above(&self, a: usize, b: usize) -> bool {
+    pub fn is_above(&self, a: usize, b: usize) -> bool {
         a == b || self.nodes[b].parent.is_some_and(|up| self.is_above(a, up))
     }
 

@@ -3,6 +3,8 @@ use Prim.Native.Nat.{ℕ}
 use mathlib.Core.Bool.{Bool, true, false}
 use Rattle.topology.specs.declared.Found.{Found}
 use Rattle.topology.specs.declared.Found.the-variants.{Node, Missing}
+use Rattle.embedding.specs.declared.Checked.{Checked}
+use Rattle.embedding.specs.declared.Checked.the-variants.{Passes, Refused}
 
 -- the child's number; 0, which is no child, where there is none
 abbrev pub nodeOr0 : Found → ℕ
@@ -12,3 +14,8 @@ nodeOr0 Missing = 0
 abbrev pub bit : Bool → ℕ
 bit true = 1
 bit false = 0
+
+-- the refusal's number; 0 for a map that passes
+abbrev pub refusalOr0 : Checked → ℕ
+refusalOr0 Passes = 0
+refusalOr0 (Refused n) = n

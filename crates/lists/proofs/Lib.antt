@@ -4,3 +4,5 @@ pub mod Part
 pub mod Permutation
 pub mod Prefix
 pub mod Slice
+pub mod Replicate
+pub mod Tabulate

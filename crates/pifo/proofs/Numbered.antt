@@ -168,11 +168,11 @@ module _ {P : Type 0} where
       ∙ replace-assemble ts q r (k + size t) i (le-of-suc-le-suc h) (λ m o. e m (λ c d. o (omega arith) (omega arith))))
 
   -- the way down stays within the tree
-  abbrev Inside : Topo → ℕ → Option (P × List ℕ) → Type 0
+  abbrev pub Inside : Topo → ℕ → Option (P × List ℕ) → Type 0
   Inside t k none = Unit
   Inside t k (some (p, ns)) = (m : ℕ) → isIn m ns ≡ true → (k ≤ m) × (m < k + size t)
 
-  descent-in : (left : ℕ) (t : Topo) (k : ℕ) (q : Queues P) → Inside t k (descent left t k q)
+  pub descent-in : (left : ℕ) (t : Topo) (k : ℕ) (q : Queues P) → Inside t k (descent left t k q)
   descent-in zero t k q = tt
   descent-in (suc left) t k q = by-head (q k) (λ i. descent-in left (nth (kids t) i) (kidAt t k i) q)
     where
@@ -198,7 +198,7 @@ module _ {P : Type 0} where
       by-head (entry n (child (suc i)) ∷ l) r = by-test i (ltb i (width t)) refl (descent left (nth (kids t) i) (kidAt t k i) q) (r i)
 
   -- where the way down leads, as a pop of the tree
-  abbrev taken : Topo → ℕ → Queues P → Option (P × List ℕ) → Option (P × PTree P)
+  abbrev pub taken : Topo → ℕ → Queues P → Option (P × List ℕ) → Option (P × PTree P)
   taken t k q none = none
   taken t k q (some (p, ns)) = some (p, assemble t (popped ns q) k)
 

@@ -8,7 +8,7 @@ use lib.ListN.{length}
 use Rattle.topology.specs.Tree.{Topo, node, fnil, fcons, leaf, width}
 use Rattle.topology.specs.Address.{Above, addr, subtree}
 use Rattle.pifo.specs.Tree.{step}
-use Rattle.simulation.specs.Embedding.{image, Embeds}
+use Rattle.embedding_laws.specs.Rules.{image, Passes}
 use Rattle.simulation.specs.Carrying.{carry}
 
 -- Figure 3a of document 001: 3 0 0 0 in 2 0 2 0 0, with images 0 1 3 4. The path (2, 5) :: 7 becomes (2, 5) :: (1, 5) :: 7.
@@ -29,14 +29,23 @@ chain = node (fcons leaf fnil)
 abbrev pub long-chain : Topo
 long-chain = node (fcons chain fnil)
 
-pub chain-embeds : Embeds chain long-chain (0 ∷ 2 ∷ [])
+pub chain-embeds : Passes chain long-chain (0 ∷ 2 ∷ [])
 unfolding addr
-chain-embeds = record { long = refl; within = within; root = refl; leaf = leaves; order = order }
+chain-embeds = record { long = refl; within = within; once = once; root = refl; leaf = leaves; order = order }
   where
     within : (n : ℕ) → n < 2 → image (0 ∷ 2 ∷ []) n < 3
     within zero h = omega arith
     within (suc zero) h = omega arith
     within (suc (suc n)) h = absurd (omega arith)
+
+    once : (a b : ℕ) → a < 2 → b < 2 → image (0 ∷ 2 ∷ []) a ≡ image (0 ∷ 2 ∷ []) b → a ≡ b
+    once zero zero h g e = refl
+    once zero (suc zero) h g e = absurd (omega arith)
+    once zero (suc (suc b)) h g e = absurd (omega arith)
+    once (suc zero) zero h g e = absurd (omega arith)
+    once (suc zero) (suc zero) h g e = refl
+    once (suc zero) (suc (suc b)) h g e = absurd (omega arith)
+    once (suc (suc a)) b h g e = absurd (omega arith)
 
     leaves : (n : ℕ) → n < 2 → width (subtree chain n) ≡ 0 → width (subtree long-chain (image (0 ∷ 2 ∷ []) n)) ≡ 0
     leaves zero h e = absurd (omega arith)

@@ -6,7 +6,8 @@ use mathlib.Core.List.{List, []}
 use Rattle.topology.specs.Tree.{Topo, width}
 use Rattle.topology.specs.Address.{Addr, In, sub, Above, addr, num}
 use Rattle.topology.proofs.Numbering.{addr-in, num-lt, addr-num}
-use Rattle.simulation.specs.Embedding.{image, Embeds, imageAt}
+use Rattle.embedding_laws.specs.Rules.{image, Passes}
+use Rattle.simulation.specs.Embedding.{imageAt}
 
 pub record Keeps (S T : Topo) (F : Addr → Addr) : Type 0 where
   pub root : F [] ≡ []
@@ -15,7 +16,7 @@ pub record Keeps (S T : Topo) (F : Addr → Addr) : Type 0 where
   pub down : (a b : Addr) → In S a → In S b → Above a b → Above (F a) (F b)
   pub up : (a b : Addr) → In S a → In S b → Above (F a) (F b) → Above a b
 
-module _ (S T : Topo) (m : List ℕ) (E : Embeds S T m) where
+module _ (S T : Topo) (m : List ℕ) (E : Passes S T m) where
   order : (a b : Addr) → In S a → In S b → Above a b ↔ Above (imageAt S T m a) (imageAt S T m b)
   order a b i j =
       subst₂ (λ (x y : Addr). Above x y ↔ Above (imageAt S T m a) (imageAt S T m b)) (addr-num S a i) (addr-num S b j)

@@ -14,25 +14,19 @@ use Rattle.topology.proofs.Ancestry.{in-below, addr-inj}
 use Rattle.topology.proofs.Children.{HasChild, childOf-lt, addr-childOf, subtree-childOf, childOf-after}
 use Rattle.pifo.specs.Tree.{Step, step, pathFault}
 use Rattle.pifo.proofs.Paths.{fault-step}
-use Rattle.simulation.specs.Embedding.{image, Embeds, imageAt}
+use Rattle.embedding_laws.specs.Rules.{image, Passes}
+use Rattle.simulation.specs.Embedding.{imageAt}
 use Rattle.simulation.specs.Carrying.{carryFrom, carry, route, carryNodes}
 use Rattle.simulation.proofs.Prefixes.{above-refl, above-antisym}
 use Rattle.simulation.proofs.Carried.{steps}
 
--- rule 1
-pub images-once : (S T : Topo) (m : List ℕ) → Embeds S T m → (a b : ℕ) → a < size S → b < size S → image m a ≡ image m b → a ≡ b
-images-once S T m E a b h g e =
-    let down : Above (addr T (image m a)) (addr T (image m b)) = rw e (above-refl (addr T (image m b))) in
-    let up : Above (addr T (image m b)) (addr T (image m a)) = rw e (above-refl (addr T (image m b))) in
-    addr-inj S a b h g (above-antisym (addr S a) (addr S b) (E .order a b h g .1 down) (E .order b a g h .1 up))
-
-pub image-below : (S T : Topo) (m : List ℕ) → Embeds S T m → (n i : ℕ) → HasChild S n i
+pub image-below : (S T : Topo) (m : List ℕ) → Passes S T m → (n i : ℕ) → HasChild S n i
     → Above (addr T (image m n)) (addr T (image m (childOf S n i))) × (image m n ≡ image m (childOf S n i) → ⊥)
 image-below S T m E n i h =
     let l = childOf-lt S n i h in
     let next = childOf-after S n i h in (
       E .order n (childOf S n i) (h .0) l .0 (i ∷ [], addr-childOf S n i h),
-      λ e. let same = images-once S T m E n (childOf S n i) (h .0) l e in omega arith,
+      λ e. let same = E .once n (childOf S n i) (h .0) l e in omega arith,
     )
 
 -- The way from a node to itself has no step.

@@ -7,12 +7,12 @@ use Rattle.topology.specs.Tree.{Topo}
 use Rattle.pifo.specs.Tree.{packets}
 use Rattle.pifo.specs.Machine.{Machine, Call, opened, serve, after, answers}
 use Rattle.pifo.proofs.Runs.{departures, afterBy, answersBy, run}
-use Rattle.simulation.specs.Embedding.{Embeds}
+use Rattle.embedding_laws.specs.Rules.{Passes}
 use Rattle.simulation.specs.Sheet.{serveCarried}
 use Rattle.simulation.proofs.Simulation.{Paired, paired-opened, paired-next, answers-alike}
 use Rattle.simulation.proofs.Chip.{chip-run}
 
-module _ {P : Type 0} (S T : Topo) (m : List ℕ) (E : Embeds S T m) where
+module _ {P : Type 0} (S T : Topo) (m : List ℕ) (E : Passes S T m) where
   runs-paired : (x y : Machine P) (cs : List (Call P)) → Paired S T m x y
       → (answers x cs ≡ answersBy (serveCarried S T m) y cs) × Paired S T m (after x cs) (afterBy (serveCarried S T m) y cs)
   runs-paired x y [] p = (refl, p)

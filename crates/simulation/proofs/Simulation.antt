@@ -19,7 +19,8 @@ use Rattle.pifo.specs.Tree.{Step, pathFault, PTree, shape, push, pop, held}
 use Rattle.pifo.specs.Machine.{Machine, Call, pushing, popping, Answer, accepted, full, most, holding, counting, opened, servePath, servePop, serve}
 use Rattle.pifo.proofs.Pop.{pop-none, none-pop}
 use Rattle.pifo.proofs.Runs.{Sound, served, opened-sound}
-use Rattle.simulation.specs.Embedding.{Embeds, imageAt}
+use Rattle.embedding_laws.specs.Rules.{Passes}
+use Rattle.simulation.specs.Embedding.{imageAt}
 use Rattle.simulation.specs.Carrying.{carry}
 use Rattle.simulation.specs.Mirror.{Mirrors}
 use Rattle.simulation.specs.Sheet.{pushCarried, serveCarried, view, lines, log}
@@ -43,7 +44,7 @@ record Alike {P : Type 0} (S T : Topo) (m : List ℕ) (r s : Answer P × Machine
   refusals : s .1 .refusals ≡ r .1 .refusals
   trees : Mirrors S T (imageAt S T m) (r .1 .tree) (s .1 .tree)
 
-module _ (S T : Topo) (m : List ℕ) (E : Embeds S T m) where
+module _ (S T : Topo) (m : List ℕ) (E : Passes S T m) where
   -- A carried path has no fault, and no more steps than the target is high.
   pub carry-fault : (ss : List Step) → pathFault S ss ≡ 0 → pathFault T (carry S T m ss) ≡ 0
   carry-fault ss h = path-fault (keeps S T m E) ss h

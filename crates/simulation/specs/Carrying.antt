@@ -5,7 +5,8 @@ use lib.ListN.{length, drop}
 use Rattle.topology.specs.Tree.{Topo}
 use Rattle.topology.specs.Address.{Addr, addr, childOf, depth}
 use Rattle.pifo.specs.Tree.{Step, step}
-use Rattle.simulation.specs.Embedding.{image, imageAt}
+use Rattle.embedding_laws.specs.Rules.{image}
+use Rattle.simulation.specs.Embedding.{imageAt}
 
 -- For a step from the node at address s to child i with rank r, every target node from the image of s down to, but without, the image of
 -- that child gets the child number toward it, with rank r: these child numbers are what the child's address has beyond that of s.

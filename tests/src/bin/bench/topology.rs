@@ -1,25 +1,21 @@
-//! Times the Rattle library beside Rust, on trees of 64 nodes.
+//! The reader and the branch, on trees of 64 nodes.
 //!
 //! The second implementation builds a tree and allocates for it. To be fair
 //! there is also a plain scan, as one would write it in Rust for speed.
 
 use linduvar_tests::generate::{self, Shape};
-use linduvar_tests::random::{self, Random};
+use linduvar_tests::random::Random;
 use linduvar_tests::rattle;
 use linduvar_tests::topology::{
     Reading, Topology, MOST_CHILDREN, MOST_STEPS_DOWN, SOURCE_NODES, TARGET_NODES,
 };
 use std::hint::black_box;
-use std::time::Instant;
 
 const TREES: usize = 500;
 const ROUNDS: usize = 200;
 
-fn main() {
-    let seed = random::seed();
-    let mut random = Random::new(seed);
-    println!("seed {seed}; ns per call, the best of {ROUNDS} rounds over {TREES} trees");
-    println!("and in brackets the time of Rattle over that of Rust");
+pub fn run(random: &mut Random) {
+    println!("the reader and the branch, the best of {ROUNDS} rounds over {TREES} trees:");
     for (name, shape) in [
         ("deep", Shape::Deep),
         ("wide", Shape::Wide),
@@ -27,13 +23,8 @@ fn main() {
     ] {
         let inputs: Vec<(Vec<u8>, usize)> = (0..TREES)
             .map(|_| {
-                let bytes = generate::tree(
-                    &mut random,
-                    shape,
-                    TARGET_NODES,
-                    MOST_STEPS_DOWN,
-                    MOST_CHILDREN,
-                );
+                let bytes =
+                    generate::tree(random, shape, TARGET_NODES, MOST_STEPS_DOWN, MOST_CHILDREN);
                 (bytes, random.below(TARGET_NODES))
             })
             .collect();
@@ -63,14 +54,11 @@ fn main() {
 
 /// Nanoseconds per call.
 fn time<T>(inputs: &[(Vec<u8>, usize)], call: impl Fn(&[u8], usize) -> T) -> f64 {
-    let mut best = f64::INFINITY;
-    for _ in 0..ROUNDS {
-        let start = Instant::now();
+    let best = crate::best_of(ROUNDS, || {
         for (bytes, node) in inputs {
             black_box(call(black_box(bytes), black_box(*node)));
         }
-        best = best.min(start.elapsed().as_nanos() as f64);
-    }
+    });
     best / inputs.len() as f64
 }
 

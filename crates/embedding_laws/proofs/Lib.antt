@@ -1,0 +1,13 @@
+pub mod All
+pub mod First
+pub mod Rules
+pub mod Obeys
+pub mod Least
+pub mod Sets
+pub mod Placing
+pub mod Local
+pub mod Program
+pub mod Cells
+pub mod Nodes
+pub mod Images
+pub mod Searching

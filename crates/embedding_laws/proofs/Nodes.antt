@@ -1,0 +1,269 @@
+-- The loops that fill the table `best`: one source node's entries, then all source nodes from the last to the first. What the code's
+-- lists hold is brought over to the two trees that the bytes draw.
+use mathlib.Core.Path.{_≡_, refl, sym, ap, _∙_, subst}
+use Prim.Native.Nat.{ℕ, _+_, _*_, _-_, _≤_, _<_}
+use native.Mathlib.Nat.{not-suc-le-zero}
+use native.Mathlib.Decide.{ℕ-discrete}
+use native.Mathlib.Omega.{arith}
+use mathlib.Core.List.{List}
+use mathlib.Core.Bool.{true}
+use lib.ListN.{length, getD, set, replicate, length-set, length-replicate}
+use lib.Seq.{getD-set-same, getD-set-other}
+use Rattle.topology.specs.Tree.{Topo, width, size}
+use Rattle.topology.specs.Address.{subtree}
+use Rattle.topology.specs.Reader.{tree}
+use Rattle.topology.specs.Branch.{branchEnd}
+use Rattle.topology.proofs.Ancestry.{subtree-end}
+use Rattle.topology.proofs.Children.{HasChild, childOf-lt, childOf-after, parent-unique}
+use Rattle.topology.proofs.Decoding.{length-code, byte-width}
+use Rattle.topology.proofs.Lookup.{end-code}
+use Rattle.embedding_laws.specs.Sets.{none}
+use Rattle.embedding_laws.specs.Placing.{Placed}
+use Rattle.embedding_laws.specs.Tables.{Ends, bestBy, canBy, endBy, Frame, BranchOf, PlacedBelow, Room, NodeFrame, Draws}
+use Rattle.embedding_laws.specs.Meaning.{end, kid, full, Fits, PlacedAt, Entry, Truth, KidsOf, PlacedBy, EntryBy, NodeTo, Different}
+use Rattle.embedding_laws.proofs.Placing.{placed-map}
+use Rattle.embedding_laws.proofs.Local.{end-after, end-within}
+use Rattle.embedding_laws.proofs.Program.{has-kid, entry-map}
+
+-- one entry: rule 3 forbids it, or the children's least placing is it
+pub entry-shut : (best kids ends : List ℕ) (c w t : ℕ) → ((c ≡ 0 → w ≡ 0) → ⊥) → EntryBy best kids ends c w t none
+entry-shut best kids ends c w t n =
+    record {
+      bound = omega arith;
+      lower = λ k ys q. absurd (n k);
+      fits = λ h. absurd (omega arith);
+      attained = λ h. absurd (omega arith);
+    }
+
+pub entry-placed : (best kids ends : List ℕ) (c w t : ℕ) → (c ≡ 0 → w ≡ 0) → (go : List ℕ) (v : ℕ) → PlacedBelow best kids ends c t go v
+    → EntryBy best kids ends c w t v
+entry-placed best kids ends c w t k go v p =
+    record { bound = p .bound; lower = λ h. p .least .lower; fits = λ h. k; attained = p .least .attained }
+
+entryBy-map : (best other kids ends : List ℕ) (c w t v : ℕ)
+    → ((j x : ℕ) → j < c → bestBy best (getD kids j 0) x ≡ bestBy other (getD kids j 0) x)
+    → EntryBy best kids ends c w t v → EntryBy other kids ends c w t v
+entryBy-map best other kids ends c w t v same e =
+    record {
+      bound = e .bound;
+      lower = λ k ys q. e .lower k ys (back ys q);
+      fits = e .fits;
+      attained = λ l. (e .attained l .0, there (e .attained l .0) (e .attained l .1), e .attained l .2);
+    }
+  where
+    in-full : (j : ℕ) → j < length (replicate c true) → j < c
+    in-full j l = omega (arith, length-replicate c true)
+
+    there : (ys : List ℕ) → PlacedBy best kids ends c t ys → PlacedBy other kids ends c t ys
+    there ys =
+        placed-map (canBy best kids) (canBy other kids) (endBy ends) (endBy ends) (endBy ends t) (replicate c true) (t + 1) ys
+        (λ j x l g o. rw (← same j x (in-full j l)) o) (λ x g. refl)
+
+    back : (ys : List ℕ) → PlacedBy other kids ends c t ys → PlacedBy best kids ends c t ys
+    back ys =
+        placed-map (canBy other kids) (canBy best kids) (endBy ends) (endBy ends) (endBy ends t) (replicate c true) (t + 1) ys
+        (λ j x l g o. rw (same j x (in-full j l)) o) (λ x g. refl)
+
+module _ (source target ends kids : List ℕ) (s : ℕ) (f : NodeFrame source target ends kids s) (before : List ℕ) (places : length before ≡ 2048) where
+  pub node-start : NodeTo before kids ends source target s 0 before
+  node-start = record { places = places; kept = λ i h. refl; entries = λ t h. absurd (not-suc-le-zero h) }
+
+  pub node-frame : (n : ℕ) (best go : List ℕ) → NodeTo before kids ends source target s n best → Room go → Frame best kids ends (getD source s 0) go
+  node-frame n best go w r =
+      record {
+        few = f .few;
+        best-places = w .places;
+        kids-small = f .small;
+        ends-small = f .ends-small;
+        go-places = r .places;
+        go-bound = r .bound;
+      }
+
+  pub node-next : (n : ℕ) (best : List ℕ) → NodeTo before kids ends source target s n best → n < length target → (v : ℕ)
+      → EntryBy best kids ends (getD source s 0) (getD target n 0) n v → NodeTo before kids ends source target s (n + 1) (set best (s * 64 + n) v)
+  node-next n best w h v e =
+      record {
+        places = length-set best (s * 64 + n) v ∙ w .places;
+        kept = λ i g. getD-set-other best (s * 64 + n) i v 0 (omega (arith, f .target-fits)) ∙ w .kept i g;
+        entries = λ t g. here-or-before t g (ℕ-discrete t n);
+      }
+    where
+      behind : (j x : ℕ) → j < getD source s 0 → bestBy best (getD kids j 0) x ≡ bestBy before (getD kids j 0) x
+      behind j x l = w .kept (getD kids j 0 * 64 + x) (omega (arith, f .after j l))
+
+      here-or-before : (t : ℕ) → t < n + 1 → Dec (t ≡ n) → EntryBy before kids ends (getD source s 0) (getD target t 0) t (bestBy (set best (s * 64 + n) v) s t)
+      here-or-before t g (yes q) =
+          let there : getD (set best (s * 64 + n) v) (s * 64 + n) 0 ≡ v =
+          getD-set-same best (s * 64 + n) v 0 (omega (arith, w .places, f .there, f .source-fits, f .target-fits)) in
+          rw (q, there) (entryBy-map best before kids ends (getD source s 0) (getD target n 0) n v behind e)
+      here-or-before t g (no d) =
+          let there : getD (set best (s * 64 + n) v) (s * 64 + t) 0 ≡ getD best (s * 64 + t) 0 =
+          getD-set-other best (s * 64 + n) (s * 64 + t) v 0 (omega arith) in
+          rw there (w .entries t (omega arith))
+
+  pub node-end : (n : ℕ) (best : List ℕ) → NodeTo before kids ends source target s n best → n ≤ length target → length target ≤ n
+      → NodeTo before kids ends source target s (length target) best
+  node-end n best w l g = record { places = w .places; kept = w .kept; entries = λ t h. w .entries t (omega arith) }
+
+-- The trees that the bytes draw.
+module _ (bytes : List ℕ) (limit : ℕ) (d : Draws limit bytes) where
+  pub size-bytes : size (tree bytes) ≡ length bytes
+  size-bytes = sym (length-code (tree bytes)) ∙ ap length (d .is)
+
+  pub width-byte : (s : ℕ) → s < length bytes → width (subtree (tree bytes) s) ≡ getD bytes s 0
+  width-byte s h = sym (byte-width (tree bytes) s (omega (arith, size-bytes))) ∙ ap (λ (l : List ℕ). getD l s 0) (d .is)
+
+  pub end-byte : (ends : List ℕ) → Ends bytes ends → (x : ℕ) → x < length bytes → endBy ends x ≡ end (tree bytes) x
+  end-byte ends e x h =
+      e .at x h ∙ ap (λ (l : List ℕ). branchEnd l x) (sym (d .is)) ∙ end-code (tree bytes) x (omega (arith, size-bytes))
+
+  pub branch-of : (ends : List ℕ) → Ends bytes ends → (t : ℕ) → t < length bytes → BranchOf ends t
+  branch-of ends e t h =
+      record {
+        here = omega (arith, at t h, end-after T t);
+        grows = λ x g. omega (arith, at x (inside x g), end-after T x);
+        nested = λ x l g. omega (arith, at x (inside x g), at t h, end-within T t x t-in (omega arith) (omega (arith, at t h)));
+      }
+    where
+      T : Topo
+      T = tree bytes
+
+      t-in : t < size T
+      t-in = omega (arith, size-bytes)
+
+      at : (x : ℕ) → x < length bytes → endBy ends x ≡ end T x
+      at x g = end-byte ends e x g
+
+      inside : (x : ℕ) → x < endBy ends t → x < length bytes
+      inside x g = omega (arith, at t h, subtree-end T t t-in, size-bytes)
+
+  -- the children of a node that are listed
+  module _ (s : ℕ) (h : s < length bytes) (kids : List ℕ) (k : KidsOf (tree bytes) s kids) where
+    has : (j : ℕ) → j < getD bytes s 0 → HasChild (tree bytes) s (width (subtree (tree bytes) s) - j)
+    has j l = has-kid (tree bytes) s j (omega (arith, size-bytes)) (omega (arith, width-byte s h))
+
+    pub kids-after : (j : ℕ) → j < getD bytes s 0 → s < getD kids j 0
+    kids-after j l =
+        omega (arith, k .at j (omega (arith, width-byte s h)), childOf-after (tree bytes) s (width (subtree (tree bytes) s) - j) (has j l))
+
+    pub kids-small : (j : ℕ) → j < getD bytes s 0 → getD kids j 0 < limit
+    kids-small j l =
+        omega (arith, k .at j (omega (arith, width-byte s h)), childOf-lt (tree bytes) s (width (subtree (tree bytes) s) - j) (has j l), size-bytes, d .fits)
+
+    pub kids-differ : (i j : ℕ) → i < getD bytes s 0 → j < getD bytes s 0 → getD kids i 0 ≡ getD kids j 0 → i ≡ j
+    kids-differ i j l g e =
+        let w = width-byte s h in
+        let q = parent-unique (tree bytes) s (width (subtree (tree bytes) s) - i) s (width (subtree (tree bytes) s) - j) (has i l) (has j g)
+        (sym (k .at i (omega arith)) ∙ e ∙ k .at j (omega arith)) in
+        omega (arith, q .1)
+
+-- a node's children are different source nodes
+pub different : (bytes : List ℕ) (d : Draws 32 bytes) (s : ℕ) → s < length bytes → (kids : List ℕ) → KidsOf (tree bytes) s kids → Different kids (getD bytes s 0)
+different bytes d s h kids k =
+    record { few = d .few s; small = kids-small bytes 32 d s h kids k; apart = kids-differ bytes 32 d s h kids k }
+
+module _ (source target : List ℕ) (d : Draws 32 source) (e : Draws 64 target) (ends : List ℕ) (n : Ends target ends) where
+  S : Topo
+  S = tree source
+
+  T : Topo
+  T = tree target
+
+  pub frame-of : (s : ℕ) → s < length source → (kids : List ℕ) → KidsOf (tree source) s kids → NodeFrame source target ends kids s
+  frame-of s h kids k =
+      record {
+        there = h;
+        source-fits = d .fits;
+        target-fits = e .fits;
+        few = d .few s;
+        small = kids-small source 32 d s h kids k;
+        after = kids-after source 32 d s h kids k;
+        ends-small = n .small;
+        branch = branch-of target 64 e ends n;
+      }
+
+  -- no source node is behind the last
+  pub table-start : (best : List ℕ) → Truth (tree source) (tree target) (bestBy best) (length source)
+  table-start best s t l h g = absurd (omega (arith, size-bytes source 32 d))
+
+  -- one source node more
+  pub table-next : (s : ℕ) → s < length source → (kids : List ℕ) → KidsOf (tree source) s kids → (before best : List ℕ)
+      → NodeTo before kids ends source target s (length target) best → Truth (tree source) (tree target) (bestBy before) (s + 1)
+      → Truth (tree source) (tree target) (bestBy best) s
+  unfolding S T
+  table-next s h kids k before best w truth a t l g i = by-node (ℕ-discrete a s)
+    where
+      sized : size S ≡ length source
+      sized = size-bytes source 32 d
+
+      t-in : t < length target
+      t-in = omega (arith, size-bytes target 64 e)
+
+      behind : (b x : ℕ) → s < b → bestBy before b x ≡ bestBy best b x
+      behind b x q = sym (w .kept (b * 64 + x) (omega arith))
+
+      w-s : width (subtree S s) ≡ getD source s 0
+      w-s = width-byte source 32 d s h
+
+      at-end : (x : ℕ) → x < endBy ends t → endBy ends x ≡ end T x
+      at-end x q =
+          end-byte target 64 e ends n x (omega (arith, end-byte target 64 e ends n t t-in, subtree-end T t i, size-bytes target 64 e))
+
+      in-full : (j : ℕ) → j < length (full S s) → j < width (subtree S s)
+      in-full j q = omega (arith, length-replicate (width (subtree S s)) true)
+
+      kid-row : (j x : ℕ) → j < width (subtree S s) → bestBy before (getD kids j 0) x ≡ bestBy best (kid S s j) x
+      kid-row j x q =
+          ap (λ (b : ℕ). bestBy before b x) (k .at j q) ∙ behind (kid S s j) x (childOf-after S s (width (subtree S s) - j) (has-kid S s j (omega arith) q))
+
+      by-list : (c : ℕ) → c ≡ width (subtree S s) → (hi : ℕ) → hi ≡ end T t → hi ≡ endBy ends t → (ys : List ℕ)
+          → Placed (canBy before kids) (endBy ends) hi (replicate c true) (t + 1) ys → PlacedAt S T (bestBy best) s t ys
+      by-list c ec hi eh eq ys q =
+          placed-map (canBy before kids) (λ j x. bestBy best (kid S s j) x < none) (endBy ends) (end T) (end T t) (full S s) (t + 1) ys
+          (λ j x l r o. rw (← kid-row j x (in-full j l)) o) (λ x r. at-end x (omega arith))
+          (subst (λ (z : ℕ). Placed (canBy before kids) (endBy ends) (end T t) (replicate z true) (t + 1) ys) ec
+          (subst (λ (z : ℕ). Placed (canBy before kids) (endBy ends) z (replicate c true) (t + 1) ys) eh q))
+
+      by-tree : (ys : List ℕ) → PlacedAt S T (bestBy best) s t ys → PlacedBy before kids ends (getD source s 0) t ys
+      by-tree ys q =
+          subst (λ (z : ℕ). Placed (canBy before kids) (endBy ends) (endBy ends t) (replicate z true) (t + 1) ys) w-s
+          (subst (λ (z : ℕ). Placed (canBy before kids) (endBy ends) z (full S s) (t + 1) ys) (sym hi)
+          (placed-map (λ j x. bestBy best (kid S s j) x < none) (canBy before kids) (end T) (endBy ends) (end T t) (full S s) (t + 1) ys
+          (λ j x l r o. rw (kid-row j x (in-full j l)) o) (λ x r. sym (at-end x (omega (arith, hi)))) q))
+        where
+          hi : endBy ends t ≡ end T t
+          hi = end-byte target 64 e ends n t t-in
+
+      here : Entry S T (Fits S T) (bestBy best) s t (bestBy best s t)
+      here =
+          let b = w .entries t t-in in
+          let w-t : width (subtree T t) ≡ getD target t 0 = width-byte target 64 e t t-in in
+          let hi : endBy ends t ≡ end T t = end-byte target 64 e ends n t t-in in
+          record {
+            lower = λ f ys q. b .lower (λ z. sym w-t ∙ f (w-s ∙ z)) ys (by-tree ys q);
+            allowed = λ v z. w-t ∙ b .fits v (sym w-s ∙ z);
+            attained = λ v. (b .attained v .0, by-list (getD source s 0) (sym w-s) (endBy ends t) hi refl (b .attained v .0) (b .attained v .1), b .attained v .2);
+          }
+
+      by-node : Dec (a ≡ s) → Entry S T (Fits S T) (bestBy best) a t (bestBy best a t)
+      by-node (yes q) = subst (λ (b : ℕ). Entry S T (Fits S T) (bestBy best) b t (bestBy best b t)) (sym q) here
+      by-node (no q) =
+          let later : s < a = omega arith in
+          subst (Entry S T (Fits S T) (bestBy best) a t) (behind a t later)
+          (entry-map S T (Fits S T) (bestBy before) (bestBy best) a t (bestBy before a t) i
+          (λ j x r o. behind (kid S a j) x (deeper j r later))
+          (truth a t (omega arith) g i))
+        where
+          deeper : (j : ℕ) → j < width (subtree S a) → s < a → s < kid S a j
+          deeper j r later = omega (arith, childOf-after S a (width (subtree S a) - j) (has-kid S a j g r))
+
+  -- the same from the node before s on
+  pub table-back : (s : ℕ) → 0 < s → s ≤ length source → (kids : List ℕ) → KidsOf (tree source) (s - 1) kids → (before best : List ℕ)
+      → NodeTo before kids ends source target (s - 1) (length target) best → Truth (tree source) (tree target) (bestBy before) s
+      → Truth (tree source) (tree target) (bestBy best) (s - 1)
+  table-back s p h kids k before best w truth =
+      let e : s ≡ s - 1 + 1 = omega arith in
+      table-next (s - 1) (omega arith) kids k before best w (subst (Truth (tree source) (tree target) (bestBy before)) e truth)
+
+pub table-end : (S T : Topo) (best : ℕ → ℕ → ℕ) (n : ℕ) → n ≤ 0 → Truth S T best n → Truth S T best 0
+table-end S T best n h truth = λ s t l. truth s t (omega arith)

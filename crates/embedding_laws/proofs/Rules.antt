@@ -1,0 +1,205 @@
+-- Each test of the map check says what its rule says, where the bytes are the codes of two trees and every source node is tested.
+-- Then the check's number is 0 exactly where the list passes.
+use mathlib.Core.Path.{_≡_, refl, sym, ap, _∙_}
+use mathlib.Core.Logic.{_↔_}
+use Prim.Native.Nat.{ℕ, zero, suc, _<_}
+use native.Mathlib.Decide.{decLt}
+use native.Mathlib.Omega.{arith}
+use mathlib.Core.List.{List}
+use mathlib.Core.Bool.{Bool, true, false, not, _||_}
+use lib.ListN.{length, getD}
+use lib.Dec.{ltb, eqb}
+use borrow.Author.Tests.{ltb-true, lt-ltb, eqb-true, eqb-false, eq-eqb, ne-eqb, not-true}
+use Rattle.topology.specs.Tree.{Topo, width, size, code}
+use Rattle.topology.specs.Address.{Above, addr, subtree}
+use Rattle.topology.specs.Reader.{pick, orElse, fault, tree}
+use Rattle.topology.specs.Branch.{isAbove}
+use Rattle.topology.proofs.Decoding.{length-code, byte-width}
+use Rattle.topology.proofs.Lookup.{above-code, code-above}
+use Rattle.topology.proofs.Reader.{drawn}
+use Rattle.embedding_laws.specs.Rules.{image, Passes}
+use Rattle.embedding_laws.specs.Check.{all, same, areNodes, rule1, rule2, rule3, rule4, listFault, mapFault}
+use Rattle.embedding_laws.proofs.All.{clash, all-below, below-all}
+
+same-true : (x y : Bool) → same x y ≡ true → x ≡ y
+same-true true y e = sym e
+same-true false y e = sym (not-true y e)
+
+true-same : (x y : Bool) → (x ≡ true → y ≡ true) → (y ≡ true → x ≡ true) → same x y ≡ true
+true-same true y f g = f refl
+true-same false true f g = absurd (clash (cc (g refl)))
+true-same false false f g = refl
+
+module _ (S T : Topo) (m : List ℕ) where
+  pub nodes-from : areNodes (code T) (size S) m ≡ true → (a : ℕ) → a < size S → image m a < size T
+  unfolding areNodes
+  nodes-from e a h =
+      omega (arith, ltb-true (image m a) (length (code T)) (all-below (size S) (λ a. ltb (image m a) (length (code T))) e a h), length-code T)
+
+  pub nodes-to : ((a : ℕ) → a < size S → image m a < size T) → areNodes (code T) (size S) m ≡ true
+  unfolding areNodes
+  nodes-to w =
+      below-all (size S) (λ a. ltb (image m a) (length (code T))) (λ a h. lt-ltb (image m a) (length (code T)) (omega (arith, w a h, length-code T)))
+
+  pub once-from : rule1 (size S) m ≡ true → (a b : ℕ) → a < size S → b < size S → image m a ≡ image m b → a ≡ b
+  unfolding rule1
+  once-from e a b h g q = by-order (decLt a b) (decLt b a)
+    where
+      differ : (a b : ℕ) → a < size S → b < a → image m b ≡ image m a → ⊥
+      differ a b h l q =
+          let row = all-below (size S) (λ a. all a (λ b. not (eqb (image m b) (image m a)))) e a h in
+          let here = all-below a (λ b. not (eqb (image m b) (image m a))) row b l in
+          eqb-false (image m b) (image m a) (not-true (eqb (image m b) (image m a)) here) q
+
+      by-order : Dec (a < b) → Dec (b < a) → a ≡ b
+      by-order (yes l) d = absurd (differ b a g l q)
+      by-order (no k) (yes l) = absurd (differ a b h l (sym q))
+      by-order (no k) (no l) = omega arith
+
+  pub once-to : ((a b : ℕ) → a < size S → b < size S → image m a ≡ image m b → a ≡ b) → rule1 (size S) m ≡ true
+  unfolding rule1
+  once-to o =
+      below-all (size S) (λ a. all a (λ b. not (eqb (image m b) (image m a))))
+      (λ a h. below-all a (λ b. not (eqb (image m b) (image m a)))
+      (λ b l. ap not (ne-eqb (image m b) (image m a) (λ q. differ a b h l (o b a (omega arith) h q)))))
+    where
+      differ : (a b : ℕ) → a < size S → b < a → b ≡ a → ⊥
+      differ a b h l e = omega arith
+
+  pub root-from : rule2 m ≡ true → image m 0 ≡ 0
+  unfolding rule2
+  root-from e = eqb-true (image m 0) 0 e
+
+  pub root-to : image m 0 ≡ 0 → rule2 m ≡ true
+  unfolding rule2
+  root-to e = eq-eqb (image m 0) 0 e
+
+  module _ (within : (a : ℕ) → a < size S → image m a < size T) where
+    pub leaf-from : rule3 (code S) (code T) (size S) m ≡ true
+        → (a : ℕ) → a < size S → width (subtree S a) ≡ 0 → width (subtree T (image m a)) ≡ 0
+    unfolding rule3
+    leaf-from e a h z =
+        by-test (all-below (size S) (λ a. not (eqb (getD (code S) a 0) 0) || eqb (getD (code T) (image m a) 0) 0) e a h)
+        (eq-eqb (getD (code S) a 0) 0 (byte-width S a h ∙ z))
+      where
+        by-test : not (eqb (getD (code S) a 0) 0) || eqb (getD (code T) (image m a) 0) 0 ≡ true → eqb (getD (code S) a 0) 0 ≡ true
+            → width (subtree T (image m a)) ≡ 0
+        by-test t s = sym (byte-width T (image m a) (within a h)) ∙ eqb-true (getD (code T) (image m a) 0) 0 (rw s at t)
+
+    pub leaf-to : ((a : ℕ) → a < size S → width (subtree S a) ≡ 0 → width (subtree T (image m a)) ≡ 0)
+        → rule3 (code S) (code T) (size S) m ≡ true
+    unfolding rule3
+    leaf-to l = below-all (size S) (λ a. not (eqb (getD (code S) a 0) 0) || eqb (getD (code T) (image m a) 0) 0) (λ a h. by-test a h (eqb (getD (code S) a 0) 0) refl)
+      where
+        by-test : (a : ℕ) → a < size S → (x : Bool) → eqb (getD (code S) a 0) 0 ≡ x
+            → not x || eqb (getD (code T) (image m a) 0) 0 ≡ true
+        by-test a h false e = refl
+        by-test a h true e =
+            eq-eqb (getD (code T) (image m a) 0) 0
+            (byte-width T (image m a) (within a h) ∙ l a h (sym (byte-width S a h) ∙ eqb-true (getD (code S) a 0) 0 e))
+
+    pub order-from : rule4 (code S) (code T) (size S) m ≡ true → (a b : ℕ) → a < size S → b < size S
+        → (Above (addr S a) (addr S b) ↔ Above (addr T (image m a)) (addr T (image m b)))
+    unfolding rule4
+    order-from e a b h g =
+        let row = all-below (size S) (λ a. all (size S) (λ b. same (isAbove (code S) a b) (isAbove (code T) (image m a) (image m b)))) e a h in
+        let here = all-below (size S) (λ b. same (isAbove (code S) a b) (isAbove (code T) (image m a) (image m b))) row b g in
+        let q = same-true (isAbove (code S) a b) (isAbove (code T) (image m a) (image m b)) here in (
+          λ u. code-above T (image m a) (image m b) (within a h) (sym q ∙ above-code S a b h g u),
+          λ u. code-above S a b h (q ∙ above-code T (image m a) (image m b) (within a h) (within b g) u),
+        )
+
+    pub order-to : ((a b : ℕ) → a < size S → b < size S → (Above (addr S a) (addr S b) ↔ Above (addr T (image m a)) (addr T (image m b))))
+        → rule4 (code S) (code T) (size S) m ≡ true
+    unfolding rule4
+    order-to o =
+        below-all (size S) (λ a. all (size S) (λ b. same (isAbove (code S) a b) (isAbove (code T) (image m a) (image m b))))
+        (λ a h. below-all (size S) (λ b. same (isAbove (code S) a b) (isAbove (code T) (image m a) (image m b)))
+        (λ b g. true-same (isAbove (code S) a b) (isAbove (code T) (image m a) (image m b))
+        (λ e. above-code T (image m a) (image m b) (within a h) (within b g) (o a b h g .0 (code-above S a b h e)))
+        (λ e. above-code S a b h g (o a b h g .1 (code-above T (image m a) (image m b) (within a h) e)))))
+
+pick-none : (b : Bool) (rest k : ℕ) → pick b rest (suc k) ≡ 0 → (b ≡ true) × (rest ≡ 0)
+pick-none true rest k e = (refl, e)
+pick-none false rest k e = absurd (omega arith)
+
+orElse-none : (f r : ℕ) → orElse f r ≡ 0 → (f ≡ 0) × (r ≡ 0)
+orElse-none zero r e = (refl, e)
+orElse-none (suc f) r e = absurd (omega arith)
+
+-- What the number 0 says: no test fails.
+pub list-none : (s t m : List ℕ) → listFault s t m ≡ 0
+    → (length m ≡ length s) × (areNodes t (length s) m ≡ true) × (rule1 (length s) m ≡ true) × (rule2 m ≡ true)
+    × (rule3 s t (length s) m ≡ true) × (rule4 s t (length s) m ≡ true)
+unfolding listFault
+list-none s t m e =
+    let n = length s in
+    let f11 : ℕ = pick (rule4 s t n m) 0 11 in
+    let f10 : ℕ = pick (rule3 s t n m) f11 10 in
+    let f9 : ℕ = pick (rule2 m) f10 9 in
+    let f8 : ℕ = pick (rule1 n m) f9 8 in
+    let f7 : ℕ = pick (areNodes t n m) f8 7 in
+    let a = pick-none (eqb (length m) n) f7 5 e in
+    let b = pick-none (areNodes t n m) f8 6 (a .1) in
+    let c = pick-none (rule1 n m) f9 7 (b .1) in
+    let d = pick-none (rule2 m) f10 8 (c .1) in
+    let g = pick-none (rule3 s t n m) f11 9 (d .1) in
+    let h = pick-none (rule4 s t n m) 0 10 (g .1) in
+    (eqb-true (length m) n (a .0), b .0, c .0, d .0, g .0, h .0)
+
+pub passes-from : (S T : Topo) (m : List ℕ) → length m ≡ size S → areNodes (code T) (size S) m ≡ true → rule1 (size S) m ≡ true
+    → rule2 m ≡ true → rule3 (code S) (code T) (size S) m ≡ true → rule4 (code S) (code T) (size S) m ≡ true → Passes S T m
+passes-from S T m l n r1 r2 r3 r4 =
+    let within = nodes-from S T m n in
+    record {
+      long = l;
+      within = within;
+      once = once-from S T m r1;
+      root = root-from S T m r2;
+      leaf = leaf-from S T m within r3;
+      order = order-from S T m within r4;
+    }
+
+pub list-passes : (S T : Topo) (m : List ℕ) → listFault (code S) (code T) m ≡ 0 → Passes S T m
+list-passes S T m e = with-size (size S) (length-code S) (list-none (code S) (code T) m e)
+  where
+    with-size : (n : ℕ) → length (code S) ≡ n
+        → (length m ≡ length (code S)) × (areNodes (code T) (length (code S)) m ≡ true) × (rule1 (length (code S)) m ≡ true) × (rule2 m ≡ true)
+        × (rule3 (code S) (code T) (length (code S)) m ≡ true) × (rule4 (code S) (code T) (length (code S)) m ≡ true) → Passes S T m
+    with-size n e r =
+        let q = rw (length-code S) at r in
+        passes-from S T m (q .0) (q .1) (q .2) (q .3) (q .4) (q .5)
+
+pub passes-list : (S T : Topo) (m : List ℕ) → Passes S T m → listFault (code S) (code T) m ≡ 0
+unfolding listFault
+passes-list S T m p =
+    rw (
+      length-code S,
+      eq-eqb (length m) (size S) (p .long),
+      nodes-to S T m (p .within),
+      once-to S T m (p .once),
+      root-to S T m (p .root),
+      leaf-to S T m (p .within) (p .leaf),
+      order-to S T m (p .within) (p .order),
+    )
+
+-- The check finds nothing exactly where both trees have no fault and the list passes.
+pub mapFault-none : (source target m : List ℕ)
+    → (mapFault source target m ≡ 0) ↔ ((fault 32 source ≡ 0) × (fault 64 target ≡ 0) × Passes (tree source) (tree target) m)
+unfolding mapFault
+mapFault-none source target m = (there, back)
+  where
+    there : orElse (fault 32 source) (orElse (fault 64 target) (listFault source target m)) ≡ 0
+        → (fault 32 source ≡ 0) × (fault 64 target ≡ 0) × Passes (tree source) (tree target) m
+    there e =
+        let a = orElse-none (fault 32 source) (orElse (fault 64 target) (listFault source target m)) e in
+        let b = orElse-none (fault 64 target) (listFault source target m) (a .1) in
+        let l : listFault (code (tree source)) (code (tree target)) m ≡ 0 =
+        rw (drawn 32 source (a .0), drawn 64 target (b .0)) (b .1) in
+        (a .0, b .0, list-passes (tree source) (tree target) m l)
+
+    back : (fault 32 source ≡ 0) × (fault 64 target ≡ 0) × Passes (tree source) (tree target) m
+        → orElse (fault 32 source) (orElse (fault 64 target) (listFault source target m)) ≡ 0
+    back (e, f, p) =
+        let l = passes-list (tree source) (tree target) m p in
+        rw (e, f) (rw (drawn 32 source e, drawn 64 target f) at l)

@@ -1,0 +1,15 @@
+pub mod Owned
+pub mod Slots
+pub mod Pass
+pub mod Matches
+pub mod Verdict
+pub mod Walking
+pub mod Ranges
+pub mod Entering
+pub mod Rooms
+pub mod Served
+pub mod Tops
+pub mod Leaving
+pub mod Descending
+pub mod Popping
+pub mod Fresh

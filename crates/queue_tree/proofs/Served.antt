@@ -1,0 +1,167 @@
+-- A call's answers case by case: what the code found, and the machine's answer.
+use mathlib.Core.Path.{_≡_, refl, sym, ap, _∙_, subst}
+use mathlib.Core.Logic.{_≢_}
+use Prim.Native.Nat.{ℕ, zero, suc, _+_, _*_, _≤_, _<_, min}
+use native.Mathlib.Omega.{arith}
+use mathlib.Core.List.{List}
+use mathlib.Core.Bool.{Bool, true, false}
+use lib.ListN.{length, take}
+use lib.Seq.{length-take-le}
+use lib.Dec.{leb}
+use borrow.Author.Tests.{le-leb, lt-leb}
+use Rattle.topology.specs.Tree.{Topo, size}
+use Rattle.topology.specs.Reader.{pick, fault, tree}
+use Rattle.topology.proofs.Lookup.{valid-size}
+use native.Mathlib.Nat.{zero-add}
+use mathlib.Core.Option.{Option}
+use Rattle.pifo.specs.Queue.{Entry, risesFrom}
+use Rattle.pifo.proofs.Local.{well-all}
+use Rattle.pifo.specs.Tree.{Step, pathFault, PTree, push, shape, held, well}
+use Rattle.pifo.specs.Numbered.{assemble, pushed, insertSome}
+use Rattle.pifo.specs.Machine.{Machine, Call, pushing, popping, Answer, accepted, refused, full, serve, holding, most, counting as count}
+use Rattle.pifo.proofs.Numbered.{shape-assemble, assemble-same, push-assemble}
+use Rattle.pifo.proofs.Push.{push-well, push-held}
+use Rattle.pifo.proofs.Answers.{push-fault, push-full, push-accepted}
+use Rattle.queue_tree.specs.State.{queueIn, queues, bytes, treeOf, machine, allBelow, inBounds, wellFormed}
+use Rattle.queue_tree.specs.Sound.{Tests}
+use Rattle.queue_tree.specs.Arrivals.{Walked, Ready, Entered, addedAt}
+use Rattle.queue_tree.specs.Calls.{amount, Serves, counting}
+use Rattle.queue_tree.specs.declared.Amount.the-variants.{Count, Refused}
+use Rattle.queue_tree.specs.declared.State.{State}
+use Rattle.queue_tree.specs.declared.arrivals.Added.{Added}
+use Rattle.queue_tree.specs.declared.arrivals.Lists.{Lists}
+use Rattle.queue_tree.specs.declared.soundness.Test.{Test}
+use Rattle.queue_tree.proofs.Matches.{off}
+use Rattle.queue_tree.proofs.Verdict.{Formed, Arrays, formed, form}
+use Rattle.queue_tree.proofs.Rooms.{room}
+
+refused-same : {a b : ℕ} → _≡_ {A = Answer ℕ} (refused a) (refused b) → a ≡ b
+refused-same e = cc
+
+full-same : {a b : ℕ} → _≡_ {A = Answer ℕ} (full a) (full b) → a ≡ b
+full-same e = cc
+
+pub apart : {A : Type 0} {a b : ℕ} → _≡_ {A = Answer ℕ} (refused a) (full b) → A
+apart e = let z : _≡_ {A = ℕ} 0 1 = cc in absurd (omega arith)
+
+shape-of : (s : State) → shape (treeOf s) ≡ tree (bytes s)
+unfolding treeOf
+shape-of s = shape-assemble (tree (bytes s)) (queues s) 0
+
+-- ---- refused by 18
+
+pub ill-served : (s : State) (call : Call ℕ) → wellFormed s ≡ false → Serves s call (refused 18) s
+ill-served s call f =
+    record {
+      ill = λ _. refl;
+      answer = λ t. absurd (off (sym f ∙ t));
+      machine = λ t. absurd (off (sym f ∙ t));
+      formed = λ t. absurd (off (sym f ∙ t));
+      kept = λ n _. refl;
+      counted = λ c e. apart e;
+    }
+
+-- ---- a count
+
+pub counted-amount : (s : State) (r : Test) → Tests s r → r .sound ≡ true → (n : ℕ) → Count n ≡ amount (wellFormed s) n
+counted-amount s r t e n = ap (λ (b : Bool). amount b n) (sym e ∙ t .sound)
+
+pub ill-amount : (s : State) (r : Test) → Tests s r → r .sound ≡ false → (n : ℕ) → Refused 18 ≡ amount (wellFormed s) n
+ill-amount s r t e n = ap (λ (b : Bool). amount b n) (sym e ∙ t .sound)
+
+-- ---- a push
+
+-- the machine's answer and the state that has its machine
+pub served : (s r : State) (call : Call ℕ) (a : Answer ℕ) (m : Machine ℕ) → serve (machine s) call ≡ (a, m) → wellFormed s ≡ true → machine r ≡ m → wellFormed r ≡ true
+    → ((n : ℕ) → a ≡ refused n → r ≡ s) → ((c : ℕ) → a ≡ full c → r ≡ counting s c) → Serves s call a r
+served s r call a m e t v w k c =
+    record {
+      ill = λ f. absurd (off (sym f ∙ t));
+      answer = λ _. sym (ap (λ x. x .0) e);
+      machine = λ _. v ∙ sym (ap (λ x. x .1) e);
+      formed = λ _. w;
+      kept = k;
+      counted = c;
+    }
+
+module _ (s : State) (t : wellFormed s ≡ true) (ss : List Step) (l p : ℕ) where
+  -- at fault
+  pub fault-served : (n : ℕ) → n ≢ 0 → n ≡ pathFault (tree (bytes s)) ss → Serves s (pushing ss l p) (refused n) s
+  unfolding machine
+  fault-served zero z e = absurd (z refl)
+  fault-served (suc n) z e = served s s (pushing ss l p) (refused (suc n)) (machine s) (push-fault (machine s) ss l p n (sym e)) t refl t (λ _ _. refl) (λ c q. apart q)
+
+  -- full
+  pub full-served : 0 ≡ pathFault (tree (bytes s)) ss → s .limit ≤ held (treeOf s) → (c : ℕ) → c ≡ min (suc (s .refused)) most → Serves s (pushing ss l p) (full c) (counting s c)
+  unfolding machine wellFormed inBounds treeOf bytes queues
+  full-served e h c q =
+      subst (λ (x : ℕ). Serves s (pushing ss l p) (full x) (counting s x)) (sym q)
+      (served s (counting s (min (suc (s .refused)) most)) (pushing ss l p) (full (min (suc (s .refused)) most)) (count (machine s) (min (suc (s .refused)) most)) (push-full (machine s) ss l p (sym e) h) t refl t
+      (λ n x. apart (sym x)) (λ x y. ap (counting s) (full-same y)))
+
+  -- accepted
+  module _ (ar : Arrays s) (e : 0 ≡ pathFault (tree (bytes s)) ss) (h : held (treeOf s) < s .limit) (a : Added) (w : Walked (tree (bytes s)) (length (bytes s)) ss l p a) (z : a .fault ≡ 0) where
+    pub ready : Ready (s .owners) (s .entries) (s .used) (s .nodes) a
+    unfolding bytes treeOf queues
+    ready =
+        let f = formed s t in
+        let n : length (take (s .nodes) (s .topology)) ≡ s .nodes = length-take-le (s .nodes) (s .topology) (omega (arith, ar .topology, f .nodes)) in
+        record {
+          marks = w .marks;
+          places = w .places;
+          count = w .count z;
+          ones = w .ones;
+          room = omega (arith, room s ar f, w .few z, f .most);
+          few = f .nodes;
+          own = λ m g. w .own m (omega arith);
+          owned = f .owned;
+          rises = λ m g.
+              subst (λ (k : ℕ). risesFrom 0 (queueIn (s .owners) (s .entries) (s .used) k) ≡ true) (zero-add m)
+              (well-all (tree (take (s .nodes) (s .topology))) (queueIn (s .owners) (s .entries) (s .used)) 0 (f .tree) m (omega (arith, valid-size 64 (take (s .nodes) (s .topology)) (f .valid))) .rises);
+        }
+
+    module _ (r : Lists) (en : Entered (s .owners) (s .entries) (s .used) (s .nodes) a r) where
+      tree-after : treeOf (record { topology = s .topology; nodes = s .nodes; limit = s .limit; refused = s .refused; owners = r .owners; entries = r .entries; used = s .used + a .count })
+          ≡ push (treeOf s) ss l p
+      unfolding treeOf bytes queues
+      tree-after =
+          let f = formed s t in
+          let d = tree (take (s .nodes) (s .topology)) in
+          let q = queueIn (s .owners) (s .entries) (s .used) in
+          let n : length (take (s .nodes) (s .topology)) ≡ s .nodes = length-take-le (s .nodes) (s .topology) (omega (arith, ar .topology, f .nodes)) in
+          assemble-same d (queueIn (r .owners) (r .entries) (s .used + a .count)) (pushed d 0 ss l p q) 0
+          (λ m g u.
+          en .queues m (omega (arith, valid-size 64 (take (s .nodes) (s .topology)) (f .valid)))
+          ∙ ap (λ (o : Option (Entry ℕ)). insertSome o (q m)) (w .added z m))
+          ∙ sym (push-assemble d q 0 ss l p (sym e))
+
+      pub accepted-served : Serves s (pushing ss l p) accepted (record { topology = s .topology; nodes = s .nodes; limit = s .limit; refused = s .refused; owners = r .owners; entries = r .entries; used = s .used + a .count })
+      unfolding machine bytes
+      accepted-served =
+          let f = formed s t in
+          let next : State = record { topology = s .topology; nodes = s .nodes; limit = s .limit; refused = s .refused; owners = r .owners; entries = r .entries; used = s .used + a .count } in
+          served s next (pushing ss l p) accepted (holding (machine s) (push (treeOf s) ss l p)) (push-accepted (machine s) ss l p (sym e) h) t
+          (ap (holding (machine s)) tree-after)
+          (form next (next-formed f))
+          (λ n x. never x)
+          (λ c x. never-full x)
+        where
+          never : {n : ℕ} {A : Type 0} → _≡_ {A = Answer ℕ} accepted (refused n) → A
+          never x = let y : _≡_ {A = ℕ} 0 1 = cc in absurd (omega arith)
+
+          never-full : {n : ℕ} {A : Type 0} → _≡_ {A = Answer ℕ} accepted (full n) → A
+          never-full x = let y : _≡_ {A = ℕ} 0 1 = cc in absurd (omega arith)
+
+          next-formed : Formed s → Formed (record { topology = s .topology; nodes = s .nodes; limit = s .limit; refused = s .refused; owners = r .owners; entries = r .entries; used = s .used + a .count })
+          next-formed f =
+              let sound : pathFault (shape (treeOf s)) ss ≡ 0 = ap (λ (d : Topo). pathFault d ss) (shape-of s) ∙ sym e in
+              record {
+                nodes = f .nodes;
+                used = ready .room;
+                owned = en .owned;
+                valid = f .valid;
+                least = f .least;
+                most = f .most;
+                tree = ap well tree-after ∙ push-well (treeOf s) ss l p sound (f .tree);
+                room = omega (arith, ap held tree-after, push-held (treeOf s) ss l p sound);
+              }

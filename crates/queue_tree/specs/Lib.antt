@@ -1,0 +1,5 @@
+pub mod State
+pub mod Sound
+pub mod Arrivals
+pub mod Departures
+pub mod Calls

@@ -1,0 +1,224 @@
+// The queue tree: a PIFO tree with a packet limit, by value. A call takes a state and gives back the state after it.
+//
+// Entries of all queues stand in one array, each with the number of the node that owns it; the queue of a node is the sub-list of its
+// own entries, head first. 256 packets on 9 nodes each make 2304 entries at the most.
+mod arrivals;
+mod departures;
+mod opening;
+mod soundness;
+
+ghost use mathlib.Core.Path.{_≡_};
+ghost use Prim.Native.Nat.{suc, min};
+ghost use Rattle.pifo.specs.Machine.{Call, pushing, popping, most};
+ghost use Rattle.queue_tree.specs.Arrivals.{stepsOf};
+ghost use Rattle.queue_tree.specs.Calls.{Opens, amount, pushAnswer, popAnswer, Serves};
+ghost use Rattle.queue_tree.specs.State.{wellFormed, treeOf};
+ghost use Rattle.pifo.specs.Tree.{held};
+
+// What a queue orders: child numbers at inner nodes, packets at leaves.
+pub enum Item {
+    Child(u8),
+    Packet(u32),
+}
+
+pub struct Entry {
+    pub rank: u32,
+    pub item: Item,
+}
+
+pub struct State {
+    pub topology: [u8; 64],
+    pub nodes: usize,
+    pub limit: usize,
+    pub refused: u32,
+    pub owners: [u8; 2304],
+    pub entries: [Entry; 2304],
+    pub used: usize,
+}
+
+pub struct Step {
+    pub child: u8,
+    pub rank: u32,
+}
+
+// A path: its first `count` steps, of which no tree takes a ninth, and the rank at the leaf.
+pub struct Path {
+    pub steps: [Step; 9],
+    pub count: usize,
+    pub leaf_rank: u32,
+}
+
+// The answer to an opening: 0 and the empty tree, or a refusal's number and a state that every call refuses by 18.
+pub struct Opened {
+    pub state: State,
+    pub refusal: u8,
+}
+
+// The answer to a question about a state: a count, or a refusal by its number.
+pub enum Amount {
+    Count(u32),
+    Refused(u8),
+}
+
+// The answer to a push: a refusal by its number, or by 15 with the new count of refusals.
+pub enum PushAnswer {
+    Accepted,
+    Refused(u8),
+    Full(u32),
+}
+
+pub struct Pushed {
+    pub state: State,
+    pub answer: PushAnswer,
+}
+
+// The answer to a pop: the packet that leaves, or a refusal by its number.
+pub enum PopAnswer {
+    Departed(u32),
+    Refused(u8),
+}
+
+pub struct Popped {
+    pub state: State,
+    pub answer: PopAnswer,
+}
+
+// The largest count of refusals.
+const MOST_REFUSALS: u32 = 4294967295;
+
+// One refusal more, up to the largest count.
+fn counted(refusals: u32) -> u32
+    ensures { λ r. ⌜ r ≡ min (suc refusals) most ⌝ }
+{
+    if refusals == MOST_REFUSALS {
+        return MOST_REFUSALS;
+    }
+    refusals + 1
+}
+
+// Opens an empty tree with a packet limit: 1 to 5 are tested, then 17.
+pub fn open(bytes: &[u8], limit: usize) -> Opened
+    ensures { λ r. ⌜ Opens (now (bytes .entry)) limit r ⌝ }
+{
+    let refusal = opening::refusal(bytes, limit);
+    if refusal != 0 {
+        return Opened {
+            state: opening::empty([0u8; 64], 0, 0),
+            refusal,
+        };
+    }
+    let topology = opening::copied(bytes);
+    Opened {
+        state: opening::empty(topology, bytes.len(), limit),
+        refusal: 0,
+    }
+}
+
+// How many packets a tree holds.
+pub fn held(state: State) -> Amount
+    ensures { λ r. ⌜ r ≡ amount (wellFormed state) (held (treeOf state)) ⌝ }
+{
+    let test = soundness::examine(state);
+    if test.sound {
+        Amount::Count(test.held as u32)
+    } else {
+        Amount::Refused(18)
+    }
+}
+
+// How many pushes a tree has refused because it was full.
+pub fn refusals(state: State) -> Amount
+    ensures { λ r. ⌜ r ≡ amount (wellFormed state) (state .refused) ⌝ }
+{
+    let test = soundness::examine(state);
+    if !test.sound {
+        return Amount::Refused(18);
+    }
+    Amount::Count(state.refused)
+}
+
+// Pushes a packet along a path: 18, 13, 14, 15 are tested in this order.
+pub fn push(state: State, path: Path, packet: u32) -> Pushed
+    ensures { λ r. ⌜ Serves state (pushing (stepsOf path) (path .«leaf_rank») packet) (pushAnswer (r .answer)) (r .state) ⌝ }
+{
+    let test = soundness::examine(state);
+    if !test.sound {
+        return Pushed {
+            state,
+            answer: PushAnswer::Refused(18),
+        };
+    }
+    let topology = state.topology;
+    let nodes = state.nodes;
+    let bytes = &topology[..nodes];
+    let added = arrivals::walk(bytes, path, packet);
+    let fault = added.fault;
+    if fault != 0 {
+        return Pushed {
+            state,
+            answer: PushAnswer::Refused(fault),
+        };
+    }
+    let mut next = state;
+    if state.limit <= test.held {
+        let count = counted(state.refused);
+        next.refused = count;
+        return Pushed {
+            state: next,
+            answer: PushAnswer::Full(count),
+        };
+    }
+    let used = state.used;
+    let owners = state.owners;
+    let entries = state.entries;
+    let count = added.count;
+    let lists = arrivals::enter(owners, entries, used, nodes, added);
+    let next_owners = lists.owners;
+    let next_entries = lists.entries;
+    next.owners = next_owners;
+    next.entries = next_entries;
+    next.used = used + count;
+    Pushed {
+        state: next,
+        answer: PushAnswer::Accepted,
+    }
+}
+
+// Pops the packet at the head: 18 and 16 are tested in this order.
+pub fn pop(state: State) -> Popped
+    ensures { λ r. ⌜ Serves state popping (popAnswer (r .answer)) (r .state) ⌝ }
+{
+    let test = soundness::examine(state);
+    if !test.sound {
+        return Popped {
+            state,
+            answer: PopAnswer::Refused(18),
+        };
+    }
+    if test.held == 0 {
+        return Popped {
+            state,
+            answer: PopAnswer::Refused(16),
+        };
+    }
+    let topology = state.topology;
+    let nodes = state.nodes;
+    let bytes = &topology[..nodes];
+    let used = state.used;
+    let owners = state.owners;
+    let entries = state.entries;
+    let heads = departures::find_heads(owners, entries, used);
+    let trail = departures::pop_from(bytes, heads, 0, 9);
+    let packet = trail.packet;
+    let rest = departures::take_out(owners, entries, used, nodes, trail);
+    let next_owners = rest.owners;
+    let next_entries = rest.entries;
+    let mut next = state;
+    next.owners = next_owners;
+    next.entries = next_entries;
+    next.used = rest.used;
+    Popped {
+        state: next,
+        answer: PopAnswer::Departed(packet),
+    }
+}

@@ -1,0 +1,114 @@
+//! The search and the check, on pairs of several kinds.
+
+use linduvar_tests::pairs;
+use linduvar_tests::random::Random;
+use linduvar_tests::topology::{SOURCE_NODES, TARGET_NODES};
+use linduvar_tests::{embedding, rattle_embedding};
+use std::hint::black_box;
+
+const PAIRS: usize = 200;
+const ROUNDS: usize = 10;
+
+type Pair = (Vec<u8>, Vec<u8>);
+
+pub fn run(random: &mut Random) {
+    println!("the search, the best of {ROUNDS} rounds over up to {PAIRS} pairs:");
+    let unrelated: Vec<Pair> = (0..PAIRS)
+        .map(|_| {
+            let source = pairs::tree(random, SOURCE_NODES);
+            (source, pairs::tree(random, TARGET_NODES))
+        })
+        .collect();
+    search("random", &unrelated);
+
+    let mut embedded = |source_nodes: usize, target_nodes: usize| -> Vec<Pair> {
+        (0..PAIRS)
+            .map(|_| pairs::embedded(random, source_nodes, target_nodes))
+            .map(|drawn| (drawn.source, drawn.target))
+            .collect()
+    };
+    search("embed, 8 in 12", &embedded(8, 12));
+    let large = embedded(SOURCE_NODES, TARGET_NODES);
+    search("embed, 32 in 64", &large);
+
+    search("chains", &[(bunch(8, 3), bunch(7, 8))]);
+    let source = [vec![8], fan(8), fan(8), fan(7), vec![0; 5]].concat();
+    let few = [vec![8], fan(7).repeat(6), fan(8), vec![1; 5], vec![0]].concat();
+    let enough = [vec![8], fan(7).repeat(5), fan(8), vec![0, 1], fan(8)].concat();
+    search("fans, none", &[(source.clone(), few)]);
+    search("fans, a map", &[(source, enough)]);
+
+    println!("the check, on the least maps of the pairs that embed:");
+    check("32 in 64", &large);
+}
+
+/// A root with that many chains below it.
+fn bunch(chains: usize, nodes: usize) -> Vec<u8> {
+    let chain = [vec![1; nodes - 1], vec![0]].concat();
+    [vec![chains as u8], chain.repeat(chains)].concat()
+}
+
+/// A node with that many leaves.
+fn fan(children: usize) -> Vec<u8> {
+    [vec![children as u8], vec![0; children]].concat()
+}
+
+fn search(kind: &str, pairs: &[Pair]) {
+    let rattle_search = |source: &[u8], target: &[u8]| {
+        let mut map = [0; SOURCE_NODES];
+        let answer = rattle_embedding::search(source, target, &mut map);
+        (answer, map)
+    };
+    let mut found = 0;
+    for (source, target) in pairs {
+        let (answer, map) = embedding::search(source, target);
+        assert_eq!(rattle_search(source, target), (answer, map));
+        found += usize::from(answer == 0);
+    }
+    report(
+        &format!("search, {kind}"),
+        time(pairs, rattle_search),
+        time(pairs, embedding::search),
+    );
+    println!("{:25}{found} of {} have a map", "", pairs.len());
+}
+
+fn check(kind: &str, pairs: &[Pair]) {
+    let inputs: Vec<(&Pair, Vec<u8>)> = pairs
+        .iter()
+        .map(|pair| {
+            let (_, map) = embedding::search(&pair.0, &pair.1);
+            (pair, map[..pair.0.len()].to_vec())
+        })
+        .collect();
+    let time = |check: fn(&[u8], &[u8], &[u8]) -> u8| {
+        let best = crate::best_of(ROUNDS, || {
+            for ((source, target), map) in &inputs {
+                assert_eq!(check(source, target, black_box(map)), 0);
+            }
+        });
+        best / inputs.len() as f64
+    };
+    report(
+        &format!("check, {kind}"),
+        time(rattle_embedding::check),
+        time(embedding::check),
+    );
+}
+
+/// Nanoseconds per call.
+fn time<T>(pairs: &[Pair], search: impl Fn(&[u8], &[u8]) -> T) -> f64 {
+    let best = crate::best_of(ROUNDS, || {
+        for (source, target) in pairs {
+            black_box(search(black_box(source), black_box(target)));
+        }
+    });
+    best / pairs.len() as f64
+}
+
+fn report(what: &str, rattle: f64, rust: f64) {
+    println!(
+        "{what:24} Rattle {rattle:11.1}   Rust {rust:11.1} ({:.2})",
+        rattle / rust
+    );
+}

@@ -1,0 +1,27 @@
+//! Times the Rattle library beside Rust.
+
+mod embedding;
+mod topology;
+
+use linduvar_tests::random::{self, Random};
+use std::time::Instant;
+
+fn main() {
+    let seed = random::seed();
+    let mut random = Random::new(seed);
+    println!("seed {seed}; ns per call");
+    println!("and in brackets the time of Rattle over that of Rust");
+    topology::run(&mut random);
+    embedding::run(&mut random);
+}
+
+/// Nanoseconds that the fastest of some rounds took.
+fn best_of(rounds: usize, mut round: impl FnMut()) -> f64 {
+    let mut best = f64::INFINITY;
+    for _ in 0..rounds {
+        let start = Instant::now();
+        round();
+        best = best.min(start.elapsed().as_nanos() as f64);
+    }
+    best
+}

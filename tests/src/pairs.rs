@@ -1,0 +1,148 @@
+//! Random pairs of a source and a target.
+
+use crate::generate::{self, SHAPES};
+use crate::random::Random;
+use crate::topology::{Topology, MOST_CHILDREN, MOST_STEPS_DOWN, TARGET_NODES};
+
+/// Any size from `least` to `most`, which is the most frequent.
+fn size(random: &mut Random, least: usize, most: usize) -> usize {
+    let any = random.within(least..=most);
+    random.pick(&[any, any, any, most])
+}
+
+/// A tree of any shape with 1 to `most` nodes.
+pub fn tree(random: &mut Random, most: usize) -> Vec<u8> {
+    let nodes = size(random, 1, most);
+    let shape = random.pick(&SHAPES);
+    let depth = random.pick(&[4, 6, MOST_STEPS_DOWN]);
+    let children = random.pick(&[3, 5, MOST_CHILDREN]);
+    generate::tree(random, shape, nodes, depth, children)
+}
+
+/// A source and a target, and a map if the pair was made from one. It meets
+/// the rules, but need not be the least.
+pub struct Drawn {
+    pub source: Vec<u8>,
+    pub target: Vec<u8>,
+    pub map: Option<Vec<u8>>,
+}
+
+/// Two trees that are valid: half of the pairs have a map by their making, a
+/// quarter narrowly miss one or not, and a quarter is unrelated.
+pub fn any(random: &mut Random, source_nodes: usize, target_nodes: usize) -> Drawn {
+    match random.below(4) {
+        0 | 1 => embedded(random, source_nodes, target_nodes),
+        2 => {
+            let drawn = embedded(random, source_nodes - 1, target_nodes);
+            let nodes = drawn.source.len() + 1;
+            let (source, _) = grown(random, &drawn.source, nodes);
+            Drawn {
+                source,
+                target: drawn.target,
+                map: None,
+            }
+        }
+        _ => Drawn {
+            source: tree(random, source_nodes),
+            target: tree(random, target_nodes),
+            map: None,
+        },
+    }
+}
+
+/// A target grown around a source.
+pub fn embedded(random: &mut Random, source_nodes: usize, target_nodes: usize) -> Drawn {
+    let source = tree(random, source_nodes);
+    let nodes = size(random, source.len(), target_nodes);
+    let (target, map) = grown(random, &source, nodes);
+    let map = Some(map);
+    Drawn {
+        source,
+        target,
+        map,
+    }
+}
+
+/// A tree around `source`, of `nodes` nodes where there is room for them, and
+/// the map from one into the other.
+///
+/// New nodes come between a node and its child, or as new children of inner
+/// nodes; in the end the children of every node are shuffled.
+pub fn grown(random: &mut Random, source: &[u8], nodes: usize) -> (Vec<u8>, Vec<u8>) {
+    let source = Topology::read(source, TARGET_NODES).expect("a valid tree");
+    let mut tree = Growing {
+        children_of: (0..source.node_count())
+            .map(|node| source.children(node).to_vec())
+            .collect(),
+    };
+    let source_leaf: Vec<bool> = (0..source.node_count())
+        .map(|node| source.child_count(node) == 0)
+        .collect();
+    for _ in 0..20 * nodes {
+        let size = tree.children_of.len();
+        if size >= nodes {
+            break;
+        }
+        let parent = random.below(size);
+        let children = tree.children_of[parent].clone();
+        let depth = tree.depth(parent);
+        if random.one_in(2) {
+            let barred = source_leaf.get(parent) == Some(&true);
+            if !barred && depth < MOST_STEPS_DOWN && children.len() < MOST_CHILDREN {
+                tree.children_of[parent].push(size);
+                tree.children_of.push(vec![]);
+            }
+        } else if !children.is_empty() {
+            let at = random.below(children.len());
+            if depth + 2 + tree.height(children[at]) <= MOST_STEPS_DOWN {
+                tree.children_of[parent][at] = size;
+                tree.children_of.push(vec![children[at]]);
+            }
+        }
+    }
+    for children in &mut tree.children_of {
+        for last in (1..children.len()).rev() {
+            children.swap(last, random.within(0..=last));
+        }
+    }
+    let mut order = Vec::new();
+    tree.preorder(0, &mut order);
+    let bytes = order
+        .iter()
+        .map(|&node| tree.children_of[node].len() as u8)
+        .collect();
+    let mut map = vec![0; source.node_count()];
+    for (number, &node) in order.iter().enumerate() {
+        if node < map.len() {
+            map[node] = number as u8;
+        }
+    }
+    (bytes, map)
+}
+
+/// A tree whose nodes are numbered as they come, those of the source first.
+struct Growing {
+    children_of: Vec<Vec<usize>>,
+}
+
+impl Growing {
+    fn depth(&self, node: usize) -> usize {
+        let parent = self.children_of.iter().position(|of| of.contains(&node));
+        parent.map_or(0, |parent| self.depth(parent) + 1)
+    }
+
+    fn height(&self, node: usize) -> usize {
+        let below = self.children_of[node].iter();
+        below
+            .map(|&child| self.height(child) + 1)
+            .max()
+            .unwrap_or(0)
+    }
+
+    fn preorder(&self, node: usize, order: &mut Vec<usize>) {
+        order.push(node);
+        for &child in &self.children_of[node] {
+            self.preorder(child, order);
+        }
+    }
+}

@@ -1,0 +1,56 @@
+//! The map check and the search of the Rattle library, made safe to call on
+//! slices.
+
+mod boundary {
+    extern "C" {
+        pub fn linduvar_check(
+            source: *const u8,
+            source_len: usize,
+            target: *const u8,
+            target_len: usize,
+            map: *const u8,
+            map_len: usize,
+        ) -> u8;
+        pub fn linduvar_search(
+            source: *const u8,
+            source_len: usize,
+            target: *const u8,
+            target_len: usize,
+            map: *mut u8,
+            map_len: usize,
+        ) -> u8;
+    }
+}
+
+// Safety, for both calls below: each pointer and the length after it are those
+// of one slice, which outlives the call. The library writes to the map of a
+// search alone, and that is borrowed for writing.
+
+/// 0 if the map passes, else the refusal.
+pub fn check(source: &[u8], target: &[u8], map: &[u8]) -> u8 {
+    unsafe {
+        boundary::linduvar_check(
+            source.as_ptr(),
+            source.len(),
+            target.as_ptr(),
+            target.len(),
+            map.as_ptr(),
+            map.len(),
+        )
+    }
+}
+
+/// 0 and the least map in the first 32 bytes of `map`, or the refusal and
+/// zeros there. 255 if `map` is shorter, and then nothing is written.
+pub fn search(source: &[u8], target: &[u8], map: &mut [u8]) -> u8 {
+    unsafe {
+        boundary::linduvar_search(
+            source.as_ptr(),
+            source.len(),
+            target.as_ptr(),
+            target.len(),
+            map.as_mut_ptr(),
+            map.len(),
+        )
+    }
+}
