@@ -2,6 +2,7 @@
 use super::Entry;
 use super::Item;
 use super::Path;
+use super::index::wide;
 use topology::Found;
 ghost use mathlib.Core.Path.{_≡_};
 ghost use mathlib.Core.Logic.{_≢_, _⊎_};
@@ -75,12 +76,6 @@ pub(crate) fn walk(bytes: &[u8], path: Path, packet: u32) -> Added
         entries,
         count: i + 1,
     }
-}
-
-fn wide(b: u8) -> usize
-    ensures { λ r. ⌜ (r ≡ b) × (r < 256) ⌝ }
-{
-    b as usize
 }
 
 // Whether a new entry goes right behind an old one of its queue.

@@ -1,6 +1,7 @@
 // A pop: the head of every queue, the way down from the root by these heads, and the heads on the way taken out.
 use super::Entry;
 use super::Item;
+use super::index::wide;
 use topology::Found;
 ghost use mathlib.Core.Path.{_≡_};
 ghost use Prim.Native.Nat.{ℕ, _≤_, _<_};
@@ -29,12 +30,6 @@ pub(crate) struct Rest {
     pub owners: [u8; 2304],
     pub entries: [Entry; 2304],
     pub used: usize,
-}
-
-fn wide(b: u8) -> usize
-    ensures { λ r. ⌜ (r ≡ b) × (r < 256) ⌝ }
-{
-    b as usize
 }
 
 // From the last entry to the first, so that the first of each queue stays.

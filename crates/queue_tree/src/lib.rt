@@ -4,6 +4,7 @@
 // own entries, head first. 256 packets on 9 nodes each make 2304 entries at the most.
 mod arrivals;
 mod departures;
+mod index;
 mod opening;
 mod soundness;
 

@@ -2,6 +2,7 @@
 use super::Entry;
 use super::Item;
 use super::State;
+use super::index::wide;
 use topology::Reading;
 use topology::TARGET_NODES;
 ghost use mathlib.Core.Path.{_≡_};
@@ -16,12 +17,6 @@ pub(crate) struct Counted {
     pub sound: bool,
     pub lengths: [u16; 64],
     pub counts: [u16; 576],
-}
-
-fn wide(b: u8) -> usize
-    ensures { λ r. ⌜ (r ≡ b) × (r < 256) ⌝ }
-{
-    b as usize
 }
 
 // The child number of an item that a node with `children` children may hold, 0 for a packet; 9 where it may not hold the item.

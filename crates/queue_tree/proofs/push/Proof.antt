@@ -1,3 +1,4 @@
+-- The cases of a push in the order of the tests: 18, 13 and 14, 15, and the packet that enters.
 use borrow.Author.Needs.{needs}
 use native.Mathlib.Omega.{arith}
 use mathlib.Core.Path.{sym, _∙_}

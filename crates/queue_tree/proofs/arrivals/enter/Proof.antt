@@ -1,3 +1,4 @@
+-- The loop moves old entries up and puts new ones in (`Entering` in proofs/Entering.antt).
 use borrow.Author.Needs.{needs}
 use native.Mathlib.Omega.{arith}
 use mathlib.Core.Path.{refl}

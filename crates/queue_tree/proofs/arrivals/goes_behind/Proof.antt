@@ -1,3 +1,4 @@
+-- The two tests, either way.
 use mathlib.Core.Logic.{inl, inr}
 use Rattle.queue_tree.proofs.Matches.{is-yes, is-not}
 use Rattle.queue_tree.proofs.arrivals.goes_behind.Statement.{statement}

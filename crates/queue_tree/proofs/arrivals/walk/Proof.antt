@@ -1,3 +1,4 @@
+-- The loop has walked the first i steps and noted their entries (`Way` in proofs/Walking.antt).
 use borrow.Author.Needs.{needs}
 use native.Mathlib.Omega.{arith}
 use mathlib.Core.Path.{refl}

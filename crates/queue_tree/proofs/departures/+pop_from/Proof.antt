@@ -1,3 +1,4 @@
+-- By recursion on the nodes left: the cases of the queue's head, as proofs/Descending.antt has them.
 use mathlib.Core.Path.{refl}
 use borrow.Author.Needs.{needs}
 use borrow.Author.Tests.{not-true, not-false}

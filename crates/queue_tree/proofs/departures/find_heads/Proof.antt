@@ -1,3 +1,4 @@
+-- The loop has the heads of the queues among the entries from i on (proofs/Tops.antt).
 use borrow.Author.Needs.{needs}
 use native.Mathlib.Omega.{arith}
 use mathlib.Core.Path.{refl}

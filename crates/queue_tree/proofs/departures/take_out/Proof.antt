@@ -1,3 +1,4 @@
+-- The loop has passed the entries before i and kept those that stay (`Leaving` in proofs/Leaving.antt).
 use borrow.Author.Needs.{needs}
 use native.Mathlib.Omega.{arith}
 use Prim.Native.Nat.{_-_}

@@ -1,3 +1,4 @@
+-- The loop has matched the nodes before `node`.
 use borrow.Author.Needs.{needs}
 use native.Mathlib.Omega.{arith}
 use Prim.Native.Nat.{ℕ, _≤_, _<_, _-_}

@@ -1,3 +1,4 @@
+-- The loop has matched the children before i; `child` is the next child's number.
 use borrow.Author.Needs.{needs}
 use native.Mathlib.Omega.{arith}
 use Prim.Native.Nat.{_-_}

@@ -1,3 +1,4 @@
+-- The tests in turn; each that fails says what the state lacks, and all together make it well formed.
 use borrow.Author.Needs.{needs}
 use native.Mathlib.Omega.{arith}
 use mathlib.Core.Path.{refl, sym, _∙_}

@@ -1,3 +1,4 @@
+-- The cases of an item and of the node's number of children.
 use borrow.Author.Needs.{needs}
 use native.Mathlib.Omega.{arith}
 use Rattle.queue_tree.proofs.Slots.{slot-zero, slot-beyond, slot-child, slot-packet, slot-wrong}

@@ -1,3 +1,4 @@
+-- The loop has counted the entries before i (`Pass` in proofs/Pass.antt).
 use borrow.Author.Needs.{needs}
 use native.Mathlib.Omega.{arith}
 use mathlib.Core.Path.{refl, sym}
