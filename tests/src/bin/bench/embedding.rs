@@ -27,11 +27,24 @@ pub fn run(random: &mut Random) {
             .map(|drawn| (drawn.source, drawn.target))
             .collect()
     };
-    search("embed, 8 in 12", &embedded(8, 12));
+    // How the time grows with the nodes, and then with one node's children.
+    for nodes in [4, 8, 16] {
+        let pairs = embedded(nodes, 2 * nodes);
+        search(&format!("embed, {nodes} in {}", 2 * nodes), &pairs);
+    }
     let large = embedded(SOURCE_NODES, TARGET_NODES);
     search("embed, 32 in 64", &large);
+    for children in [1, 2, 4, 6, 8] {
+        search(
+            &format!("{children} leaves, chains"),
+            &[(fan(children), bunch(7, 8))],
+        );
+    }
 
     search("chains", &[(bunch(8, 3), bunch(7, 8))]);
+    let stars = [vec![7], fan(8).repeat(3), vec![0; 4]].concat();
+    let spine = [[8, 0, 0, 0, 0, 0, 0, 0].repeat(7), fan(7)].concat();
+    search("stars, a spine", &[(stars, spine)]);
     let source = [vec![8], fan(8), fan(8), fan(7), vec![0; 5]].concat();
     let few = [vec![8], fan(7).repeat(6), fan(8), vec![1; 5], vec![0]].concat();
     let enough = [vec![8], fan(7).repeat(5), fan(8), vec![0, 1], fan(8)].concat();
