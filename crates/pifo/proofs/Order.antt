@@ -66,9 +66,6 @@ module _ {P : Type 0} where
       by-test true p = Permᴰ·refl (e ∷ f ∷ q)
       by-test false p = List·Permᴰ·trans (List·Permᴰ·cons refl p) (List·Permᴰ·swap refl refl)
 
-  pub length-insert : (e : Entry P) (q : List (Entry P)) → length (insert e q) ≡ suc (length q)
-  length-insert e q = length-perm (insert-perm e q)
-
   pub occurs-insert : (i : ℕ) (e : Entry P) (q : List (Entry P)) → occurs i (insert e q) ≡ isOf i (item e) + occurs i q
   occurs-insert i e [] = refl
   occurs-insert i e (f ∷ q) = by-test (ltb (rank e) (rank f)) (occurs-insert i e q)
