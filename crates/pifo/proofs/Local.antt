@@ -1,21 +1,21 @@
 -- The test of a tree by node number: a tree with the given queues is well formed exactly where each node by itself is, that is, no rank
 -- falls in its queue, it may hold its items, and each child occurs in it as often as that child's own queue is long.
 use mathlib.Core.Path.{_≡_, refl, sym, ap, _∙_, subst, subst₂}
-use Prim.Native.Nat.{ℕ, zero, suc, _+_, _≤_, _<_}
+use Prim.Native.Nat.{ℕ, zero, suc, _+_, _<_}
 use native.Mathlib.Nat.{add-zero, not-suc-le-zero, le-of-suc-le-suc}
 use native.Mathlib.Omega.{arith}
 use mathlib.Core.List.{List}
-use mathlib.Core.Bool.{Bool, true, false, _&&_}
+use mathlib.Core.Bool.{true, _&&_}
 use lib.ListN.{length}
 use lib.Dec.{eqb}
 use borrow.Author.Tests.{eqb-true, eq-eqb}
 use Rattle.topology.specs.Tree.{Topo, Forest, node, fnil, fcons, count, kids, width, size, sizes}
-use Rattle.topology.specs.Address.{Addr, nth, ahead, addr, sub, subtree, childOf}
+use Rattle.topology.specs.Address.{Addr, nth, ahead, sub, subtree, childOf}
 use Rattle.topology.proofs.Numbering.{ahead-lt, addr-child, addr-root, node-ind}
 use Rattle.topology.proofs.Ancestry.{size-pos}
 use Rattle.topology.proofs.Children.{childOf-ahead}
 use Rattle.pifo.specs.Queue.{Entry, risesFrom, allowed, every, occurs}
-use Rattle.pifo.specs.Tree.{PTree, PForest, pnode, pnil, pcons, shapes, well}
+use Rattle.pifo.specs.Tree.{shapes, well}
 use Rattle.pifo.specs.Numbered.{Queues, kidAt, assemble, assembleAll}
 use Rattle.pifo.proofs.Order.{both, join}
 use Rattle.pifo.proofs.Wellness.{root-queue, matched, local, locals, local-well, well-local}

@@ -8,14 +8,14 @@ use mathlib.Core.Bool.{Bool, true, false, _&&_, _||_}
 use mathlib.Core.Option.{Option, none, some}
 use lib.Dec.{eqb, leb, ltb}
 use borrow.Author.Tests.{eqb-true, leb-true, ltb-true, ltb-false, eq-eqb, ne-eqb}
-use Rattle.topology.specs.Tree.{Topo, Forest, node, fnil, fcons, leaf, count, kids, width, size, sizes, height, heights}
+use Rattle.topology.specs.Tree.{Topo, Forest, node, fnil, fcons, count, kids, width, size, sizes, height}
 use Rattle.topology.specs.Address.{nth, ahead}
 use Rattle.topology.specs.Reader.{pick}
 use Rattle.topology.proofs.Numbering.{ahead-lt}
 use Rattle.topology.proofs.Ancestry.{size-pos, nth-height}
-use Rattle.pifo.specs.Queue.{Entry, Item, child, packet, entry, insert}
+use Rattle.pifo.specs.Queue.{Entry, child, packet, entry}
 use Rattle.pifo.specs.Tree.{Step, step, pathFault, PTree, PForest, pnode, pnil, pcons, shape, shapes, empty, empties, push, pushAt, pop, popAt, with-queue, with-later, with-elder}
-use Rattle.pifo.specs.Numbered.{Queues, kidAt, assemble, assembleAll, entered, insertSome, pushed, through, descentBy, descent, isIn, rest, popped}
+use Rattle.pifo.specs.Numbered.{Queues, kidAt, assemble, assembleAll, entered, pushed, through, descentBy, descent, isIn, rest, popped}
 
 -- a step without fault leads to a child, and the rest of the path has none there
 pub path-step : (t : Topo) (i r : ℕ) (ss : List Step) → pathFault t (step (suc i) r ∷ ss) ≡ 0 → (i < width t) × (pathFault (nth (kids t) i) ss ≡ 0)

@@ -2,15 +2,13 @@
 -- says where the entry stands: behind every entry of no greater rank and before all others. So entries of equal rank leave in order of
 -- arrival.
 use mathlib.Core.Path.{_≡_, refl, sym, ap, _∙_}
-use Prim.Native.Nat.{ℕ, suc, _+_, _≤_, _<_}
+use Prim.Native.Nat.{ℕ, _+_, _≤_, _<_}
 use native.Mathlib.Omega.{arith}
 use mathlib.Core.List.{List, [], _∷_, _++_, append-nil, List·Permᴰ, List·Permᴰ·cons, List·Permᴰ·swap, List·Permᴰ·trans, Permᴰ·refl}
 use mathlib.Core.Bool.{Bool, true, false, _&&_}
-use lib.ListN.{length}
 use lib.Seq.{append-snoc}
 use lib.Dec.{leb, ltb}
 use borrow.Author.Tests.{leb-true, ltb-true, ltb-false, le-leb, le-ltb}
-use Rattle.lists.proofs.Permutation.{length-perm}
 use Rattle.topology.specs.Reader.{pick}
 use Rattle.pifo.specs.Queue.{Entry, Item, rank, item, insert, risesFrom, every, isOf, occurs}
 

@@ -1,13 +1,11 @@
 -- How many entries a well-formed tree has in all: at most one on each level for each packet that it holds.
 use mathlib.Core.Path.{_≡_, refl, sym, ap, _∙_, subst}
-use Prim.Native.Nat.{ℕ, zero, suc, _+_, _*_, _≤_, _<_, max, zero-le}
+use Prim.Native.Nat.{ℕ, zero, suc, _+_, _*_, _≤_, max, zero-le}
 use native.Mathlib.Nat.{mul-le-mul-left, mul-le-mul-right, mul-add, suc-mul, zero-add, add-zero}
 use native.Mathlib.Omega.{arith}
-use mathlib.Core.List.{List, [], _∷_, _++_}
 use mathlib.Core.Bool.{true}
 use lib.ListN.{length, length-append}
 use Rattle.topology.specs.Tree.{Topo, Forest, node, fnil, fcons, size, sizes, height, heights}
-use Rattle.pifo.specs.Queue.{Entry}
 use Rattle.pifo.specs.Tree.{PTree, PForest, pnode, pnil, pcons, shape, shapes, packets, packetsIn, packetsOf, leafQueue, held, well, wells}
 use Rattle.pifo.specs.Numbered.{Queues, assemble, assembleAll}
 use Rattle.pifo.proofs.Order.{both}

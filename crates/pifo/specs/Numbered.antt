@@ -2,13 +2,13 @@
 -- `proofs/Numbered.antt` shows that these are push and pop of `Tree.antt`.
 use Prim.Native.Nat.{ℕ, zero, suc, _+_}
 use mathlib.Core.List.{List, [], _∷_}
-use mathlib.Core.Bool.{Bool, true, false, _||_}
+use mathlib.Core.Bool.{Bool, false, _||_}
 use mathlib.Core.Option.{Option, none, some}
 use lib.Dec.{eqb, ltb}
 use Rattle.topology.specs.Tree.{Topo, Forest, node, fnil, fcons, kids, width, size}
 use Rattle.topology.specs.Address.{nth, ahead}
 use Rattle.topology.specs.Reader.{pick}
-use Rattle.pifo.specs.Queue.{Entry, Item, child, packet, entry, insert}
+use Rattle.pifo.specs.Queue.{Entry, child, packet, entry, insert}
 use Rattle.pifo.specs.Tree.{Step, step, PTree, PForest, pnode, pnil, pcons}
 
 -- the number of child i + 1 of the root of t, where that root is node k

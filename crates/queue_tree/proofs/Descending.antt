@@ -1,7 +1,7 @@
 -- The way down from a node: the cases of `pop_from`, each as the definition's `descent` has it.
 use mathlib.Core.Path.{_≡_, refl, sym, ap, _∙_, subst}
 use mathlib.Core.Logic.{_≢_}
-use Prim.Native.Nat.{ℕ, zero, suc, _+_, _-_, _≤_, _<_}
+use Prim.Native.Nat.{ℕ, zero, suc, _-_, _<_}
 use native.Mathlib.Decide.{ℕ-discrete}
 use native.Mathlib.Omega.{arith}
 use mathlib.Core.List.{List, [], _∷_}
@@ -11,7 +11,7 @@ use lib.ListN.{length, getD, set, replicate, length-set, length-replicate}
 use lib.Seq.{getD-set-same, getD-set-other}
 use lib.Dec.{eqb, ltb}
 use borrow.Author.Tests.{eq-eqb, ne-eqb, lt-ltb, ltb-true}
-use Rattle.topology.specs.Tree.{Topo, kids, width, size}
+use Rattle.topology.specs.Tree.{Topo, kids, width}
 use Rattle.topology.specs.Address.{nth, child as childTree, subtree, childOf}
 use Rattle.topology.specs.Reader.{pick, fault, tree}
 use Rattle.topology.specs.Branch.{childAt}

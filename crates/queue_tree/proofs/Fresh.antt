@@ -1,12 +1,12 @@
 -- An opening: a state with no entries is the empty tree, and well formed where the topology and the limit are.
-use mathlib.Core.Path.{_≡_, refl, sym, ap, _∙_, subst}
+use mathlib.Core.Path.{_≡_, refl, sym, ap, _∙_}
 use mathlib.Core.Logic.{_≢_}
 use Prim.Native.Nat.{ℕ, zero, suc, _+_, _≤_, _<_}
 use Prim.Native.Nat.{zero-le}
 use native.Mathlib.Nat.{not-suc-le-zero}
 use native.Mathlib.Decide.{ℕ-discrete}
 use native.Mathlib.Omega.{arith}
-use mathlib.Core.List.{List, []}
+use mathlib.Core.List.{List}
 use mathlib.Core.Bool.{Bool, true, false, _&&_}
 use lib.ListN.{length, take, getD, set, length-set}
 use lib.Seq.{length-take-le, getD-take, getD-set-same, getD-set-other, ext-getD}
@@ -25,10 +25,8 @@ use Rattle.pifo.proofs.Numbered.{empty-assemble}
 use Rattle.pifo.proofs.Runs.{opened-sound}
 use Rattle.queue_tree.specs.State.{queueIn, queues, bytes, treeOf, machine, allBelow, wellFormed}
 use Rattle.queue_tree.specs.Calls.{limitFault, openFault, Opens, Empty}
-use Rattle.queue_tree.specs.declared.State.{State}
 use Rattle.queue_tree.specs.declared.Opened.{Opened}
-use Rattle.queue_tree.proofs.Matches.{off}
-use Rattle.queue_tree.proofs.Verdict.{Formed, formed, form}
+use Rattle.queue_tree.proofs.Verdict.{formed, form}
 
 -- ---- the refusal
 

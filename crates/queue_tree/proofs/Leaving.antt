@@ -7,12 +7,11 @@ use native.Mathlib.Numerals.{add-one}
 use native.Mathlib.Decide.{ℕ-discrete}
 use native.Mathlib.Omega.{arith}
 use mathlib.Core.List.{List, [], _∷_, _++_, map, append-nil}
-use mathlib.Core.Bool.{Bool, true}
+use mathlib.Core.Bool.{true}
 use lib.ListN.{length, take, drop, getD, set, length-set}
-use lib.Seq.{take-suc-set, drop-drop, drop-set-lt, getD-set-same, getD-set-other, getD-take, getD-drop, length-take-le, append-snoc, take-set-le, take-set-lt}
+use lib.Seq.{take-suc-set, drop-drop, drop-set-lt, getD-set-same, getD-set-other, getD-take, getD-drop, length-take-le, append-snoc, take-set-le}
 use borrow.Author.Tests.{lt-ltb}
 use Rattle.pifo.specs.Queue.{Entry}
-use Rattle.pifo.specs.Numbered.{rest}
 use Rattle.pifo.proofs.Order.{join}
 use Rattle.queue_tree.specs.State.{entryOf, owned, queueIn, allBelow}
 use Rattle.queue_tree.specs.Sound.{noEntry}

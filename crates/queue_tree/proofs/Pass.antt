@@ -1,7 +1,7 @@
 -- The pass over the entries: what holds when the first i entries have been read without fault, how one more entry keeps it, and what a
 -- fault says of the whole.
 use mathlib.Core.Path.{_≡_, refl, sym, ap, _∙_, subst}
-use mathlib.Core.Logic.{_≢_, _⊎_, inl, inr}
+use mathlib.Core.Logic.{_≢_, _⊎_}
 use Prim.Native.Nat.{ℕ, zero, suc, _+_, _-_, _*_, _≤_, _<_}
 use native.Mathlib.Nat.{not-suc-le-zero, le-of-suc-le-suc}
 use native.Mathlib.Decide.{ℕ-discrete, decLt}
@@ -10,10 +10,10 @@ use mathlib.Core.List.{List, [], _∷_, _++_}
 use mathlib.Core.Bool.{Bool, true, false, _&&_}
 use lib.ListN.{length, take, getD, set, replicate, length-set, length-append, getD-replicate, length-replicate, List·getD-eq-default}
 use lib.Seq.{getD-set-same, getD-set-other, take-suc, getD-take, length-take-le}
-use lib.Dec.{eqb, ltb, leb}
-use borrow.Author.Tests.{eq-eqb, ne-eqb, lt-ltb, le-ltb, le-leb, lt-leb, ltb-true}
+use lib.Dec.{ltb, leb}
+use borrow.Author.Tests.{eq-eqb, ne-eqb, lt-ltb, le-leb, lt-leb, ltb-true}
 use Rattle.topology.specs.Reader.{pick}
-use Rattle.pifo.specs.Queue.{Entry, Item, risesFrom, every, allowed, isOf, occurs}
+use Rattle.pifo.specs.Queue.{Entry, risesFrom, every, allowed, isOf, occurs}
 use Rattle.pifo.proofs.Append.{lastFrom, last-append, rises-append, every-append, occurs-append}
 use Rattle.queue_tree.specs.State.{entryOf, itemOf, queueIn, allBelow}
 use Rattle.queue_tree.specs.Sound.{Slot, Counts, fine, noEntry, Tallied}

@@ -1,9 +1,9 @@
 -- A pop's answers case by case: what the code found, and the machine's answer.
 use mathlib.Core.Path.{_≡_, refl, sym, ap, _∙_, subst}
-use Prim.Native.Nat.{ℕ, zero, suc, _≤_, _<_}
+use Prim.Native.Nat.{ℕ, _≤_, _<_}
 use native.Mathlib.Omega.{arith}
 use mathlib.Core.List.{List, [], _∷_}
-use mathlib.Core.Bool.{Bool, true, false, _&&_}
+use mathlib.Core.Bool.{Bool, true, false}
 use mathlib.Core.Option.{Option, none, some}
 use lib.ListN.{length, take, getD}
 use lib.Seq.{length-take-le}
@@ -11,15 +11,14 @@ use lib.Dec.{ltb}
 use borrow.Author.Tests.{lt-ltb, ltb-true}
 use Rattle.pifo.proofs.Order.{both, join}
 use Rattle.lists.proofs.Permutation.{length-perm}
-use Rattle.topology.specs.Tree.{Topo, size}
 use Rattle.topology.specs.Address.{Addr, sub, subtree}
-use Rattle.topology.specs.Reader.{pick, fault, tree}
+use Rattle.topology.specs.Reader.{pick, tree}
 use Rattle.topology.proofs.Numbering.{addr-root}
 use Rattle.topology.proofs.Reader.{within}
 use Rattle.topology.proofs.Lookup.{valid-size}
 use Rattle.pifo.specs.Queue.{Entry}
-use Rattle.pifo.specs.Tree.{PTree, pop, held, well}
-use Rattle.pifo.specs.Numbered.{Queues, assemble, descent, isIn, rest, popped}
+use Rattle.pifo.specs.Tree.{PTree, pop, held}
+use Rattle.pifo.specs.Numbered.{assemble, descent, isIn, rest, popped}
 use Rattle.pifo.specs.Machine.{popping, Answer, departed, refused, full, servePop, holding}
 use Rattle.pifo.proofs.Numbered.{taken, assemble-same, pop-assemble}
 use Rattle.pifo.proofs.Pop.{pop-none, pop-some}

@@ -1,13 +1,12 @@
 -- Queues among the entries of a range of the arrays, and what a store before the range adds to it.
 use mathlib.Core.Path.{_≡_, refl, sym, ap, _∙_}
 use mathlib.Core.Logic.{_≢_}
-use Prim.Native.Nat.{ℕ, zero, suc, _+_, _-_, _≤_, _<_}
-use native.Mathlib.Nat.{not-suc-le-zero, le-of-suc-le-suc}
+use Prim.Native.Nat.{ℕ, suc, _+_, _-_, _≤_, _<_}
 use native.Mathlib.Omega.{arith}
 use mathlib.Core.List.{List, [], _∷_, _++_, map, map-append}
 use mathlib.Core.Bool.{Bool, true, false}
-use lib.ListN.{length, take, drop, getD, set, length-set, length-take, take-append-drop}
-use lib.Seq.{slice, slice-cons, slice-empty, getD-set-same, take-set-lt, drop-set-lt, take-take, length-take-le}
+use lib.ListN.{length, take, getD, set}
+use lib.Seq.{slice, slice-cons, slice-empty, length-take-le}
 use lib.Dec.{eqb}
 use Rattle.lists.proofs.Slice.{take-slice, slice-set}
 use borrow.Author.Tests.{eq-eqb, ne-eqb}

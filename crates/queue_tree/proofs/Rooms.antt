@@ -1,12 +1,11 @@
 -- A well-formed state has room for every push that it accepts: its entries are at most nine for each packet held.
 use mathlib.Core.Path.{_≡_, refl, sym, ap, _∙_}
-use mathlib.Core.Logic.{_≢_}
 use Prim.Native.Nat.{ℕ, zero, suc, _+_, _*_, _≤_, _<_}
-use native.Mathlib.Nat.{not-suc-le-zero, mul-le-mul-right}
+use native.Mathlib.Nat.{mul-le-mul-right}
 use native.Mathlib.Decide.{ℕ-discrete}
 use native.Mathlib.Omega.{arith}
 use mathlib.Core.List.{List, [], _∷_}
-use mathlib.Core.Bool.{Bool, true, false, _&&_}
+use mathlib.Core.Bool.{Bool, true, false}
 use lib.ListN.{length, take}
 use lib.Seq.{length-take-le}
 use lib.Dec.{eqb, ltb}
@@ -16,8 +15,7 @@ use Rattle.topology.specs.Tree.{size, height}
 use Rattle.topology.specs.Reader.{pick, tree}
 use Rattle.topology.proofs.Reader.{within}
 use Rattle.topology.proofs.Lookup.{valid-size}
-use Rattle.pifo.specs.Tree.{shape, held, well}
-use Rattle.pifo.specs.Numbered.{assemble}
+use Rattle.pifo.specs.Tree.{shape, held}
 use Rattle.pifo.proofs.Order.{both}
 use Rattle.pifo.proofs.Numbered.{shape-assemble}
 use Rattle.pifo.proofs.Total.{total, total-held, total-assemble, sumFrom}

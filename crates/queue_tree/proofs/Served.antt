@@ -1,30 +1,28 @@
 -- A call's answers case by case: what the code found, and the machine's answer.
 use mathlib.Core.Path.{_≡_, refl, sym, ap, _∙_, subst}
 use mathlib.Core.Logic.{_≢_}
-use Prim.Native.Nat.{ℕ, zero, suc, _+_, _*_, _≤_, _<_, min}
+use Prim.Native.Nat.{ℕ, zero, suc, _+_, _≤_, _<_, min}
 use native.Mathlib.Omega.{arith}
 use mathlib.Core.List.{List}
 use mathlib.Core.Bool.{Bool, true, false}
 use lib.ListN.{length, take}
 use lib.Seq.{length-take-le}
-use lib.Dec.{leb}
-use borrow.Author.Tests.{le-leb, lt-leb}
-use Rattle.topology.specs.Tree.{Topo, size}
-use Rattle.topology.specs.Reader.{pick, fault, tree}
+use Rattle.topology.specs.Tree.{Topo}
+use Rattle.topology.specs.Reader.{fault, tree}
 use Rattle.topology.proofs.Lookup.{valid-size}
 use native.Mathlib.Nat.{zero-add}
 use mathlib.Core.Option.{Option}
 use Rattle.pifo.specs.Queue.{Entry, risesFrom}
 use Rattle.pifo.proofs.Local.{well-all}
-use Rattle.pifo.specs.Tree.{Step, pathFault, PTree, push, shape, held, well}
-use Rattle.pifo.specs.Numbered.{assemble, pushed, insertSome}
-use Rattle.pifo.specs.Machine.{Machine, Call, pushing, popping, Answer, accepted, refused, full, serve, holding, most, counting as count}
+use Rattle.pifo.specs.Tree.{Step, pathFault, push, shape, held, well}
+use Rattle.pifo.specs.Numbered.{pushed, insertSome}
+use Rattle.pifo.specs.Machine.{Machine, Call, pushing, Answer, accepted, refused, full, serve, holding, most, counting as count}
 use Rattle.pifo.proofs.Numbered.{shape-assemble, assemble-same, push-assemble}
 use Rattle.pifo.proofs.Push.{push-well, push-held}
 use Rattle.pifo.proofs.Answers.{push-fault, push-full, push-accepted}
-use Rattle.queue_tree.specs.State.{queueIn, queues, bytes, treeOf, machine, allBelow, inBounds, wellFormed}
+use Rattle.queue_tree.specs.State.{queueIn, queues, bytes, treeOf, machine, inBounds, wellFormed}
 use Rattle.queue_tree.specs.Sound.{Tests}
-use Rattle.queue_tree.specs.Arrivals.{Walked, Ready, Entered, addedAt}
+use Rattle.queue_tree.specs.Arrivals.{Walked, Ready, Entered}
 use Rattle.queue_tree.specs.Calls.{amount, Serves, counting}
 use Rattle.queue_tree.specs.declared.Amount.the-variants.{Count, Refused}
 use Rattle.queue_tree.specs.declared.State.{State}

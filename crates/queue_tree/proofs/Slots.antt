@@ -1,13 +1,12 @@
 -- The cases of `slot`: which item a node may hold, and how it counts.
-use mathlib.Core.Path.{_≡_, refl, sym, ap, _∙_, subst}
+use mathlib.Core.Path.{_≡_, refl, sym, ap}
 use mathlib.Core.Logic.{_≢_}
 use Prim.Native.Nat.{ℕ, zero, suc, _≤_, _<_}
-use native.Mathlib.Nat.{not-suc-le-zero}
 use native.Mathlib.Omega.{arith}
 use mathlib.Core.Bool.{Bool, true, false, _&&_}
-use lib.Dec.{leb, eqb}
+use lib.Dec.{leb}
 use borrow.Author.Tests.{le-leb, lt-leb, ne-eqb}
-use Rattle.pifo.specs.Queue.{Item, child, packet, allowed, isOf}
+use Rattle.pifo.specs.Queue.{Item, child, packet, allowed}
 use Rattle.queue_tree.specs.State.{itemOf}
 use Rattle.queue_tree.specs.Sound.{Slot}
 use Rattle.queue_tree.specs.declared.Item.{Item as CodeItem}

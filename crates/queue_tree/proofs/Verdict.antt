@@ -1,7 +1,7 @@
 -- The verdict on a state: `wellFormed` taken apart and put together, and how the pass and the comparison of the counts decide it.
 use mathlib.Core.Path.{_≡_, refl, sym, ap, _∙_, subst, subst₂}
 use mathlib.Core.Logic.{⊎-elim}
-use Prim.Native.Nat.{ℕ, zero, suc, _+_, _*_, _≤_, _<_}
+use Prim.Native.Nat.{ℕ, suc, _+_, _≤_, _<_}
 use native.Mathlib.Nat.{zero-add}
 use native.Mathlib.Omega.{arith}
 use mathlib.Core.List.{List, map}
@@ -11,20 +11,20 @@ use lib.ListN.{length, take, getD}
 use lib.Seq.{length-take-le}
 use lib.Dec.{leb, eqb}
 use borrow.Author.Tests.{leb-true, le-leb, eqb-true, eq-eqb}
-use Rattle.topology.specs.Tree.{Topo, node, kids, width, size}
+use Rattle.topology.specs.Tree.{Topo, node, width}
 use Rattle.topology.specs.Address.{subtree, childOf}
 use Rattle.topology.specs.Reader.{fault, tree}
 use Rattle.topology.specs.Branch.{start}
 use Rattle.topology.proofs.Lookup.{valid-size, valid-width, valid-byte, valid-start, start-lt}
 use Rattle.topology.proofs.Ancestry.{size-pos}
-use Rattle.pifo.specs.Queue.{Entry, risesFrom, allowed, every, occurs}
+use Rattle.pifo.specs.Queue.{risesFrom, allowed, every, occurs}
 use Rattle.pifo.specs.Tree.{well, held}
 use Rattle.pifo.specs.Numbered.{Queues, assemble, assembleAll}
 use Rattle.pifo.proofs.Order.{both, join}
 use Rattle.pifo.proofs.Wellness.{length-held}
 use Rattle.pifo.proofs.Local.{LocalAt, AllLocal, all-well, well-all}
 use Rattle.queue_tree.specs.State.{queueIn, queues, bytes, treeOf, allBelow, inBounds, wellFormed}
-use Rattle.queue_tree.specs.Sound.{Counts, fine, Match, AllMatch, Mismatch, Tallied, Tests}
+use Rattle.queue_tree.specs.Sound.{Counts, fine, AllMatch, Mismatch, Tallied, Tests}
 use Rattle.queue_tree.specs.declared.State.{State}
 use Rattle.queue_tree.specs.declared.soundness.Test.{Test}
 use Rattle.queue_tree.specs.declared.soundness.Counted.{Counted}

@@ -1,7 +1,7 @@
 -- The walk down a path: what holds after i steps without fault, and what each step and the end make of it.
 use mathlib.Core.Path.{_≡_, refl, sym, ap, _∙_, subst}
 use mathlib.Core.Logic.{_≢_}
-use Prim.Native.Nat.{ℕ, zero, suc, _+_, _≤_, _<_, min}
+use Prim.Native.Nat.{ℕ, zero, suc, _+_, _≤_, _<_}
 use native.Mathlib.Nat.{not-suc-le-zero, le-of-suc-le-suc}
 use native.Mathlib.Numerals.{add-one}
 use native.Mathlib.Decide.{ℕ-discrete, decLe}
@@ -9,13 +9,13 @@ use native.Mathlib.Omega.{arith}
 use mathlib.Core.List.{List, [], _∷_, map}
 use mathlib.Core.Bool.{Bool, true, false, _&&_}
 use mathlib.Core.Option.{Option, none, some}
-use lib.ListN.{length, take, drop, getD, set, replicate, length-set, length-take, length-replicate, drop-of-length-le, List·getD-eq-default}
+use lib.ListN.{length, take, drop, getD, set, replicate, length-set, length-take, length-replicate, drop-of-length-le}
 use lib.Seq.{drop-cons, getD-set-same, getD-set-other, getD-take}
-use lib.Dec.{eqb, leb}
+use lib.Dec.{leb}
 use borrow.Author.Tests.{eq-eqb, ne-eqb, le-leb, lt-leb}
-use Rattle.lists.proofs.Map.{length-map, getD-map, getD-in}
-use Rattle.topology.specs.Tree.{Topo, node, kids, width, size, height, code}
-use Rattle.topology.specs.Address.{Addr, nth, child, ahead, addr, sub, subtree, childOf, depth}
+use Rattle.lists.proofs.Map.{length-map, getD-map}
+use Rattle.topology.specs.Tree.{Topo, kids, width, size, height, code}
+use Rattle.topology.specs.Address.{nth, child, addr, sub, subtree, childOf, depth}
 use Rattle.topology.specs.Reader.{pick, fault, tree}
 use Rattle.topology.specs.Branch.{childAt}
 use Rattle.topology.specs.declared.Found.the-variants.{Node, Missing}

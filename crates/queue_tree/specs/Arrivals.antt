@@ -8,7 +8,7 @@ use Rattle.topology.specs.Tree.{Topo}
 use mathlib.Core.Bool.{true}
 use Rattle.pifo.specs.Queue.{Entry, risesFrom}
 use Rattle.pifo.specs.Tree.{Step, step, pathFault}
-use Rattle.pifo.specs.Numbered.{Queues, entered, insertSome}
+use Rattle.pifo.specs.Numbered.{entered, insertSome}
 use Rattle.queue_tree.specs.State.{entryOf, queueIn, allBelow}
 use Rattle.queue_tree.specs.Sound.{noEntry}
 use Rattle.queue_tree.specs.declared.Step.{Step as CodeStep}

@@ -6,7 +6,7 @@ use mathlib.Core.List.{List}
 use mathlib.Core.Bool.{Bool, true, false, _&&_}
 use lib.Dec.{leb}
 use Rattle.topology.specs.Reader.{pick, orElse, fault, tree}
-use Rattle.pifo.specs.Machine.{Machine, Call, Answer, accepted, departed, refused, full, serve, opened}
+use Rattle.pifo.specs.Machine.{Call, Answer, accepted, departed, refused, full, serve, opened}
 use Rattle.queue_tree.specs.State.{machine, wellFormed}
 use Rattle.queue_tree.specs.declared.State.{State}
 use Rattle.queue_tree.specs.declared.Opened.{Opened}

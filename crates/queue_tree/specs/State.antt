@@ -1,10 +1,9 @@
 -- A state of the code as a machine: its queues, its tree, and what makes it well formed.
 use Prim.Native.Nat.{ℕ}
 use mathlib.Core.List.{List, [], _∷_, map}
-use mathlib.Core.Bool.{Bool, true, false, _&&_}
-use lib.ListN.{length, take}
+use mathlib.Core.Bool.{Bool, true, _&&_}
+use lib.ListN.{take}
 use lib.Dec.{eqb, leb, ltb}
-use Rattle.topology.specs.Tree.{Topo}
 use Rattle.topology.specs.Reader.{pick, fault, tree}
 use Rattle.pifo.specs.Queue.{Item, Entry, child, packet, entry}
 use Rattle.pifo.specs.Tree.{PTree, well, held}

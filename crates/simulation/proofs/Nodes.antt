@@ -17,7 +17,6 @@ use Rattle.pifo.proofs.Paths.{fault-step}
 use Rattle.embedding_laws.specs.Rules.{image, Passes}
 use Rattle.simulation.specs.Embedding.{imageAt}
 use Rattle.simulation.specs.Carrying.{carryFrom, carry, route, carryNodes}
-use Rattle.simulation.proofs.Prefixes.{above-refl, above-antisym}
 use Rattle.simulation.proofs.Carried.{steps}
 
 pub image-below : (S T : Topo) (m : List ℕ) → Passes S T m → (n i : ℕ) → HasChild S n i
