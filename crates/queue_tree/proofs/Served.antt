@@ -33,9 +33,6 @@ use Rattle.queue_tree.proofs.Matches.{off}
 use Rattle.queue_tree.proofs.Verdict.{Formed, Arrays, formed, form}
 use Rattle.queue_tree.proofs.Rooms.{room}
 
-refused-same : {a b : ℕ} → _≡_ {A = Answer ℕ} (refused a) (refused b) → a ≡ b
-refused-same e = cc
-
 full-same : {a b : ℕ} → _≡_ {A = Answer ℕ} (full a) (full b) → a ≡ b
 full-same e = cc
 

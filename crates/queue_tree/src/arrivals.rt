@@ -6,7 +6,7 @@ use super::index::wide;
 use topology::Found;
 ghost use mathlib.Core.Path.{_≡_};
 ghost use mathlib.Core.Logic.{_≢_, _⊎_};
-ghost use Prim.Native.Nat.{ℕ, _+_, _≤_, _<_};
+ghost use Prim.Native.Nat.{_≤_, _<_};
 ghost use lib.ListN.{length};
 ghost use Rattle.topology.specs.Reader.{fault, tree};
 ghost use Rattle.queue_tree.specs.Sound.{Decides};

@@ -10,7 +10,7 @@ mod soundness;
 
 ghost use mathlib.Core.Path.{_≡_};
 ghost use Prim.Native.Nat.{suc, min};
-ghost use Rattle.pifo.specs.Machine.{Call, pushing, popping, most};
+ghost use Rattle.pifo.specs.Machine.{pushing, popping, most};
 ghost use Rattle.queue_tree.specs.Arrivals.{stepsOf};
 ghost use Rattle.queue_tree.specs.Calls.{Opens, amount, pushAnswer, popAnswer, Serves};
 ghost use Rattle.queue_tree.specs.State.{wellFormed, treeOf};

@@ -12,9 +12,6 @@ use Rattle.lists.proofs.Prefix.{Meet, below, over, apart, meet, apart-prefix}
 use Rattle.topology.specs.Address.{Addr, Above}
 use Rattle.simulation.specs.Mirror.{toward}
 
-pub above-refl : (a : Addr) → Above a a
-above-refl a = ([], sym (append-nil a))
-
 pub above-trans : (a b c : Addr) → Above a b → Above b c → Above a c
 above-trans a b c (d, g) (e, h) = (d ++ e, h ∙ ap (λ (k : Addr). k ++ e) g ∙ append-assoc a d e)
 

@@ -4,7 +4,7 @@
 // mean what their names say where `read` accepts those bytes.
 ghost use mathlib.Core.Path.{_≡_};
 ghost use Prim.Native.Nat.{_≤_, _<_};
-ghost use mathlib.Core.List.{List, [], _∷_};
+ghost use mathlib.Core.List.{[], _∷_};
 ghost use lib.ListN.{drop};
 ghost use Rattle.topology.specs.Reader.{fault, faultAt, reading, settle, Settled, after, Counts};
 ghost use Rattle.topology.specs.Branch.{branchEnd, childAt, isAbove, branchFault, branchPart};
