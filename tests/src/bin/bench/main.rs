@@ -1,6 +1,8 @@
 //! Times the Rattle library beside Rust.
 
 mod embedding;
+#[cfg(feature = "queue_tree")]
+mod queue_tree;
 mod topology;
 
 use linduvar_tests::random::{self, Random};
@@ -13,6 +15,8 @@ fn main() {
     println!("and in brackets the time of Rattle over that of Rust");
     topology::run(&mut random);
     embedding::run(&mut random);
+    #[cfg(feature = "queue_tree")]
+    queue_tree::run(&mut random);
 }
 
 /// Nanoseconds that the fastest of some rounds took.

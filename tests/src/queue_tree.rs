@@ -1,0 +1,397 @@
+//! The second implementation of the queue tree: each node has its queue and
+//! its children. States in bytes are read into queues, tested, and only then
+//! made a tree.
+
+use crate::topology::{self, Topology, TARGET_NODES};
+
+pub const MOST_PACKETS: usize = 256;
+/// Each packet has at most 8 entries at inner nodes and one at a leaf.
+pub const MOST_ENTRIES: usize = 9 * MOST_PACKETS;
+pub const STEP_BYTES: usize = 5;
+
+#[derive(Clone, Copy, Debug, PartialEq, Eq)]
+pub enum Refusal {
+    Topology(topology::Refusal),
+    NoSuchChild,
+    EndsAboveLeaf,
+    /// With the new count of such refusals.
+    Full(u32),
+    NoneHeld,
+    Limit,
+    IllFormed,
+}
+
+impl Refusal {
+    /// The paper's number.
+    pub fn number(self) -> u8 {
+        match self {
+            Refusal::Topology(refusal) => refusal as u8,
+            Refusal::NoSuchChild => 13,
+            Refusal::EndsAboveLeaf => 14,
+            Refusal::Full(_) => 15,
+            Refusal::NoneHeld => 16,
+            Refusal::Limit => 17,
+            Refusal::IllFormed => 18,
+        }
+    }
+}
+
+#[derive(Clone, Copy, Debug, PartialEq, Eq)]
+pub enum Item {
+    Child(u8),
+    Packet(u32),
+}
+
+#[derive(Clone, Copy, Debug, PartialEq, Eq)]
+pub struct Entry {
+    pub rank: u32,
+    pub item: Item,
+}
+
+#[derive(Clone, Copy, Debug)]
+pub struct Step {
+    pub child: u8,
+    pub rank: u32,
+}
+
+/// Steps as they cross the boundary; bytes that make no whole step are left.
+pub fn read_steps(bytes: &[u8]) -> Vec<Step> {
+    bytes
+        .chunks_exact(STEP_BYTES)
+        .map(|step| Step {
+            child: step[0],
+            rank: number(&step[1..]),
+        })
+        .collect()
+}
+
+pub fn write_steps(steps: &[Step]) -> Vec<u8> {
+    let mut bytes = Vec::new();
+    for step in steps {
+        bytes.push(step.child);
+        bytes.extend(step.rank.to_le_bytes());
+    }
+    bytes
+}
+
+#[derive(Clone)]
+struct Node {
+    /// The head comes first.
+    queue: Vec<Entry>,
+    children: Vec<Node>,
+}
+
+impl Node {
+    fn child(&mut self, number: u8) -> Option<&mut Node> {
+        let index = usize::from(number).checked_sub(1)?;
+        self.children.get_mut(index)
+    }
+
+    /// Enters before the first entry of greater rank.
+    fn enter(&mut self, rank: u32, item: Item) {
+        let at = self.queue.iter().position(|entry| entry.rank > rank);
+        let at = at.unwrap_or(self.queue.len());
+        self.queue.insert(at, Entry { rank, item });
+    }
+
+    fn push(&mut self, steps: &[Step], leaf_rank: u32, packet: u32) {
+        match steps {
+            [step, rest @ ..] => {
+                self.enter(step.rank, Item::Child(step.child));
+                let child = self.child(step.child).expect("a path that was tested");
+                child.push(rest, leaf_rank, packet);
+            }
+            [] => self.enter(leaf_rank, Item::Packet(packet)),
+        }
+    }
+
+    fn pop(&mut self) -> u32 {
+        match self.queue.remove(0).item {
+            Item::Child(child) => self.child(child).expect("a child of the node").pop(),
+            Item::Packet(packet) => packet,
+        }
+    }
+
+    fn packets(&self) -> usize {
+        if self.children.is_empty() {
+            return self.queue.len();
+        }
+        self.children.iter().map(Node::packets).sum()
+    }
+
+    fn queues(&self, queues: &mut Vec<Vec<Entry>>) {
+        queues.push(self.queue.clone());
+        for child in &self.children {
+            child.queues(queues);
+        }
+    }
+}
+
+/// A PIFO tree with its limit and its count of refusals.
+#[derive(Clone)]
+pub struct QueueTree {
+    topology: Vec<u8>,
+    limit: usize,
+    refused: u32,
+    root: Node,
+}
+
+impl QueueTree {
+    pub fn open(bytes: &[u8], limit: usize) -> Result<QueueTree, Refusal> {
+        let topology = Topology::read(bytes, TARGET_NODES).map_err(Refusal::Topology)?;
+        if limit == 0 || limit > MOST_PACKETS {
+            return Err(Refusal::Limit);
+        }
+        Ok(QueueTree {
+            topology: bytes.to_vec(),
+            limit,
+            refused: 0,
+            root: node(&topology, 0, &mut |_| Vec::new()),
+        })
+    }
+
+    pub fn push(&mut self, steps: &[Step], leaf_rank: u32, packet: u32) -> Result<(), Refusal> {
+        let mut node = &mut self.root;
+        for step in steps {
+            node = node.child(step.child).ok_or(Refusal::NoSuchChild)?;
+        }
+        if !node.children.is_empty() {
+            return Err(Refusal::EndsAboveLeaf);
+        }
+        // The root has an entry for each packet held.
+        if self.root.queue.len() == self.limit {
+            self.refused = self.refused.saturating_add(1);
+            return Err(Refusal::Full(self.refused));
+        }
+        self.root.push(steps, leaf_rank, packet);
+        Ok(())
+    }
+
+    pub fn pop(&mut self) -> Result<u32, Refusal> {
+        if self.root.queue.is_empty() {
+            return Err(Refusal::NoneHeld);
+        }
+        Ok(self.root.pop())
+    }
+
+    pub fn topology(&self) -> &[u8] {
+        &self.topology
+    }
+
+    pub fn limit(&self) -> usize {
+        self.limit
+    }
+
+    /// The packets in the leaf queues.
+    pub fn held(&self) -> usize {
+        self.root.packets()
+    }
+
+    pub fn refusals(&self) -> u32 {
+        self.refused
+    }
+
+    /// The tree in a state, if that is well formed.
+    pub fn from_state(state: &State) -> Result<QueueTree, Refusal> {
+        let topology = state.well_formed().ok_or(Refusal::IllFormed)?;
+        Ok(QueueTree {
+            topology: state.topology.clone(),
+            limit: state.limit,
+            refused: state.refused,
+            root: node(&topology, 0, &mut |node| state.queues[node].clone()),
+        })
+    }
+
+    pub fn state(&self) -> State {
+        let mut queues = Vec::new();
+        self.root.queues(&mut queues);
+        State {
+            topology: self.topology.clone(),
+            limit: self.limit,
+            refused: self.refused,
+            queues,
+        }
+    }
+}
+
+/// The branch under a node, with a queue for each node.
+fn node(topology: &Topology, number: usize, queue: &mut impl FnMut(usize) -> Vec<Entry>) -> Node {
+    Node {
+        queue: queue(number),
+        children: topology
+            .children(number)
+            .iter()
+            .map(|&child| node(topology, child, queue))
+            .collect(),
+    }
+}
+
+/// What the bytes of a state say, well formed or not: a queue for each node
+/// in order of their numbers.
+#[derive(Clone, Debug, PartialEq, Eq)]
+pub struct State {
+    pub topology: Vec<u8>,
+    pub limit: usize,
+    pub refused: u32,
+    pub queues: Vec<Vec<Entry>>,
+}
+
+// Where the fields of a state start. All numbers are little endian.
+pub const NODES_AT: usize = TARGET_NODES;
+pub const LIMIT_AT: usize = NODES_AT + 2;
+pub const USED_AT: usize = LIMIT_AT + 2;
+pub const REFUSED_AT: usize = USED_AT + 2;
+pub const OWNERS_AT: usize = REFUSED_AT + 4;
+pub const ENTRIES_AT: usize = OWNERS_AT + MOST_ENTRIES;
+pub const ENTRY_BYTES: usize = 9;
+pub const STATE_BYTES: usize = ENTRIES_AT + MOST_ENTRIES * ENTRY_BYTES;
+
+impl State {
+    /// None if the bytes speak of more nodes or entries than there can be, or
+    /// of an entry at a node that is not there.
+    pub fn read(bytes: &[u8]) -> Option<State> {
+        let nodes = number(&bytes[NODES_AT..LIMIT_AT]) as usize;
+        let used = number(&bytes[USED_AT..REFUSED_AT]) as usize;
+        if nodes > TARGET_NODES || used > MOST_ENTRIES {
+            return None;
+        }
+        let mut queues = vec![Vec::new(); nodes];
+        let owners = &bytes[OWNERS_AT..][..used];
+        let entries = bytes[ENTRIES_AT..].chunks_exact(ENTRY_BYTES);
+        for (&owner, entry) in owners.iter().zip(entries) {
+            let value = number(&entry[5..]);
+            let item = match entry[4] {
+                0 => Item::Child(value as u8),
+                _ => Item::Packet(value),
+            };
+            let rank = number(&entry[..4]);
+            queues
+                .get_mut(usize::from(owner))?
+                .push(Entry { rank, item });
+        }
+        Some(State {
+            topology: bytes[..nodes].to_vec(),
+            limit: number(&bytes[LIMIT_AT..USED_AT]) as usize,
+            refused: number(&bytes[REFUSED_AT..OWNERS_AT]),
+            queues,
+        })
+    }
+
+    /// The bytes, the queue of node 0 first and so on.
+    pub fn write(&self) -> Vec<u8> {
+        let used: usize = self.queues.iter().map(Vec::len).sum();
+        let mut bytes = self.topology.clone();
+        bytes.resize(NODES_AT, 0);
+        bytes.extend((self.queues.len() as u16).to_le_bytes());
+        bytes.extend((self.limit as u16).to_le_bytes());
+        bytes.extend((used as u16).to_le_bytes());
+        bytes.extend(self.refused.to_le_bytes());
+        for (node, queue) in self.queues.iter().enumerate() {
+            bytes.resize(bytes.len() + queue.len(), node as u8);
+        }
+        bytes.resize(ENTRIES_AT, 0);
+        for entry in self.queues.iter().flatten() {
+            bytes.extend(entry.rank.to_le_bytes());
+            let (tag, value) = match entry.item {
+                Item::Child(child) => (0, u32::from(child)),
+                Item::Packet(packet) => (1, packet),
+            };
+            bytes.push(tag);
+            bytes.extend(value.to_le_bytes());
+        }
+        bytes.resize(STATE_BYTES, 0);
+        bytes
+    }
+
+    /// The topology if the state is well formed, clause by clause.
+    fn well_formed(&self) -> Option<Topology> {
+        let topology = Topology::read(&self.topology, TARGET_NODES).ok()?;
+        let nodes = 0..topology.node_count();
+        let well_formed = (1..=MOST_PACKETS).contains(&self.limit)
+            && self.packets_under(&topology, 0) <= self.limit
+            && self.queues.iter().all(|queue| ranks_never_fall(queue))
+            && nodes
+                .clone()
+                .all(|node| self.holds_its_own(&topology, node))
+            && nodes
+                .clone()
+                .all(|node| self.names_packets(&topology, node));
+        well_formed.then_some(topology)
+    }
+
+    /// The packets at the leaves of a branch.
+    fn packets_under(&self, topology: &Topology, node: usize) -> usize {
+        let children = topology.children(node);
+        if children.is_empty() {
+            return self.queues[node].len();
+        }
+        let below = children.iter();
+        below
+            .map(|&child| self.packets_under(topology, child))
+            .sum()
+    }
+
+    /// Leaves hold packets only and inner nodes only their own child numbers.
+    fn holds_its_own(&self, topology: &Topology, node: usize) -> bool {
+        let children = topology.child_count(node);
+        self.queues[node].iter().all(|entry| match entry.item {
+            Item::Packet(_) => children == 0,
+            Item::Child(child) => (1..=children).contains(&usize::from(child)),
+        })
+    }
+
+    /// Each child occurs as often as there are packets under it.
+    fn names_packets(&self, topology: &Topology, node: usize) -> bool {
+        let mut children = topology.children(node).iter().zip(1..);
+        children.all(|(&child, number)| {
+            let occurs = |entry: &&Entry| entry.item == Item::Child(number);
+            let times = self.queues[node].iter().filter(occurs).count();
+            times == self.packets_under(topology, child)
+        })
+    }
+}
+
+fn ranks_never_fall(queue: &[Entry]) -> bool {
+    queue.windows(2).all(|two| two[0].rank <= two[1].rank)
+}
+
+/// A number of up to 4 bytes, little endian.
+fn number(bytes: &[u8]) -> u32 {
+    bytes
+        .iter()
+        .rev()
+        .fold(0, |number, &byte| number << 8 | u32::from(byte))
+}
+
+/// The loop that the benchmark times: pushes packets 0, 1 and so on, packet k
+/// along path k modulo `paths` with leaf rank k modulo 7; then, `rounds` times,
+/// pops one and pushes it again. The sum of the packets popped; 0 if anything
+/// is refused. The paths have equally many steps.
+pub fn churn(
+    topology: &[u8],
+    limit: usize,
+    steps: &[u8],
+    paths: usize,
+    packets: usize,
+    rounds: usize,
+) -> u64 {
+    let all_rounds = || {
+        let mut tree = QueueTree::open(topology, limit)?;
+        let path_bytes = steps.len() / paths;
+        let push = |tree: &mut QueueTree, packet: u32| {
+            let path = &steps[packet as usize % paths * path_bytes..][..path_bytes];
+            tree.push(&read_steps(path), packet % 7, packet)
+        };
+        for packet in 0..packets {
+            push(&mut tree, packet as u32)?;
+        }
+        let mut sum = 0u64;
+        for _ in 0..rounds {
+            let packet = tree.pop()?;
+            sum = sum.wrapping_add(u64::from(packet));
+            push(&mut tree, packet)?;
+        }
+        Ok::<u64, Refusal>(sum)
+    };
+    all_rounds().unwrap_or(0)
+}

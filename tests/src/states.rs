@@ -1,0 +1,436 @@
+//! Random queue trees, paths and states, right and damaged.
+
+use crate::generate::{self, SHAPES};
+use crate::queue_tree::{
+    write_steps, Entry, Item, QueueTree, State, Step, ENTRIES_AT, ENTRY_BYTES, LIMIT_AT,
+    MOST_ENTRIES, NODES_AT, OWNERS_AT, USED_AT,
+};
+use crate::random::Random;
+use crate::topology::{Topology, MOST_CHILDREN, MOST_STEPS_DOWN, TARGET_NODES};
+
+/// The limits of the trees.
+pub const LIMITS: [usize; 6] = [1, 2, 3, 10, 255, 256];
+
+/// A tree that can be opened, of some shape that is worth a look.
+pub fn any_topology(random: &mut Random) -> Vec<u8> {
+    match random.below(8) {
+        0 => vec![0],
+        1 => vec![1, 1, 1, 1, 1, 1, 1, 1, 0],
+        2 => [vec![8], vec![0; 8]].concat(),
+        3 => vec![2, 2, 0, 0, 2, 0, 0],
+        4 => {
+            let shape = random.pick(&SHAPES);
+            let nodes = random.within(2..=12);
+            generate::tree(random, shape, nodes, MOST_STEPS_DOWN, MOST_CHILDREN)
+        }
+        _ => generate::valid(random),
+    }
+}
+
+/// A tree with some packets in it, pushed and popped on this side alone.
+pub fn any_tree(random: &mut Random, habits: &Habits) -> QueueTree {
+    let (topology, limit, packets) = if random.one_in(10) {
+        // As many entries as there can be, or nearly.
+        (
+            vec![1, 1, 1, 1, 1, 1, 1, 1, 0],
+            256,
+            random.pick(&[255, 256]),
+        )
+    } else {
+        let limit = random.pick(&LIMITS);
+        let any = random.within(0..=limit.min(12));
+        let packets = random.pick(&[any, any, any, limit.min(40), limit]);
+        (any_topology(random), limit, packets)
+    };
+    let reading = Topology::read(&topology, TARGET_NODES).expect("a valid tree");
+    let mut tree = QueueTree::open(&topology, limit).expect("a valid tree");
+    while tree.held() < packets {
+        let steps = right_path(&reading, habits, random);
+        let (rank, packet) = (habits.rank(random), habits.packet(random));
+        tree.push(&steps, rank, packet).expect("a right path");
+        if random.one_in(8) {
+            tree.pop().expect("a packet was pushed");
+        }
+    }
+    tree
+}
+
+/// What ranks and packets a list of calls makes use of.
+pub struct Habits {
+    ranks: usize,
+    high: bool,
+}
+
+impl Habits {
+    pub fn any(random: &mut Random) -> Habits {
+        Habits {
+            ranks: random.pick(&[1, 2, 3, 3, 10, 1_000_000]),
+            high: random.one_in(3),
+        }
+    }
+
+    /// Few ranks, so that ties are common, now and then at far ends.
+    pub fn rank(&self, random: &mut Random) -> u32 {
+        if self.high {
+            let any = random.number() as u32;
+            random.pick(&[0, 1, 65_535, 65_536, 1 << 31, u32::MAX - 1, u32::MAX, any])
+        } else {
+            random.below(self.ranks) as u32
+        }
+    }
+
+    pub fn packet(&self, random: &mut Random) -> u32 {
+        let (few, any) = (random.below(3) as u32, random.number() as u32);
+        random.pick(&[few, any, any, any, u32::MAX])
+    }
+}
+
+/// A path from the root to some leaf.
+fn right_path(topology: &Topology, habits: &Habits, random: &mut Random) -> Vec<Step> {
+    let mut steps = Vec::new();
+    let mut node = 0;
+    while topology.child_count(node) > 0 {
+        let child = random.within(1..=topology.child_count(node));
+        let rank = habits.rank(random);
+        steps.push(Step {
+            child: child as u8,
+            rank,
+        });
+        node = topology.children(node)[child - 1];
+    }
+    steps
+}
+
+/// The kinds of paths, and the answer that each gets where it can be made and
+/// nothing comes before it.
+pub const PATHS: [(&str, u8); 8] = [
+    ("right path", 0),
+    ("right path and part of a step", 0),
+    ("child 0", 13),
+    ("missing child", 13),
+    ("step at a leaf", 13),
+    ("ninth step", 13),
+    ("end above a leaf", 14),
+    ("missing child, then an end above a leaf", 13),
+];
+
+/// The steps of a path of any kind, mostly a right one, with what `PATHS` has
+/// on that kind.
+pub fn any_path(
+    topology: &[u8],
+    habits: &Habits,
+    random: &mut Random,
+) -> (Vec<u8>, &'static str, u8) {
+    let topology = Topology::read(topology, TARGET_NODES).expect("a valid tree");
+    let (kind, answer) = match random.one_in(4) {
+        true => random.pick(&PATHS),
+        false => PATHS[0],
+    };
+    let mut steps = right_path(&topology, habits, random);
+    damage_path(&mut steps, kind, &topology, random);
+    let mut bytes = write_steps(&steps);
+    if kind == "right path and part of a step" {
+        bytes.resize(bytes.len() + random.within(1..=4), 1);
+    }
+    (bytes, kind, answer)
+}
+
+/// Makes a path of that kind from a right one.
+fn damage_path(steps: &mut Vec<Step>, kind: &str, topology: &Topology, random: &mut Random) {
+    let length = steps.len();
+    let at = random.below(length.max(1));
+    let mut node = 0;
+    for step in steps.iter().take(at) {
+        node = topology.children(node)[usize::from(step.child) - 1];
+    }
+    let children = topology.child_count(node) as u8;
+    let more = |child: u8| Step { child, rank: 1 };
+    match kind {
+        "child 0" if length > 0 => steps[at].child = 0,
+        "missing child" if length > 0 => {
+            steps[at].child = random.pick(&[children + 1, 9, 128, 255]);
+        }
+        "step at a leaf" if length < MOST_STEPS_DOWN => {
+            steps.push(more(random.pick(&[0, 1, 1, 2])));
+        }
+        "ninth step" => {
+            let length = random.within(9..=12);
+            steps.resize(length, more(1));
+        }
+        "end above a leaf" => steps.truncate(at),
+        "missing child, then an end above a leaf" if length > 1 => {
+            steps.pop();
+            let at = at.min(length - 2);
+            steps[at].child = random.pick(&[0, 9]);
+        }
+        _ => {}
+    }
+}
+
+/// Ways to write a state that leave its queues as they are.
+pub const DRESSES: [&str; 7] = [
+    "queue by queue",
+    "entries shuffled",
+    "other tags of packets",
+    "child numbers with higher bytes",
+    "noise behind the entries",
+    "noise behind the topology",
+    "limit as many as held",
+];
+
+/// The bytes of a state, written in that way.
+pub fn dressed(state: &State, kind: &str, random: &mut Random) -> Vec<u8> {
+    let mut bytes = state.write();
+    if kind == "queue by queue" {
+        return bytes;
+    }
+    // Whose turn it is next; the entries of each queue stay in order.
+    let mut turns: Vec<u8> = bytes[OWNERS_AT..][..used(&bytes)].to_vec();
+    for last in (1..turns.len()).rev() {
+        turns.swap(last, random.within(0..=last));
+    }
+    let mut queues: Vec<_> = state.queues.iter().map(|queue| queue.iter()).collect();
+    for (at, &node) in turns.iter().enumerate() {
+        let entry = queues[usize::from(node)].next();
+        write_entry(&mut bytes, at, node, entry.expect("a turn for each entry"));
+    }
+    for at in 0..turns.len() {
+        let entry = &mut bytes[entry_at(at)..][..ENTRY_BYTES];
+        match (kind, entry[4]) {
+            ("other tags of packets", 1) => entry[4] = random.within(1..=255) as u8,
+            ("child numbers with higher bytes", 0) => {
+                entry[6 + random.below(3)] = random.below(256) as u8;
+            }
+            _ => {}
+        }
+    }
+    if kind == "noise behind the entries" {
+        let behind = OWNERS_AT + turns.len()..ENTRIES_AT;
+        bytes[behind].fill_with(|| random.below(256) as u8);
+        bytes[entry_at(turns.len())..].fill_with(|| random.below(256) as u8);
+    }
+    if kind == "noise behind the topology" {
+        bytes[state.topology.len()..NODES_AT].fill_with(|| random.below(256) as u8);
+    }
+    bytes
+}
+
+fn used(bytes: &[u8]) -> usize {
+    usize::from(read_number(bytes, USED_AT))
+}
+
+fn read_number(bytes: &[u8], at: usize) -> u16 {
+    u16::from_le_bytes([bytes[at], bytes[at + 1]])
+}
+
+fn write_number(bytes: &mut [u8], at: usize, number: usize) {
+    bytes[at..at + 2].copy_from_slice(&(number as u16).to_le_bytes());
+}
+
+fn entry_at(at: usize) -> usize {
+    ENTRIES_AT + at * ENTRY_BYTES
+}
+
+fn write_entry(bytes: &mut [u8], at: usize, owner: u8, entry: &Entry) {
+    bytes[OWNERS_AT + at] = owner;
+    let (tag, value) = match entry.item {
+        Item::Child(child) => (0, u32::from(child)),
+        Item::Packet(packet) => (1, packet),
+    };
+    let place = &mut bytes[entry_at(at)..][..ENTRY_BYTES];
+    place[..4].copy_from_slice(&entry.rank.to_le_bytes());
+    place[4] = tag;
+    place[5..].copy_from_slice(&value.to_le_bytes());
+}
+
+/// Adds an entry behind all others, with the highest rank.
+fn append(bytes: &mut [u8], owner: usize, item: Item) -> Option<()> {
+    let at = used(bytes);
+    if at == MOST_ENTRIES {
+        return None;
+    }
+    let rank = u32::MAX;
+    write_entry(bytes, at, owner as u8, &Entry { rank, item });
+    write_number(bytes, USED_AT, at + 1);
+    Some(())
+}
+
+/// Takes an entry out.
+fn remove(bytes: &mut [u8], at: usize) {
+    let used = used(bytes);
+    bytes.copy_within(OWNERS_AT + at + 1..OWNERS_AT + used, OWNERS_AT + at);
+    bytes.copy_within(entry_at(at + 1)..entry_at(used), entry_at(at));
+    write_number(bytes, USED_AT, used - 1);
+}
+
+/// Ways to break a clause of well-formedness.
+pub const DAMAGES: [&str; 23] = [
+    "topology byte",
+    "number of nodes",
+    "limit 0",
+    "limit above 256",
+    "limit below the packets held",
+    "packets far above the limit",
+    "more entries than there can be",
+    "an entry more or less",
+    "owner past the last node",
+    "another owner",
+    "falling rank at an inner node",
+    "falling rank at a leaf",
+    "packet for a child at an inner node",
+    "packet more at an inner node",
+    "child for a packet at a leaf",
+    "child more at a leaf",
+    "child number 0",
+    "child number too large",
+    "another child",
+    "child more",
+    "child 256 times more",
+    "child less",
+    "packet more or less at a leaf",
+];
+
+/// Breaks one clause in the bytes of a well formed state; None where that
+/// state gives no occasion for it.
+pub fn damage(bytes: &mut [u8], kind: &str, random: &mut Random) -> Option<()> {
+    let nodes = usize::from(read_number(bytes, NODES_AT));
+    let used = used(bytes);
+    let owners = bytes[OWNERS_AT..][..used].to_vec();
+    let topology = bytes[..nodes].to_vec();
+    let children = |node: usize| usize::from(topology[node]);
+    let owner = |at: usize| usize::from(owners[at]);
+    let is_leaf = |node: usize| topology[node] == 0;
+
+    // A place to break it: some entry, some node.
+    let at_leaf: Vec<usize> = (0..used).filter(|&at| is_leaf(owner(at))).collect();
+    let at_inner: Vec<usize> = (0..used).filter(|&at| !is_leaf(owner(at))).collect();
+    let leaves: Vec<usize> = (0..nodes).filter(|&node| is_leaf(node)).collect();
+    let inner: Vec<usize> = (0..nodes).filter(|&node| !is_leaf(node)).collect();
+    let mut some = |places: &[usize]| (!places.is_empty()).then(|| random.pick(places));
+    let (leaf_entry, inner_entry) = (some(&at_leaf), some(&at_inner));
+    let (leaf, inner_node) = (some(&leaves)?, some(&inner));
+    let any_entry = some(&(0..used).collect::<Vec<_>>());
+
+    match kind {
+        "topology byte" => {
+            let at = random.below(nodes);
+            let byte = bytes[at];
+            bytes[at] = random.pick(&[0, 1, byte + 1, byte.wrapping_sub(1), 8, 9, 255]);
+        }
+        "number of nodes" => {
+            let number = random.pick(&[0, nodes - 1, nodes + 1, 65, 255, 256 + nodes, 65_535]);
+            write_number(bytes, NODES_AT, number);
+        }
+        "limit 0" => write_number(bytes, LIMIT_AT, 0),
+        "limit above 256" => {
+            let limit = random.pick(&[257, 258, 511, 512, 65_535]);
+            write_number(bytes, LIMIT_AT, limit);
+        }
+        "limit below the packets held" => {
+            if at_leaf.len() < 2 {
+                return None;
+            }
+            write_number(bytes, LIMIT_AT, at_leaf.len() - 1);
+        }
+        "packets far above the limit" => {
+            // One leaf that has them all.
+            let limit = random.pick(&[1, 255, 256]);
+            bytes[0] = 0;
+            write_number(bytes, NODES_AT, 1);
+            write_number(bytes, LIMIT_AT, limit);
+            write_number(bytes, USED_AT, 0);
+            for _ in 0..random.pick(&[limit + 1, 257, limit + 256, 512, MOST_ENTRIES]) {
+                append(bytes, 0, Item::Packet(1))?;
+            }
+        }
+        "more entries than there can be" => {
+            let number =
+                random.pick(&[MOST_ENTRIES + 1, 32_768, 65_535, 65_536 - 256 + used % 256]);
+            write_number(bytes, USED_AT, number);
+        }
+        "an entry more or less" => {
+            let number = random.pick(&[used + 1, used.wrapping_sub(1), used + 256, 0]);
+            if number > MOST_ENTRIES {
+                return None;
+            }
+            write_number(bytes, USED_AT, number);
+        }
+        "owner past the last node" => {
+            let past = random.pick(&[nodes, nodes + 1, 64, 128, 255]);
+            if past < nodes {
+                return None;
+            }
+            // In place of another owner, or with an entry more.
+            if random.one_in(2) {
+                bytes[OWNERS_AT + any_entry?] = past as u8;
+            } else {
+                append(bytes, past, Item::Packet(0))?;
+            }
+        }
+        "another owner" => bytes[OWNERS_AT + any_entry?] = random.below(nodes) as u8,
+        "falling rank at an inner node" | "falling rank at a leaf" => {
+            let inside = kind == "falling rank at an inner node";
+            let first = if inside { inner_entry? } else { leaf_entry? };
+            // Against the next of the same queue.
+            let second = (first + 1..used).find(|&at| owner(at) == owner(first))?;
+            let rank = |at: usize| -> [u8; 4] {
+                let bytes = &bytes[entry_at(at)..][..4];
+                bytes.try_into().expect("4 bytes")
+            };
+            let (low, mut high) = (rank(first), rank(second));
+            if low == high {
+                let higher = u32::from_le_bytes(high).checked_add(1)?;
+                high = higher.to_le_bytes();
+            }
+            bytes[entry_at(first)..][..4].copy_from_slice(&high);
+            bytes[entry_at(second)..][..4].copy_from_slice(&low);
+        }
+        "packet for a child at an inner node" => {
+            bytes[entry_at(inner_entry?) + 4] = random.pick(&[1, 2, 255]);
+        }
+        "packet more at an inner node" => append(bytes, inner_node?, Item::Packet(1))?,
+        "child for a packet at a leaf" => bytes[entry_at(leaf_entry?) + 4] = 0,
+        "child more at a leaf" => append(bytes, leaf, Item::Child(random.pick(&[0, 1, 2])))?,
+        "child number 0" | "child number too large" => {
+            let node = inner_node?;
+            let past = |node: usize, random: &mut Random| match kind {
+                "child number 0" => 0,
+                _ => random.pick(&[children(node) as u8 + 1, 9, 255]),
+            };
+            // In place of another child, or as an entry more.
+            if random.one_in(2) {
+                let at = inner_entry?;
+                bytes[entry_at(at) + 5] = past(owner(at), random);
+            } else {
+                append(bytes, node, Item::Child(past(node, random)))?;
+            }
+        }
+        "another child" => {
+            let at = inner_entry?;
+            bytes[entry_at(at) + 5] = random.within(1..=children(owner(at))) as u8;
+        }
+        "child more" => {
+            let node = inner_node?;
+            let last = children(node) as u8;
+            let any = random.within(1..=children(node)) as u8;
+            append(bytes, node, Item::Child(random.pick(&[any, last])))?;
+        }
+        "child 256 times more" => {
+            let node = inner_node?;
+            let child = Item::Child(random.within(1..=children(node)) as u8);
+            for _ in 0..256 {
+                append(bytes, node, child)?;
+            }
+        }
+        "child less" => remove(bytes, inner_entry?),
+        "packet more or less at a leaf" => {
+            if random.one_in(2) {
+                remove(bytes, leaf_entry?);
+            } else {
+                append(bytes, leaf, Item::Packet(1))?;
+            }
+        }
+        _ => unreachable!("a kind of damage without a name"),
+    }
+    Some(())
+}
