@@ -5,8 +5,9 @@ use Prim.Native.Nat.{ℕ, zero, suc}
 use mathlib.Core.List.{List}
 use Rattle.topology.specs.Tree.{Topo}
 use Rattle.pifo.specs.Tree.{Step, pathFault}
-use Rattle.pifo.specs.Machine.{Call, pushing, popping, Answer, accepted, departed, refused, full, opened, serve}
-use Rattle.pifo.proofs.Runs.{Served, takenBy, served-refused, served, Serves, afterBy, answersBy, Run, run-by}
+use Rattle.pifo.specs.Machine.{Call, pushing, popping, Answer, accepted, departed, refused, full, opened, serve, afterBy, answersBy}
+use Rattle.pifo.specs.Runs.{takenBy, Run}
+use Rattle.pifo.proofs.Runs.{Served, served-refused, served, Serves, run-by}
 use Rattle.simulation.specs.Carrying.{carry}
 use Rattle.simulation.specs.Sheet.{pushCarried, serveCarried}
 
