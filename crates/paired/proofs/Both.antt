@@ -1,22 +1,19 @@
 -- A call on a well-formed pair. Each tree keeps its topology, so the pair stays well formed; and trees in step answer alike and stay in step,
 -- by the simulation.
-use mathlib.Core.Path.{_≡_, refl, sym, ap, _∙_, subst}
+use mathlib.Core.Path.{_≡_, refl, sym, ap, _∙_}
 use mathlib.Core.Logic.{_≢_}
 use Prim.Native.Nat.{ℕ, zero, suc}
-use native.Mathlib.Omega.{arith}
 use mathlib.Core.List.{List}
 use mathlib.Core.Bool.{Bool, true, false}
-use lib.ListN.{length, take}
 use Rattle.topology.specs.Tree.{Topo}
-use Rattle.topology.specs.Reader.{tree}
 use Rattle.pifo.specs.Tree.{Step, pathFault}
-use Rattle.pifo.specs.Machine.{Machine, Call, pushing, popping, Answer, refused, full, serve}
+use Rattle.pifo.specs.Machine.{Machine, Call, pushing, popping, Answer, refused}
 use Rattle.pifo.proofs.Answers.{serve-topology, never-18}
 use Rattle.simulation.specs.Carrying.{carry}
-use Rattle.simulation.specs.Sheet.{pushCarried, serveCarried, Paired}
+use Rattle.simulation.specs.Sheet.{pushCarried, serveCarried}
 use Rattle.simulation.proofs.Simulation.{paired-next, answers-alike}
 use Rattle.queue_tree.specs.State.{bytes, machine, wellFormed}
-use Rattle.queue_tree.specs.Calls.{counting, Serves}
+use Rattle.queue_tree.specs.Calls.{Serves}
 use Rattle.queue_tree.specs.declared.State.{State}
 use Rattle.queue_tree.proofs.Matches.{off}
 use Rattle.queue_tree.proofs.Served.{apart}
@@ -61,13 +58,13 @@ carried-topology S T m y popping = serve-topology y popping
 
 module _ (p r : Pair) (call : Call ℕ) (a b : Answer ℕ) (w : wellPaired p ≡ true)
     (s : Serves (p .source) call a (r .source)) (c : ServesChip p call b (r .chip)) (e : r .map ≡ p .map) where
-  source-bytes : bytes (r .source) ≡ bytes (p .source)
+  pub source-bytes : bytes (r .source) ≡ bytes (p .source)
   unfolding machine
   source-bytes =
       let f = parts p w .source in
       same-bytes (p .source) (r .source) f (s .formed f) (ap (λ (m : Machine ℕ). m .topology) (s .machine f) ∙ serve-topology (machine (p .source)) call)
 
-  chip-bytes : bytes (r .chip) ≡ bytes (p .chip)
+  pub chip-bytes : bytes (r .chip) ≡ bytes (p .chip)
   unfolding machine
   chip-bytes =
       same-bytes (p .chip) (r .chip) (parts p w .chip) (c .formed)
@@ -80,7 +77,7 @@ module _ (p r : Pair) (call : Call ℕ) (a b : Answer ℕ) (w : wellPaired p ≡
   still-formed : wellPaired r ≡ true
   still-formed = joined r (record { source = s .formed (parts p w .source); chip = c .formed; mapped = still-mapped })
 
-  alike : InStep p → (a ≡ b) × InStep r
+  pub alike : InStep p → (a ≡ b) × InStep r
   alike i =
       let E = passes p (parts p w .mapped) in
       let n = paired-next (sourceTree p) (chipTree p) (images p) E (machine (p .source)) (machine (p .chip)) (i .paired) call in (

@@ -7,7 +7,6 @@ use Rattle.pifo.specs.Tree.{held}
 use Rattle.simulation.proofs.Simulation.{held-alike}
 use Rattle.queue_tree.specs.State.{treeOf, machine, wellFormed}
 use Rattle.queue_tree.specs.Calls.{amount}
-use Rattle.queue_tree.specs.declared.Amount.{Amount}
 use Rattle.queue_tree.specs.declared.Amount.the-variants.{Count, Refused}
 use Rattle.queue_tree.proofs.Matches.{off}
 use Rattle.paired.specs.Pair.{sourceTree, chipTree, images, mapped, wellPaired, InStep}

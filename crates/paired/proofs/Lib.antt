@@ -4,3 +4,4 @@ pub mod Both
 pub mod Pushing
 pub mod Start
 pub mod Counts
+pub mod Demand

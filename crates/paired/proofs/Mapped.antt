@@ -8,9 +8,8 @@ use mathlib.Core.List.{List}
 use mathlib.Core.Bool.{Bool, true, false}
 use lib.ListN.{length, take}
 use lib.Seq.{length-take-le}
-use lib.Dec.{eqb}
 use borrow.Author.Tests.{eq-eqb, ne-eqb}
-use Rattle.topology.specs.Reader.{orElse, fault, tree}
+use Rattle.topology.specs.Reader.{orElse, fault}
 use Rattle.topology.proofs.Cases.{clash}
 use Rattle.topology.proofs.Lookup.{valid-length}
 use Rattle.pifo.specs.Tree.{pathFault}
@@ -24,11 +23,10 @@ use Rattle.queue_tree.specs.State.{bytes}
 use Rattle.queue_tree.specs.Arrivals.{stepsOf}
 use Rattle.queue_tree.specs.declared.Path.{Path}
 use Rattle.queue_tree.proofs.Verdict.{formed}
-use Rattle.queue_tree.proofs.Matches.{off}
 use Rattle.translator.specs.Carry.{carryFault, Carries}
 use Rattle.translator.specs.declared.Carried.{Carried}
 use Rattle.translator.proofs.Outcome.{map-passes, carry-none, carried-steps}
-use Rattle.paired.specs.Pair.{sourceTree, chipTree, images, mapped, wellPaired}
+use Rattle.paired.specs.Pair.{sourceTree, images, mapped, wellPaired}
 use Rattle.paired.specs.Calls.{CarriesFor}
 use Rattle.paired.specs.declared.Pair.{Pair}
 use Rattle.paired.proofs.Parts.{parts, map-fault, not-mapped}

@@ -1,13 +1,9 @@
 -- A well-formed pair taken apart: both states are well formed and the map meets the rules.
 use mathlib.Core.Path.{_≡_, refl, sym, ap, _∙_}
-use Prim.Native.Nat.{ℕ}
-use mathlib.Core.List.{List}
 use mathlib.Core.Bool.{Bool, true, false, _&&_}
-use lib.ListN.{length}
-use lib.Dec.{eqb}
 use borrow.Author.Tests.{eqb-true}
 use Rattle.topology.specs.Tree.{code}
-use Rattle.topology.specs.Reader.{fault, tree}
+use Rattle.topology.specs.Reader.{tree}
 use Rattle.topology.proofs.Reader.{drawn}
 use Rattle.pifo.proofs.Order.{both, join}
 use Rattle.embedding_laws.specs.Rules.{Passes}

@@ -2,13 +2,11 @@
 use mathlib.Core.Path.{_≡_, refl, sym, ap, _∙_, subst}
 use mathlib.Core.Logic.{_≢_}
 use Prim.Native.Nat.{ℕ, zero, suc}
-use native.Mathlib.Omega.{arith}
 use mathlib.Core.Bool.{true, false}
-use lib.Dec.{eqb}
-use borrow.Author.Tests.{eqb-true, eqb-false}
+use borrow.Author.Tests.{eqb-true}
 use Rattle.topology.proofs.Cases.{clash}
 use Rattle.pifo.specs.Tree.{pathFault}
-use Rattle.pifo.specs.Machine.{Call, pushing, popping, Answer, accepted, departed, refused, full, serve}
+use Rattle.pifo.specs.Machine.{Call, pushing, popping, Answer, accepted, departed, refused, full}
 use Rattle.pifo.proofs.Answers.{push-fault}
 use Rattle.queue_tree.specs.State.{machine, wellFormed}
 use Rattle.queue_tree.specs.Arrivals.{stepsOf}

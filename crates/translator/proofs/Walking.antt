@@ -6,16 +6,14 @@ use Prim.Native.Nat.{ℕ, zero, suc, _+_, _≤_, _<_}
 use native.Mathlib.Numerals.{add-one}
 use native.Mathlib.Decide.{decLe}
 use native.Mathlib.Omega.{arith}
-use mathlib.Core.List.{List, [], _∷_, _++_, map, append-nil, append-assoc}
-use mathlib.Core.Bool.{Bool, true, false, _&&_}
+use mathlib.Core.List.{List, [], _∷_, _++_, append-nil, append-assoc}
 use lib.ListN.{length, take, drop, getD, length-append, length-take, length-drop, drop-of-length-le}
 use lib.Seq.{drop-cons, getD-take}
-use lib.Dec.{leb}
 use borrow.Author.Tests.{ne-eqb, le-leb, lt-leb}
 use Rattle.lists.proofs.Map.{length-map, getD-map}
 use Rattle.topology.specs.Tree.{Topo, width, size, code}
-use Rattle.topology.specs.Address.{Addr, Above, child, addr, sub, subtree, childOf, depth}
-use Rattle.topology.specs.Reader.{pick, orElse, fault, tree}
+use Rattle.topology.specs.Address.{child, addr, sub, subtree, childOf, depth}
+use Rattle.topology.specs.Reader.{orElse, fault, tree}
 use Rattle.topology.specs.Branch.{childAt}
 use Rattle.topology.specs.declared.Found.{Found}
 use Rattle.topology.specs.declared.Found.the-variants.{Node, Missing}
@@ -37,7 +35,6 @@ use Rattle.queue_tree.specs.declared.Step.{Step as CodeStep}
 use Rattle.queue_tree.specs.declared.Path.{Path}
 use Rattle.translator.specs.Carry.{carryFault, noStep, pathOf, Carries}
 use Rattle.translator.specs.Ways.{Plain, Over}
-use Rattle.translator.specs.declared.Carried.{Carried}
 use Rattle.translator.proofs.Paths.{steps-path}
 
 -- ---- one step of a path

@@ -5,9 +5,9 @@ use Prim.Native.Nat.{ℕ, suc, _+_, _≤_, _<_}
 use native.Mathlib.Decide.{ℕ-discrete}
 use native.Mathlib.Omega.{arith}
 use mathlib.Core.List.{List, [], _∷_, _++_, append-nil, append-assoc}
-use lib.ListN.{length, length-append}
+use lib.ListN.{length-append}
 use Rattle.topology.specs.Tree.{Topo, size}
-use Rattle.topology.specs.Address.{Above, addr, subtree, child, childOf, depth}
+use Rattle.topology.specs.Address.{Above, addr, subtree, childOf, depth}
 use Rattle.topology.specs.Reader.{fault, tree}
 use Rattle.topology.specs.Branch.{branchEnd}
 use Rattle.topology.proofs.Numbering.{addr-in}
