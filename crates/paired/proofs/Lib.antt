@@ -5,3 +5,4 @@ pub mod Pushing
 pub mod Start
 pub mod Counts
 pub mod Demand
+pub mod Starred

@@ -1,3 +1,4 @@
 pub mod Pair
 pub mod Calls
 pub mod Demand
+pub mod Starred

@@ -238,22 +238,22 @@ pub fn pop(pair: Pair) -> PairPopped
         return no_pop(pair);
     }
     let chip = pair.chip;
-    let sent = queue_tree::pop(chip);
-    let sent_answer = sent.answer;
-    if is_ill_pop(sent_answer) {
+    let taken = queue_tree::pop(chip);
+    let taken_answer = taken.answer;
+    if is_ill_pop(taken_answer) {
         return no_pop(pair);
     }
     let drawn_state = drawn.state;
-    let sent_state = sent.state;
+    let taken_state = taken.state;
     let map = pair.map;
     PairPopped {
         pair: Pair {
             source: drawn_state,
-            chip: sent_state,
+            chip: taken_state,
             map,
         },
         source: drawn_answer,
-        chip: sent_answer,
+        chip: taken_answer,
     }
 }
 
@@ -274,16 +274,16 @@ pub fn held(pair: Pair) -> PairAmount
         return no_amount();
     }
     let source = pair.source;
-    let Amount::Count(source_count) = queue_tree::held(source) else {
+    let Amount::Count(source_held) = queue_tree::held(source) else {
         return no_amount();
     };
     let chip = pair.chip;
-    let Amount::Count(chip_count) = queue_tree::held(chip) else {
+    let Amount::Count(chip_held) = queue_tree::held(chip) else {
         return no_amount();
     };
     PairAmount {
-        source: Amount::Count(source_count),
-        chip: Amount::Count(chip_count),
+        source: Amount::Count(source_held),
+        chip: Amount::Count(chip_held),
     }
 }
 
@@ -295,15 +295,15 @@ pub fn refusals(pair: Pair) -> PairAmount
         return no_amount();
     }
     let source = pair.source;
-    let Amount::Count(source_count) = queue_tree::refusals(source) else {
+    let Amount::Count(source_refused) = queue_tree::refusals(source) else {
         return no_amount();
     };
     let chip = pair.chip;
-    let Amount::Count(chip_count) = queue_tree::refusals(chip) else {
+    let Amount::Count(chip_refused) = queue_tree::refusals(chip) else {
         return no_amount();
     };
     PairAmount {
-        source: Amount::Count(source_count),
-        chip: Amount::Count(chip_count),
+        source: Amount::Count(source_refused),
+        chip: Amount::Count(chip_refused),
     }
 }

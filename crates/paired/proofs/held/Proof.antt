@@ -21,8 +21,8 @@ returns c =
 held-requires : tie.Need-held-requires
 held-requires c κs = search needs
 
-enum-known-source-count : tie.Need-enum-known-source-count
-enum-known-source-count c = search needs
+enum-known-source-held : tie.Need-enum-known-source-held
+enum-known-source-held c = search needs
 
 enum-told : tie.Need-enum-told
 enum-told c = search needs
@@ -39,8 +39,8 @@ returns-2 c =
 held-requires-2 : tie.Need-held-requires-2
 held-requires-2 c κs = search needs
 
-enum-known-chip-count : tie.Need-enum-known-chip-count
-enum-known-chip-count c = search needs
+enum-known-chip-held : tie.Need-enum-known-chip-held
+enum-known-chip-held c = search needs
 
 enum-told-2 : tie.Need-enum-told-2
 enum-told-2 c = search needs
@@ -60,8 +60,8 @@ returns-4 c =
     let source = chip .before .before .before .before .before in
     let mapped = source .before .before .before .before in
     both-counts _ _ _ _ _ (mapped .before .is-mapped .ensures .0 (not-false _ (mapped .if1 .left)))
-    (sym (source .source-count .given .1) ∙ source .before .before .held .ensures)
-    (sym (chip .chip-count .given .1) ∙ chip .before .before .held2 .ensures) (held-both _)
+    (sym (source .source-held .given .1) ∙ source .before .before .held .ensures)
+    (sym (chip .chip-held .given .1) ∙ chip .before .before .held2 .ensures) (held-both _)
 
 pub held-spec : {M : Type 1} → statement M
 held-spec =
@@ -71,12 +71,12 @@ held-spec =
     no-amount-requires
     returns
     held-requires
-    enum-known-source-count
+    enum-known-source-held
     enum-told
     no-amount-requires-2
     returns-2
     held-requires-2
-    enum-known-chip-count
+    enum-known-chip-held
     enum-told-2
     no-amount-requires-3
     returns-3

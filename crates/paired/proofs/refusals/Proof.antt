@@ -21,8 +21,8 @@ returns c =
 refusals-requires : tie.Need-refusals-requires
 refusals-requires c κs = search needs
 
-enum-known-source-count : tie.Need-enum-known-source-count
-enum-known-source-count c = search needs
+enum-known-source-refused : tie.Need-enum-known-source-refused
+enum-known-source-refused c = search needs
 
 enum-told : tie.Need-enum-told
 enum-told c = search needs
@@ -39,8 +39,8 @@ returns-2 c =
 refusals-requires-2 : tie.Need-refusals-requires-2
 refusals-requires-2 c κs = search needs
 
-enum-known-chip-count : tie.Need-enum-known-chip-count
-enum-known-chip-count c = search needs
+enum-known-chip-refused : tie.Need-enum-known-chip-refused
+enum-known-chip-refused c = search needs
 
 enum-told-2 : tie.Need-enum-told-2
 enum-told-2 c = search needs
@@ -60,8 +60,8 @@ returns-4 c =
     let source = chip .before .before .before .before .before in
     let mapped = source .before .before .before .before in
     both-counts _ _ _ _ _ (mapped .before .is-mapped .ensures .0 (not-false _ (mapped .if1 .left)))
-    (sym (source .source-count .given .1) ∙ source .before .before .refusals .ensures)
-    (sym (chip .chip-count .given .1) ∙ chip .before .before .refusals2 .ensures) (refused-both _)
+    (sym (source .source-refused .given .1) ∙ source .before .before .refusals .ensures)
+    (sym (chip .chip-refused .given .1) ∙ chip .before .before .refusals2 .ensures) (refused-both _)
 
 pub refusals-spec : {M : Type 1} → statement M
 refusals-spec =
@@ -71,12 +71,12 @@ refusals-spec =
     no-amount-requires
     returns
     refusals-requires
-    enum-known-source-count
+    enum-known-source-refused
     enum-told
     no-amount-requires-2
     returns-2
     refusals-requires-2
-    enum-known-chip-count
+    enum-known-chip-refused
     enum-told-2
     no-amount-requires-3
     returns-3
