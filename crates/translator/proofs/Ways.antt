@@ -149,8 +149,11 @@ module _ (bytes : List ℕ) (all : List Step) (l to rank : ℕ) (path : Path) (n
         within 64 bytes (d .over .valid) .steps,
       )
 
-  pub descending-further : (turn : Turn) → Toward t′ node to turn → node < turn .node
-  descending-further turn w = omega (arith, w .node, childOf-after t′ node (turn .index) (w .has))
+  pub descending-down : (turn : Turn) → Toward t′ node to turn → (node < turn .node) × (turn .node ≤ to)
+  descending-down turn w =
+      let l : turn .node < size t′ = omega (arith, w .node, childOf-lt t′ node (turn .index) (w .has)) in
+      let a = above-from t′ (turn .node) to l (lower bytes node to (d .over)) (w .above) in
+      (omega (arith, w .node, childOf-after t′ node (turn .index) (w .has)), a .0)
 
   pub descending-next : (turn : Turn) → Toward t′ node to turn → (more : Path)
       → more ≡ pathOf (stepsOf path ++ (step (turn .index) rank ∷ [])) (path .«leaf_rank») → Descending bytes all l to rank more (turn .node)

@@ -8,7 +8,7 @@ use Rattle.topology.specs.Reader.{tree}
 use Rattle.simulation.specs.Carrying.{route}
 use Rattle.simulation.proofs.Carried.{steps}
 use Rattle.queue_tree.specs.Arrivals.{stepsOf}
-use Rattle.translator.proofs.Ways.{Descending, descending-room, descending-further, descending-next, descending-end}
+use Rattle.translator.proofs.Ways.{Descending, descending-room, descending-down, descending-next, descending-end}
 use Rattle.translator.proofs.descend.Statement.{statement}
 use Rattle.translator.proofs.descend.Tie as tie
 
@@ -25,19 +25,26 @@ loop-holds c =
     record { over = pre .0; plain = pre .1; leaf = refl; deep = pre .2; rest = refl }
 
 toward-requires : tie.Need-toward-requires Inv-loop μ-loop
-toward-requires c κs = ?
+toward-requires c κs = (c .before .loop .inv .over, c .loop-test .taken)
 
 extended-requires : tie.Need-extended-requires Inv-loop μ-loop
-extended-requires c κs = ?
+extended-requires c κs =
+    let inv = c .before .before .loop .inv in
+    (inv .plain, descending-room _ _ _ _ _ _ _ inv)
 
 loop-less : tie.Need-loop-less Inv-loop μ-loop
-loop-less c = ?
+loop-less c =
+    let inv = c .before .before .before .loop .inv in
+    let down = descending-down _ _ _ _ _ _ _ inv _ (c .before .toward .ensures) in
+    omega (arith, down .0, down .1)
 
 loop-again : tie.Need-loop-again Inv-loop μ-loop
-loop-again c = ?
+loop-again c =
+    let inv = c .before .before .before .loop .inv in
+    descending-next _ _ _ _ _ _ _ inv _ (c .before .toward .ensures) _ (c .extended .ensures)
 
 returns : tie.Need-returns Inv-loop μ-loop
-returns c = ?
+returns c = descending-end _ _ _ _ _ _ _ (c .before .loop .inv) (c .loop-test .left)
 
 pub descend-spec : {M : Type 1} → statement M
 descend-spec =
