@@ -1,10 +1,8 @@
 -- The answers of a carrying: one for a list that is refused as a map; and what an answer without refusal says of its path.
-use mathlib.Core.Path.{_≡_, refl, sym, ap, _∙_, subst}
-use mathlib.Core.Logic.{_≢_}
+use mathlib.Core.Path.{_≡_, refl, sym, ap, _∙_}
 use Prim.Native.Nat.{ℕ, zero, suc, _≤_}
 use native.Mathlib.Omega.{arith}
 use mathlib.Core.List.{List}
-use lib.ListN.{length}
 use Rattle.topology.specs.Reader.{orElse, tree}
 use Rattle.topology.proofs.Reader.{within}
 use Rattle.topology.proofs.Cases.{clash}
@@ -18,7 +16,7 @@ use Rattle.simulation.specs.Carrying.{carry}
 use Rattle.simulation.proofs.Simulation.{carry-fault, carry-length}
 use Rattle.queue_tree.specs.Arrivals.{stepsOf}
 use Rattle.queue_tree.specs.declared.Path.{Path}
-use Rattle.translator.specs.Carry.{carryFault, pathOf, Carries}
+use Rattle.translator.specs.Carry.{carryFault, Carries}
 use Rattle.translator.specs.declared.Carried.{Carried}
 use Rattle.translator.proofs.Paths.{steps-path}
 

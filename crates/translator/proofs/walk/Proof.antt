@@ -47,23 +47,23 @@ returns c =
     let s = at .before .before .before .before .before in
     walking-lost _ _ _ (s .pre) _ _ _ _ (at .loop .inv) (c .before .before .before .before .before .loop-test .taken) (sym (length-map _ (s .args .path .steps)) ∙ s .good .1 .1 .1 .0 .1 .1 .0 .1 .0 .1) _ (c .before .before .child .ensures) (c .enum-told .given .1)
 
-shared-slice-read-descend : tie.Need-shared-slice-read-descend Inv-loop μ-loop
-shared-slice-read-descend c =
+shared-slice-read-from : tie.Need-shared-slice-read-from Inv-loop μ-loop
+shared-slice-read-from c =
     let at = c .before .before .before .before .before .before .before .before in
     let s = at .before .before .before .before .before in
     walking-map _ _ _ (s .pre) _ _ _ _ (at .loop .inv)
 
-cast-descend : tie.Need-cast-descend Inv-loop μ-loop
-cast-descend c = omega (arith, c .shared-slice-known4 .given (c .before .before .before .before .before .before .before .before .loop .node))
+cast-from : tie.Need-cast-from Inv-loop μ-loop
+cast-from c = omega (arith, c .shared-slice-known4 .given (c .before .before .before .before .before .before .before .before .loop .node))
 
-shared-slice-read-descend-2 : tie.Need-shared-slice-read-descend-2 Inv-loop μ-loop
-shared-slice-read-descend-2 c =
+shared-slice-read-to : tie.Need-shared-slice-read-to Inv-loop μ-loop
+shared-slice-read-to c =
     let at = c .before .before .before .before .before .before .before .before .before in
     let s = at .before .before .before .before .before in
     walking-child _ _ _ (s .pre) _ _ _ _ (at .loop .inv) (c .before .before .before .before .before .before .before .before .loop-test .taken) (sym (length-map _ (s .args .path .steps)) ∙ s .good .1 .1 .1 .0 .1 .1 .0 .1 .0 .1) _ (c .before .before .before .before .before .child .ensures) _ (c .before .before .before .child2 .given .1)
 
-cast-descend-2 : tie.Need-cast-descend-2 Inv-loop μ-loop
-cast-descend-2 c = omega (arith, c .shared-slice-known5 .given (c .before .before .before .child2 .given .0 .0))
+cast-to : tie.Need-cast-to Inv-loop μ-loop
+cast-to c = omega (arith, c .shared-slice-known5 .given (c .before .before .before .child2 .given .0 .0))
 
 descend-requires : tie.Need-descend-requires Inv-loop μ-loop
 descend-requires c κs =
@@ -115,10 +115,10 @@ walk-spec =
     enum-known-child
     enum-told
     returns
-    shared-slice-read-descend
-    cast-descend
-    shared-slice-read-descend-2
-    cast-descend-2
+    shared-slice-read-from
+    cast-from
+    shared-slice-read-to
+    cast-to
     descend-requires
     add-i
     loop-less
