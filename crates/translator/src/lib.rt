@@ -84,10 +84,11 @@ fn walk(source: &[u8], target: &[u8], map: &[u8], path: Path) -> Carried
 {
     let steps = path.steps;
     let count = path.count;
+    let leaf_rank = path.leaf_rank;
     let mut carried = Path {
         steps: [Step { child: 0, rank: 0 }; 9],
         count: 0,
-        leaf_rank: path.leaf_rank,
+        leaf_rank,
     };
     let mut node = 0;
     let mut i = 0;

@@ -9,10 +9,10 @@ use Rattle.translator.proofs.walk.Statement.{statement}
 use Rattle.translator.proofs.walk.Tie as tie
 
 abbrev Inv-loop : tie.InvT-loop
-Inv-loop source target map path steps count carried₀ node₀ i₀ carried node i = Walking source target map path carried node i
+Inv-loop source target map path steps count «leaf_rank» carried₀ node₀ i₀ carried node i = Walking source target map path carried node i
 
 abbrev μ-loop : tie.MeasureT-loop
-μ-loop source target map path steps count carried₀ node₀ i₀ carried node i = count - i
+μ-loop source target map path steps count «leaf_rank» carried₀ node₀ i₀ carried node i = count - i
 
 loop-holds : tie.Need-loop-holds Inv-loop μ-loop
 loop-holds c = walking-start _ _ _ (c .before .before .before .before .pre) _
