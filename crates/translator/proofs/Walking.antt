@@ -10,7 +10,7 @@ use lib.ListN.{length, drop, getD, length-append, length-drop, drop-of-length-le
 use Rattle.lists.proofs.Map.{length-map}
 use Rattle.topology.specs.Tree.{Topo, width, size}
 use Rattle.topology.specs.Address.{child, addr, sub, subtree, childOf, depth}
-use Rattle.topology.specs.Reader.{orElse, fault, tree}
+use Rattle.topology.specs.Reader.{fault, tree}
 use Rattle.topology.specs.Branch.{childAt}
 use Rattle.topology.specs.declared.Found.{Found}
 use Rattle.topology.specs.declared.Found.the-variants.{Node, Missing}
@@ -30,9 +30,10 @@ use Rattle.queue_tree.specs.Arrivals.{stepOf, stepsOf}
 use Rattle.queue_tree.specs.declared.Step.{Step as CodeStep}
 use Rattle.queue_tree.specs.declared.Path.{Path}
 use Rattle.queue_tree.proofs.Paths.{step-at, steps-end}
-use Rattle.translator.specs.Carry.{carryFault, noStep, pathOf, Carries}
+use Rattle.translator.specs.Carry.{noStep, pathOf, Carries}
 use Rattle.translator.specs.Ways.{Plain, Over}
 use Rattle.translator.proofs.Paths.{steps-path}
+use Rattle.translator.proofs.Faults.{carry-path}
 
 pub record Walking (source target m : List ℕ) (path carried : Path) (node i : ℕ) : Type 0 where
   pub there : node < size (tree source)
@@ -63,12 +64,8 @@ module _ (source target m : List ℕ) (z : mapFault source target m ≡ 0) (path
   passes : Passes S T m
   passes = mapFault-none source target m .0 z .2
 
-  path-fault : carryFault source target m ss ≡ pathFault S ss
-  unfolding carryFault
-  path-fault = ap (λ (f : ℕ). orElse f (pathFault S ss)) z
-
   refused : (f : ℕ) → f ≢ 0 → pathFault S ss ≡ f → Carries source target m path (record { path = path; refusal = f })
-  refused f n e = record { refusal = sym (path-fault ∙ e); carried = λ y. absurd (n y); kept = λ _. refl }
+  refused f n e = record { refusal = sym (carry-path source target m ss z ∙ e); carried = λ y. absurd (n y); kept = λ _. refl }
 
   pub walking-start : Walking source target m path (pathOf [] (path .«leaf_rank»)) 0 0
   walking-start =
@@ -197,7 +194,7 @@ module _ (source target m : List ℕ) (z : mapFault source target m ≡ 0) (path
           ∙ w .rest
           ∙ carry-nodes S T m ss none in
           record {
-            refusal = sym (path-fault ∙ none);
+            refusal = sym (carry-path source target m ss z ∙ none);
             carried = λ _. w .plain ∙ ap₂ pathOf all (w .leaf);
             kept = λ n. absurd (n refl);
           }
