@@ -35,6 +35,7 @@ use Rattle.translator.specs.Ways.{Plain, Over}
 use Rattle.translator.proofs.Paths.{steps-path}
 use Rattle.translator.proofs.Faults.{carry-path}
 
+-- What is carried so far, with what carrying the steps left gives, is all (`rest`).
 pub record Walking (source target m : List ℕ) (path carried : Path) (node i : ℕ) : Type 0 where
   pub there : node < size (tree source)
   pub deep : depth (tree source) node ≡ i
@@ -91,22 +92,9 @@ module _ (source target m : List ℕ) (z : mapFault source target m ≡ 0) (path
 
     -- ---- one step more
 
-    module _ (h : i < path .count) (g : length (path .steps) ≡ 9) (r : Found)
-        (e : r ≡ childAt source node (getD (path .steps) i noStep .child)) where
+    module _ (r : Found) (e : r ≡ childAt source node (getD (path .steps) i noStep .child)) where
       abbrev s : CodeStep
       s = getD (path .steps) i noStep
-
-      abbrev others : List Step
-      others = drop (suc i) ss
-
-      first : drop i ss ≡ stepOf s ∷ others
-      first = step-at path i noStep h (omega (arith, walking-few))
-
-      pub walking-lost : r ≡ Missing → Carries source target m path (record { path = path; refusal = 13 })
-      walking-lost q =
-          let none = valid-missing 32 source valid-source node (s .child) (sym e ∙ q) in
-          refused 13 (omega arith)
-          (w .same ∙ ap (pathFault (subtree S node)) first ∙ fault-off (subtree S node) (s .child) (s .rank) others (λ x. none (w .there, x .0, x .1)))
 
       module _ (next : ℕ) (q : r ≡ Node next) where
         is-child : HasChild S node (s .child) × (next ≡ childOf S node (s .child))
@@ -127,22 +115,37 @@ module _ (source target m : List ℕ) (z : mapFault source target m ≡ 0) (path
               above = rw (is-child .1) (image-below S T m passes node (s .child) (is-child .0) .0);
             }
 
-        pub walking-next : (more : Path)
+      module _ (h : i < path .count) (g : length (path .steps) ≡ 9) where
+        abbrev others : List Step
+        others = drop (suc i) ss
+
+        first : drop i ss ≡ stepOf s ∷ others
+        first = step-at path i noStep h (omega (arith, walking-few))
+
+        pub walking-lost : r ≡ Missing → Carries source target m path (record { path = path; refusal = 13 })
+        walking-lost q =
+            let none = valid-missing 32 source valid-source node (s .child) (sym e ∙ q) in
+            refused 13 (omega arith)
+            (w .same ∙ ap (pathFault (subtree S node)) first ∙ fault-off (subtree S node) (s .child) (s .rank) others (λ x. none (w .there, x .0, x .1)))
+
+        -- The steps carried so far and the way to the child's image are the carried steps at the child.
+        pub walking-next : (next : ℕ) → r ≡ Node next → (more : Path)
             → more ≡ pathOf (stepsOf carried ++ steps (s .rank) (route T (image m node) (image m next))) (carried .«leaf_rank»)
             → Walking source target m path more next (i + 1)
-        walking-next more is =
+        walking-next next q more is =
             let x : ℕ = image m node in
             let y : ℕ = image m next in
             let way : List Step = steps (s .rank) (route T x y) in
-            let has = is-child .0 in
+            let has = is-child next q .0 in
+            let at = is-child next q .1 in
             let now : stepsOf more ≡ stepsOf carried ++ way = ap stepsOf is ∙ steps-path (stepsOf carried ++ way) (carried .«leaf_rank») in
             let rank-kept : more .«leaf_rank» ≡ carried .«leaf_rank» = ap (λ (p : Path). p .«leaf_rank») is in
-            let kid : subtree S next ≡ child (subtree S node) (s .child) = ap (subtree S) (is-child .1) ∙ subtree-childOf S node (s .child) has in
-            let under = walking-over .above in
+            let kid : subtree S next ≡ child (subtree S node) (s .child) = ap (subtree S) at ∙ subtree-childOf S node (s .child) has in
+            let under = walking-over next q .above in
             rw (add-one i)
             record {
-              there = next-lt;
-              deep = ap (depth S) (is-child .1) ∙ depth-childOf S node (s .child) has ∙ ap suc (w .deep);
+              there = next-lt next q;
+              deep = ap (depth S) at ∙ depth-childOf S node (s .child) has ∙ ap suc (w .deep);
               same =
                   w .same
                   ∙ ap (pathFault (subtree S node)) first
@@ -165,7 +168,7 @@ module _ (source target m : List ℕ) (z : mapFault source target m ≡ 0) (path
               rest =
                   ap (λ (l : List Step). l ++ carryNodes S T m next others) now
                   ∙ append-assoc (stepsOf carried) way (carryNodes S T m next others)
-                  ∙ ap (λ (c : ℕ). stepsOf carried ++ (steps (s .rank) (route T x (image m c)) ++ carryNodes S T m c others)) (is-child .1)
+                  ∙ ap (λ (c : ℕ). stepsOf carried ++ (steps (s .rank) (route T x (image m c)) ++ carryNodes S T m c others)) at
                   ∙ ap (λ (l : List Step). stepsOf carried ++ carryNodes S T m node l) (sym first)
                   ∙ w .rest;
             }

@@ -30,6 +30,7 @@ noStep = record { child = 0; rank = 0 }
 abbrev pub pathOf : List Step → ℕ → Path
 pathOf ss l = record { steps = map codeStep ss ++ replicate (9 - length ss) noStep; count = length ss; «leaf_rank» = l }
 
+-- The answer: the refusal's number; the carried path where there is no refusal, else the path as it came.
 pub record Carries (source target m : List ℕ) (path : Path) (r : Carried) : Type 0 where
   pub refusal : r .refusal ≡ carryFault source target m (stepsOf path)
   pub carried : r .refusal ≡ 0 → r .path ≡ pathOf (carry (tree source) (tree target) m (stepsOf path)) (path .«leaf_rank»)
