@@ -6,6 +6,7 @@ use mathlib.Core.List.{List}
 use Rattle.topology.specs.Reader.{tree}
 use Rattle.topology.proofs.Reader.{within}
 use Rattle.topology.proofs.Cases.{clash}
+use Rattle.topology.proofs.Refusals.{orElse-none}
 use Rattle.pifo.specs.Tree.{Step, pathFault}
 use Rattle.embedding_laws.specs.Check.{mapFault}
 use Rattle.embedding_laws.proofs.Rules.{mapFault-none}
@@ -16,10 +17,10 @@ use Rattle.simulation.specs.Carrying.{carry}
 use Rattle.simulation.proofs.Simulation.{carry-fault, carry-length}
 use Rattle.queue_tree.specs.Arrivals.{stepsOf}
 use Rattle.queue_tree.specs.declared.Path.{Path}
-use Rattle.translator.specs.Carry.{Carries, Arrives}
+use Rattle.translator.specs.Carry.{carryFault, Carries, Arrives}
 use Rattle.translator.specs.declared.Carried.{Carried}
 use Rattle.translator.proofs.Paths.{steps-path}
-use Rattle.translator.proofs.Faults.{carry-map, carry-none}
+use Rattle.translator.proofs.Faults.{carry-map}
 
 module _ (source target m : List ℕ) (a : Checked) (e : a ≡ checked (mapFault source target m)) where
   pub map-passes : a ≡ Passes → mapFault source target m ≡ 0
@@ -42,6 +43,12 @@ module _ (source target m : List ℕ) (a : Checked) (e : a ≡ checked (mapFault
             carried = λ y. absurd (omega arith);
             kept = λ _. refl;
           }
+
+-- a carrying without refusal: the map passes, and the path has no fault in the source
+pub carry-none : (source target m : List ℕ) (ss : List Step) → carryFault source target m ss ≡ 0
+    → (mapFault source target m ≡ 0) × (pathFault (tree source) ss ≡ 0)
+unfolding carryFault
+carry-none source target m ss e = orElse-none (mapFault source target m) (pathFault (tree source) ss) e
 
 pub carried-steps : (source target m : List ℕ) (path : Path) (r : Carried) → Carries source target m path r → r .refusal ≡ 0
     → Arrives source target m path (r .path)
