@@ -1,12 +1,13 @@
 -- Paths with no fault, taken apart: their last step ends at a leaf, and each step names a child that is there.
 use mathlib.Core.Path.{_≡_, refl}
-use mathlib.Core.Logic.{_⊎_, inl, inr}
-use Prim.Native.Nat.{ℕ, _≤_, _<_}
+use mathlib.Core.Logic.{_≢_, _⊎_, inl, inr}
+use Prim.Native.Nat.{ℕ, zero, suc, _≤_, _<_}
+use native.Mathlib.Decide.{decLe}
 use native.Mathlib.Omega.{arith}
 use mathlib.Core.List.{List, [], _∷_}
 use mathlib.Core.Bool.{Bool, true, false, _&&_}
 use lib.Dec.{leb, eqb}
-use borrow.Author.Tests.{leb-true, eqb-true, le-leb, eq-eqb}
+use borrow.Author.Tests.{leb-true, eqb-true, le-leb, lt-leb, eq-eqb, ne-eqb}
 use Rattle.topology.specs.Tree.{Topo, width}
 use Rattle.topology.specs.Address.{child}
 use Rattle.topology.specs.Reader.{pick}
@@ -22,6 +23,21 @@ fault-end t h = by-test (eqb (width t) 0) refl h
 
 pub end-fault : (t : Topo) → width t ≡ 0 → pathFault t [] ≡ 0
 end-fault t e = rw (eq-eqb (width t) 0 e)
+
+-- The end above a leaf; a step to a child that is there, and one to a child that is not.
+pub fault-above : (t : Topo) → width t ≢ 0 → pathFault t [] ≡ 14
+fault-above t n = rw (ne-eqb (width t) 0 n)
+
+pub fault-on : (t : Topo) (i r : ℕ) (ss : List Step) → 0 < i → i ≤ width t → pathFault t (step i r ∷ ss) ≡ pathFault (child t i) ss
+fault-on t i r ss h g = rw (le-leb 1 i h, le-leb i (width t) g)
+
+pub fault-off : (t : Topo) (i r : ℕ) (ss : List Step) → ((0 < i) × (i ≤ width t) → ⊥) → pathFault t (step i r ∷ ss) ≡ 13
+fault-off t zero r ss f = refl
+fault-off t (suc i) r ss f = by-width (decLe (suc i) (width t))
+  where
+    by-width : Dec (suc i ≤ width t) → pathFault t (step (suc i) r ∷ ss) ≡ 13
+    by-width (yes h) = absurd (f (omega arith, h))
+    by-width (no h) = rw (le-leb 1 (suc i) (omega arith), lt-leb (suc i) (width t) (omega arith))
 
 pub record Passes (t : Topo) (i : ℕ) (ss : List Step) : Type 0 where
   pub low : 0 < i

@@ -18,7 +18,7 @@ use Rattle.topology.specs.Branch.{childAt}
 use Rattle.topology.specs.declared.Found.{Found}
 use Rattle.topology.specs.declared.Found.the-variants.{Node, Missing}
 use Rattle.topology.proofs.Children.{HasChild, childOf-lt, childOf-ahead, subtree-childOf}
-use Rattle.topology.proofs.Lookup.{valid-size, valid-length}
+use Rattle.topology.proofs.Lookup.{valid-size, valid-length, valid-child, valid-missing}
 use Rattle.pifo.specs.Queue.{Entry, entry, child, packet}
 use Rattle.pifo.specs.Numbered.{Queues, kidAt, through, descentBy, descent, isIn}
 use Rattle.queue_tree.specs.State.{entryOf, itemOf}
@@ -30,7 +30,7 @@ use Rattle.queue_tree.specs.declared.Item.the-variants.{Child, Packet}
 use Rattle.queue_tree.specs.declared.departures.Heads.{Heads}
 use Rattle.queue_tree.specs.declared.departures.Trail.{Trail}
 use Rattle.queue_tree.proofs.Matches.{off}
-use Rattle.queue_tree.proofs.Walking.{zeros-at, found, lost}
+use Rattle.queue_tree.proofs.Walking.{zeros-at}
 
 -- ---- heads
 
@@ -115,7 +115,7 @@ module _ (bytes : List ℕ) (v : fault 64 bytes ≡ 0) (heads : Heads) (node : �
       no-child f o m r n q g = by-item (Child c) e r q g (λ back. by-child c refl back)
         where
           by-test : (i : ℕ) (k : Bool) → ltb i (width (subtree (tree bytes) node)) ≡ k → c ≡ suc i → (d : Option (ℕ × List ℕ)) → Down (pick k (through node d) none) r
-          by-test i true t y d = absurd (lost 64 bytes v node c (sym o ∙ m) (omega (arith, h, valid-size 64 bytes v), omega arith, omega (arith, ltb-true i (width (subtree (tree bytes) node)) t)))
+          by-test i true t y d = absurd (valid-missing 64 bytes v node c (sym o ∙ m) (omega (arith, h, valid-size 64 bytes v), omega arith, omega (arith, ltb-true i (width (subtree (tree bytes) node)) t)))
           by-test i false t y d = n
 
           by-child : (k : ℕ) → c ≡ k → (back : List (Entry ℕ))
@@ -125,7 +125,7 @@ module _ (bytes : List ℕ) (v : fault 64 bytes ≡ 0) (heads : Heads) (node : �
 
       module _ (f : Found) (next : ℕ) (o : f ≡ childAt bytes node c) (m : f ≡ Node next) where
         has : HasChild (tree bytes) node c × (next ≡ childOf (tree bytes) node c)
-        has = found 64 bytes v node c next (sym o ∙ m)
+        has = valid-child 64 bytes v node c next (sym o ∙ m)
 
         pub next-lt : next < length bytes
         next-lt = omega (arith, has .1, childOf-lt (tree bytes) node c (has .0), valid-size 64 bytes v)

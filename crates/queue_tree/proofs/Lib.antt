@@ -3,6 +3,7 @@ pub mod Slots
 pub mod Pass
 pub mod Matches
 pub mod Verdict
+pub mod Paths
 pub mod Walking
 pub mod Ranges
 pub mod Entering

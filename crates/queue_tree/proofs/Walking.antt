@@ -4,17 +4,15 @@ use mathlib.Core.Logic.{_≢_}
 use Prim.Native.Nat.{ℕ, zero, suc, _+_, _≤_, _<_}
 use native.Mathlib.Nat.{not-suc-le-zero, le-of-suc-le-suc}
 use native.Mathlib.Numerals.{add-one}
-use native.Mathlib.Decide.{ℕ-discrete, decLe}
+use native.Mathlib.Decide.{ℕ-discrete}
 use native.Mathlib.Omega.{arith}
-use mathlib.Core.List.{List, [], _∷_, map}
-use mathlib.Core.Bool.{Bool, true, false, _&&_}
+use mathlib.Core.List.{List, [], _∷_}
+use mathlib.Core.Bool.{Bool}
 use mathlib.Core.Option.{Option, none, some}
-use lib.ListN.{length, take, drop, getD, set, replicate, length-set, length-take, length-replicate, drop-of-length-le}
-use lib.Seq.{drop-cons, getD-set-same, getD-set-other, getD-take}
-use lib.Dec.{leb}
-use borrow.Author.Tests.{eq-eqb, ne-eqb, le-leb, lt-leb}
-use Rattle.lists.proofs.Map.{length-map, getD-map}
-use Rattle.topology.specs.Tree.{Topo, kids, width, size, height, code}
+use lib.ListN.{length, drop, getD, set, replicate, length-set, length-replicate, drop-of-length-le}
+use lib.Seq.{getD-set-same, getD-set-other}
+use borrow.Author.Tests.{eq-eqb, ne-eqb}
+use Rattle.topology.specs.Tree.{Topo, kids, width, size, height}
 use Rattle.topology.specs.Address.{nth, child, addr, sub, subtree, childOf, depth}
 use Rattle.topology.specs.Reader.{pick, fault, tree}
 use Rattle.topology.specs.Branch.{childAt}
@@ -23,11 +21,12 @@ use Rattle.topology.proofs.Numbering.{addr-root, addr-in}
 use Rattle.topology.proofs.Ancestry.{size-pos, in-height}
 use Rattle.topology.proofs.Children.{HasChild, childOf-lt, childOf-ahead, childOf-after, subtree-childOf, depth-childOf}
 use Rattle.topology.specs.declared.Found.{Found}
-use Rattle.topology.proofs.Lookup.{child-code, child-there, valid-size, valid-width}
-use Rattle.topology.proofs.Reader.{drawn, within}
+use Rattle.topology.proofs.Lookup.{valid-size, valid-width, valid-child, valid-missing}
+use Rattle.topology.proofs.Reader.{within}
 use Rattle.pifo.specs.Queue.{Entry, entry, child as childItem, packet}
 use Rattle.pifo.specs.Tree.{Step, step, pathFault}
 use Rattle.pifo.specs.Numbered.{kidAt, entered}
+use Rattle.pifo.proofs.Paths.{fault-above, fault-on, fault-off}
 use Rattle.queue_tree.specs.State.{entryOf}
 use Rattle.queue_tree.specs.Sound.{noEntry}
 use Rattle.queue_tree.specs.Arrivals.{stepOf, stepsOf, sum, marked, Walked}
@@ -36,6 +35,7 @@ use Rattle.queue_tree.specs.declared.Step.{Step as CodeStep}
 use Rattle.queue_tree.specs.declared.Item.the-variants.{Child, Packet}
 use Rattle.queue_tree.specs.declared.Entry.{Entry as CodeEntry}
 use Rattle.queue_tree.specs.declared.arrivals.Added.{Added}
+use Rattle.queue_tree.proofs.Paths.{step-at, steps-end}
 
 -- ---- sums of marks
 
@@ -54,23 +54,6 @@ zeros-at (suc n) zero = refl
 zeros-at (suc n) (suc k) = zeros-at n k
 
 -- ---- one step of a path
-
--- a step to a child that is there, and one to a child that is not
-path-on : (t : Topo) (i r : ℕ) (ss : List Step) → i < width t → pathFault t (step (suc i) r ∷ ss) ≡ pathFault (nth (kids t) i) ss
-path-on t i r ss h = rw (le-leb 1 (suc i) (omega arith), le-leb (suc i) (width t) h)
-
-path-off : (t : Topo) (i r : ℕ) (ss : List Step) → ((0 < i) × (i ≤ width t) → ⊥) → pathFault t (step i r ∷ ss) ≡ 13
-path-off t zero r ss f = refl
-path-off t (suc i) r ss f =
-    rw (lt-leb (suc i) (width t) (beyond (decLe (suc i) (width t)))) (none-left (leb 1 (suc i)))
-  where
-    beyond : Dec (suc i ≤ width t) → width t < suc i
-    beyond (yes h) = absurd (f (omega arith, h))
-    beyond (no h) = omega arith
-
-    none-left : (b : Bool) → pick (b && false) (pathFault (nth (kids t) i) ss) 13 ≡ 13
-    none-left true = refl
-    none-left false = refl
 
 -- the step taken at node k is entered there, and the rest of the path goes on at the child
 entered-here : (t : Topo) (k i r : ℕ) (ss : List Step) (l p : ℕ) → entered t k (step (suc i) r ∷ ss) l p k ≡ some (entry r (childItem (suc i)))
@@ -149,7 +132,7 @@ module _ (t : Topo) (ss : List Step) (l p at i : ℕ) (pending : List ℕ) (entr
 
     module _ (s : CodeStep) (rest : List Step) (d : drop i ss ≡ stepOf s ∷ rest) (n : drop (suc i) ss ≡ rest) where
       pub missing : (HasChild t at (s .child) → ⊥) → pathFault t ss ≡ 13
-      missing f = w .same ∙ ap (pathFault (subtree t at)) d ∙ path-off (subtree t at) (s .child) (s .rank) rest (λ x. f (w .there, x .0, x .1))
+      missing f = w .same ∙ ap (pathFault (subtree t at)) d ∙ fault-off (subtree t at) (s .child) (s .rank) rest (λ x. f (w .there, x .0, x .1))
 
       pub advance : (next : ℕ) → HasChild t at (s .child) → next ≡ childOf t at (s .child)
           → Walking t ss l p next (suc i) (set pending at 1) (set entries at (record { rank = s .rank; item = Child (s .child) }))
@@ -182,7 +165,7 @@ module _ (t : Topo) (ss : List Step) (l p at i : ℕ) (pending : List ℕ) (entr
                 there = omega (arith, q, childOf-lt t at (s .child) h);
                 deep = ap (depth t) q ∙ depth-childOf t at (s .child) h ∙ ap suc (w .deep);
                 same =
-                    w .same ∙ ap (pathFault u) taken ∙ path-on u c (s .rank) rest wide
+                    w .same ∙ ap (pathFault u) taken ∙ fault-on u (suc c) (s .rank) rest (omega arith) wide
                     ∙ ap (λ (v : Topo). pathFault v rest) tree ∙ ap (pathFault (subtree t next)) (sym n);
                 added = λ m. added-by m (ℕ-discrete at m) here (after m);
                 count = set-mark;
@@ -207,7 +190,7 @@ module _ (t : Topo) (ss : List Step) (l p at i : ℕ) (pending : List ℕ) (entr
 
     module _ (e : length ss ≤ i) where
       pub above : width (subtree t at) ≢ 0 → pathFault t ss ≡ 14
-      above n = w .same ∙ ap (pathFault (subtree t at)) (drop-of-length-le ss e) ∙ ap (λ (b : Bool). pick b 0 14) (ne-eqb (width (subtree t at)) 0 n)
+      above n = w .same ∙ ap (pathFault (subtree t at)) (drop-of-length-le ss e) ∙ fault-above (subtree t at) n
 
       pub arrived : height t ≤ 8 → width (subtree t at) ≡ 0 → (a : Added) → a .fault ≡ 0 → a .pending ≡ set pending at 1
           → a .entries ≡ set entries at (record { rank = l; item = Packet p }) → a .count ≡ suc i → Walked t (size t) ss l p a
@@ -257,38 +240,6 @@ module _ (t : Topo) (ss : List Step) (l p at i : ℕ) (pending : List ℕ) (entr
           own = λ m h. ap (λ (x : List ℕ). getD x m 0) pe ∙ w .later m (omega (arith, w .there));
         }
 
--- ---- the steps of the code's path
-
-pub step-at : (steps : List CodeStep) (count i : ℕ) (d : CodeStep) → i < count → i < length steps
-    → drop i (map stepOf (take count steps)) ≡ stepOf (getD steps i d) ∷ drop (suc i) (map stepOf (take count steps))
-step-at steps count i d h g =
-    let l : i < length (take count steps) = omega (arith, length-take count steps) in
-    drop-cons (map stepOf (take count steps)) i (stepOf d) (omega (arith, length-map stepOf (take count steps)))
-    ∙ ap (λ (s : Step). s ∷ drop (suc i) (map stepOf (take count steps)))
-    (getD-map stepOf (take count steps) i d (stepOf d) l ∙ ap stepOf (getD-take count steps i d h))
-
-pub steps-end : (steps : List CodeStep) (count i : ℕ) → count ≤ i → length (map stepOf (take count steps)) ≤ i
-steps-end steps count i h = omega (arith, length-map stepOf (take count steps), length-take count steps)
-
--- ---- a child that the code finds, and one that it does not
-
-pub found : (limit : ℕ) (bytes : List ℕ) (e : fault limit bytes ≡ 0) (n c next : ℕ) → childAt bytes n c ≡ Node next
-    → HasChild (tree bytes) n c × (next ≡ childOf (tree bytes) n c)
-found limit bytes e n c next f =
-    let g : childAt (code (tree bytes)) n c ≡ Node next = ap (λ (bs : List ℕ). childAt bs n c) (drawn limit bytes e) ∙ f in
-    let h = child-there (tree bytes) n c next g in
-    (h, same-node (sym g ∙ child-code (tree bytes) n c h))
-  where
-    same-node : {a b : ℕ} → Node a ≡ Node b → a ≡ b
-    same-node q = cc
-
-pub lost : (limit : ℕ) (bytes : List ℕ) (e : fault limit bytes ≡ 0) (n c : ℕ) → childAt bytes n c ≡ Missing → HasChild (tree bytes) n c → ⊥
-lost limit bytes e n c f h =
-    apart (sym f ∙ ap (λ (bs : List ℕ). childAt bs n c) (sym (drawn limit bytes e)) ∙ child-code (tree bytes) n c h)
-  where
-    apart : {a : ℕ} → Missing ≡ Node a → ⊥
-    apart q = let z : _≡_ {A = ℕ} 0 1 = cc in omega arith
-
 -- ---- the code's walk
 
 -- the walk stands at a node of the arrays, at most eight steps down
@@ -325,19 +276,19 @@ module _ (bytes : List ℕ) (v : fault 64 bytes ≡ 0) (path : Path) (p : ℕ) w
           let step : CodeStep = getD (path .steps) i (record { child = 0; rank = 0 }) in
           refused 13 (omega arith)
           (missing (tree bytes) (stepsOf path) (path .«leaf_rank») p at i pending entries (w .way) small step (drop (suc i) (stepsOf path))
-          (step-at (path .steps) (path .count) i (record { child = 0; rank = 0 }) h (omega (arith, w .few))) refl
-          (lost 64 bytes v at (step .child) (sym e ∙ m)))
+          (step-at path i (record { child = 0; rank = 0 }) h (omega (arith, w .few))) refl
+          (valid-missing 64 bytes v at (step .child) (sym e ∙ m)))
 
       pub step-down : (r : Found) (next : ℕ) → r ≡ childAt bytes at (getD (path .steps) i (record { child = 0; rank = 0 }) .child) → r ≡ Node next
           → Way bytes path p next (i + 1) (set pending at 1)
           (set entries at (record { rank = getD (path .steps) i (record { child = 0; rank = 0 }) .rank; item = Child (getD (path .steps) i (record { child = 0; rank = 0 }) .child) }))
       step-down r next e m =
           let step : CodeStep = getD (path .steps) i (record { child = 0; rank = 0 }) in
-          let f = found 64 bytes v at (step .child) next (sym e ∙ m) in
+          let f = valid-child 64 bytes v at (step .child) next (sym e ∙ m) in
           rw (add-one i)
           (whole next (suc i) (set pending at 1) (set entries at (record { rank = step .rank; item = Child (step .child) }))
           (advance (tree bytes) (stepsOf path) (path .«leaf_rank») p at i pending entries (w .way) small step (drop (suc i) (stepsOf path))
-          (step-at (path .steps) (path .count) i (record { child = 0; rank = 0 }) h (omega (arith, w .few))) refl next (f .0) (f .1)))
+          (step-at path i (record { child = 0; rank = 0 }) h (omega (arith, w .few))) refl next (f .0) (f .1)))
 
     module _ (h : path .count ≤ i) where
       width-at : width (subtree (tree bytes) at) ≡ getD bytes at 0
@@ -346,7 +297,7 @@ module _ (bytes : List ℕ) (v : fault 64 bytes ≡ 0) (path : Path) (p : ℕ) w
       pub ends-above : getD bytes at 0 ≢ 0 → Walked (tree bytes) (length bytes) (stepsOf path) (path .«leaf_rank») p (record { fault = 14; pending = pending; entries = entries; count = 0 })
       ends-above n =
           refused 14 (omega arith)
-          (above (tree bytes) (stepsOf path) (path .«leaf_rank») p at i pending entries (w .way) small (steps-end (path .steps) (path .count) i h) (λ e. n (sym width-at ∙ e)))
+          (above (tree bytes) (stepsOf path) (path .«leaf_rank») p at i pending entries (w .way) small (steps-end path i h) (λ e. n (sym width-at ∙ e)))
 
       pub at-leaf : getD bytes at 0 ≡ 0
           → Walked (tree bytes) (length bytes) (stepsOf path) (path .«leaf_rank») p
@@ -354,5 +305,5 @@ module _ (bytes : List ℕ) (v : fault 64 bytes ≡ 0) (path : Path) (p : ℕ) w
       at-leaf z =
           let a : Added = record { fault = 0; pending = set pending at 1; entries = set entries at (record { rank = path .«leaf_rank»; item = Packet p }); count = i + 1 } in
           subst (λ (k : ℕ). Walked (tree bytes) k (stepsOf path) (path .«leaf_rank») p a) (valid-size 64 bytes v)
-          (arrived (tree bytes) (stepsOf path) (path .«leaf_rank») p at i pending entries (w .way) small (steps-end (path .steps) (path .count) i h) (within 64 bytes v .steps)
+          (arrived (tree bytes) (stepsOf path) (path .«leaf_rank») p at i pending entries (w .way) small (steps-end path i h) (within 64 bytes v .steps)
           (width-at ∙ z) a refl refl refl (add-one i))

@@ -5,7 +5,7 @@ use mathlib.Core.Logic.{_⊎_, inl, inr}
 use Prim.Native.Nat.{ℕ, suc, _≤_}
 use native.Mathlib.Decide.{ℕ-discrete}
 use native.Mathlib.Omega.{arith}
-use mathlib.Core.List.{List, [], _∷_, _++_, map, append-nil, append-assoc, append-cancel-left}
+use mathlib.Core.List.{List, [], _∷_, _++_, append-nil, append-assoc, append-cancel-left}
 use mathlib.Core.Option.{none, some}
 use lib.ListN.{length, drop}
 use lib.Seq.{drop-append-seam}
@@ -19,15 +19,11 @@ use Rattle.pifo.specs.Tree.{Step, step, pathFault}
 use Rattle.pifo.proofs.Paths.{fault-end, end-fault, fault-step, step-fault}
 use Rattle.pifo.specs.Addressed.{along}
 use Rattle.simulation.specs.Mirror.{toward, Owns, ranked, turn}
-use Rattle.simulation.specs.Carrying.{carryFrom}
+use Rattle.simulation.specs.Carrying.{steps, carryFrom}
 use Rattle.simulation.proofs.Prefixes.{above-trans, above-strict, toward-over, toward-apart}
 use Rattle.simulation.proofs.Images.{Keeps}
 use Rattle.simulation.proofs.Turning.{after}
 use Rattle.simulation.proofs.Owners.{owner-low}
-
--- the steps of one rank down a way
-abbrev pub steps : ℕ → Addr → List Step
-steps r g = map (λ (k : ℕ). step k r) g
 
 -- Steps down a way that is there have no fault but that of the rest.
 fault-steps : (t : Topo) (r : ℕ) (g : Addr) (rest : List Step) → In t g → pathFault (sub t g) rest ≡ 0 → pathFault t (steps r g ++ rest) ≡ 0

@@ -16,8 +16,7 @@ use Rattle.pifo.specs.Tree.{Step, step, pathFault}
 use Rattle.pifo.proofs.Paths.{fault-step}
 use Rattle.embedding_laws.specs.Rules.{image, Passes}
 use Rattle.simulation.specs.Embedding.{imageAt}
-use Rattle.simulation.specs.Carrying.{carryFrom, carry, route, carryNodes}
-use Rattle.simulation.proofs.Carried.{steps}
+use Rattle.simulation.specs.Carrying.{steps, carryFrom, carry, route, carryNodes}
 
 pub image-below : (S T : Topo) (m : List ℕ) → Passes S T m → (n i : ℕ) → HasChild S n i
     → Above (addr T (image m n)) (addr T (image m (childOf S n i))) × (image m n ≡ image m (childOf S n i) → ⊥)

@@ -8,12 +8,16 @@ use Rattle.pifo.specs.Tree.{Step, step}
 use Rattle.embedding_laws.specs.Rules.{image}
 use Rattle.simulation.specs.Embedding.{imageAt}
 
+-- the steps of one rank down a way
+abbrev pub steps : ℕ → Addr → List Step
+steps r way = map (λ (k : ℕ). step k r) way
+
 -- For a step from the node at address s to child i with rank r, every target node from the image of s down to, but without, the image of
 -- that child gets the child number toward it, with rank r: these child numbers are what the child's address has beyond that of s.
 abbrev pub carryFrom : (Addr → Addr) → Addr → List Step → List Step
 carryFrom F s [] = []
 carryFrom F s (step i r ∷ ss) =
-    map (λ (k : ℕ). step k r) (drop (length (F s)) (F (s ++ (i ∷ [])))) ++ carryFrom F (s ++ (i ∷ [])) ss
+    steps r (drop (length (F s)) (F (s ++ (i ∷ [])))) ++ carryFrom F (s ++ (i ∷ [])) ss
 
 abbrev pub carry : Topo → Topo → List ℕ → List Step → List Step
 carry S T m ss = carryFrom (imageAt S T m) [] ss
@@ -26,4 +30,4 @@ route t x y = drop (depth t x) (addr t y)
 abbrev pub carryNodes : Topo → Topo → List ℕ → ℕ → List Step → List Step
 carryNodes S T m n [] = []
 carryNodes S T m n (step i r ∷ ss) =
-    map (λ (k : ℕ). step k r) (route T (image m n) (image m (childOf S n i))) ++ carryNodes S T m (childOf S n i) ss
+    steps r (route T (image m n) (image m (childOf S n i))) ++ carryNodes S T m (childOf S n i) ss

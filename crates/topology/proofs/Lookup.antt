@@ -137,3 +137,23 @@ module _ (limit : ℕ) (bytes : List ℕ) (e : fault limit bytes ≡ 0) where
 
     pub start-lt : start bytes n i < length bytes
     start-lt = omega (arith, valid-start, childOf-lt (tree bytes) n (suc i) valid-has, valid-size)
+
+  pub valid-end : (n : ℕ) → n < size (tree bytes) → branchEnd bytes n ≡ n + size (subtree (tree bytes) n)
+  valid-end n h = ap (λ (bs : List ℕ). branchEnd bs n) (sym (drawn limit bytes e)) ∙ end-code (tree bytes) n h
+
+  -- a child that the bytes show, and one that they do not
+  pub valid-child : (n c next : ℕ) → childAt bytes n c ≡ Node next → HasChild (tree bytes) n c × (next ≡ childOf (tree bytes) n c)
+  valid-child n c next f =
+      let g : childAt (code (tree bytes)) n c ≡ Node next = ap (λ (bs : List ℕ). childAt bs n c) (drawn limit bytes e) ∙ f in
+      let h = child-there (tree bytes) n c next g in
+      (h, same-node (sym g ∙ child-code (tree bytes) n c h))
+    where
+      same-node : {a b : ℕ} → Node a ≡ Node b → a ≡ b
+      same-node q = cc
+
+  pub valid-missing : (n c : ℕ) → childAt bytes n c ≡ Missing → HasChild (tree bytes) n c → ⊥
+  valid-missing n c f h =
+      apart (sym f ∙ ap (λ (bs : List ℕ). childAt bs n c) (sym (drawn limit bytes e)) ∙ child-code (tree bytes) n c h)
+    where
+      apart : {a : ℕ} → Missing ≡ Node a → ⊥
+      apart q = clash (cc)

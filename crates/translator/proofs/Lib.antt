@@ -1,4 +1,5 @@
 pub mod Paths
+pub mod Faults
 pub mod Ways
 pub mod Walking
 pub mod Outcome

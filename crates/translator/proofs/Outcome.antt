@@ -1,12 +1,12 @@
--- The answers of a carrying: one for a list that is refused as a map; and what an answer without refusal says of its path.
+-- The answers of a carrying: one law for a list that is refused as a map, and what an answer without refusal says of its path.
 use mathlib.Core.Path.{_≡_, refl, sym, ap, _∙_}
-use Prim.Native.Nat.{ℕ, zero, suc, _≤_}
+use Prim.Native.Nat.{ℕ, zero, suc}
 use native.Mathlib.Omega.{arith}
 use mathlib.Core.List.{List}
-use Rattle.topology.specs.Reader.{orElse, tree}
+use Rattle.topology.specs.Reader.{tree}
 use Rattle.topology.proofs.Reader.{within}
-use Rattle.topology.proofs.Refusals.{orElse-none}
 use Rattle.topology.proofs.Cases.{clash}
+use Rattle.topology.proofs.Refusals.{orElse-none}
 use Rattle.pifo.specs.Tree.{Step, pathFault}
 use Rattle.embedding_laws.specs.Check.{mapFault}
 use Rattle.embedding_laws.proofs.Rules.{mapFault-none}
@@ -17,9 +17,10 @@ use Rattle.simulation.specs.Carrying.{carry}
 use Rattle.simulation.proofs.Simulation.{carry-fault, carry-length}
 use Rattle.queue_tree.specs.Arrivals.{stepsOf}
 use Rattle.queue_tree.specs.declared.Path.{Path}
-use Rattle.translator.specs.Carry.{carryFault, Carries}
+use Rattle.translator.specs.Carry.{carryFault, Carries, Arrives}
 use Rattle.translator.specs.declared.Carried.{Carried}
 use Rattle.translator.proofs.Paths.{steps-path}
+use Rattle.translator.proofs.Faults.{carry-map}
 
 module _ (source target m : List ℕ) (a : Checked) (e : a ≡ checked (mapFault source target m)) where
   pub map-passes : a ≡ Passes → mapFault source target m ≡ 0
@@ -30,7 +31,6 @@ module _ (source target m : List ℕ) (a : Checked) (e : a ≡ checked (mapFault
       by-fault (suc f) q = absurd (clash (cc))
 
   pub map-refused : (path : Path) (number : ℕ) → a ≡ Refused number → Carries source target m path (record { path = path; refusal = number })
-  unfolding carryFault
   map-refused path number r = by-fault (mapFault source target m) refl (sym r ∙ e)
     where
       by-fault : (f : ℕ) → mapFault source target m ≡ f → Refused number ≡ checked f
@@ -39,17 +39,10 @@ module _ (source target m : List ℕ) (a : Checked) (e : a ≡ checked (mapFault
       by-fault (suc f) z q =
           let n : number ≡ suc f = cc in
           record {
-            refusal = n ∙ sym (ap (λ (g : ℕ). orElse g (pathFault (tree source) (stepsOf path))) z);
+            refusal = n ∙ sym (carry-map source target m (stepsOf path) f z);
             carried = λ y. absurd (omega arith);
             kept = λ _. refl;
           }
-
--- What the crates above read off: the answer's path is the definition's, it has no fault in the target, and it fits the places.
-pub record Arrives (source target m : List ℕ) (path : Path) (r : Path) : Type 0 where
-  pub steps : stepsOf r ≡ carry (tree source) (tree target) m (stepsOf path)
-  pub leaf : r .«leaf_rank» ≡ path .«leaf_rank»
-  pub fault : pathFault (tree target) (stepsOf r) ≡ 0
-  pub few : r .count ≤ 8
 
 -- a carrying without refusal: the map passes, and the path has no fault in the source
 pub carry-none : (source target m : List ℕ) (ss : List Step) → carryFault source target m ss ≡ 0

@@ -23,10 +23,6 @@ set-front : (ss : List Step) (s : Step) (n : ℕ)
 set-front [] s n = refl
 set-front (x ∷ ss) s n = ap (λ (l : List CodeStep). codeStep x ∷ l) (set-front ss s n)
 
--- a path with no step
-pub path-none : (l : ℕ) → record { steps = replicate 9 noStep; count = 0; «leaf_rank» = l } ≡ pathOf [] l
-path-none l = refl
-
 -- one step more, written behind the last
 pub path-more : (path : Path) → Plain path → path .count < 9 → (child rank : ℕ)
     → record { steps = set (path .steps) (path .count) (record { child = child; rank = rank }); count = path .count + 1; «leaf_rank» = path .«leaf_rank» }

@@ -7,17 +7,16 @@ use native.Mathlib.Omega.{arith}
 use mathlib.Core.List.{List, [], _∷_, _++_, append-nil, append-assoc}
 use lib.ListN.{length-append}
 use Rattle.topology.specs.Tree.{Topo, size}
-use Rattle.topology.specs.Address.{Above, addr, subtree, childOf, depth}
-use Rattle.topology.specs.Reader.{fault, tree}
+use Rattle.topology.specs.Address.{Above, addr, subtree, child, childOf, depth}
+use Rattle.topology.specs.Reader.{tree}
 use Rattle.topology.specs.Branch.{branchEnd}
 use Rattle.topology.proofs.Numbering.{addr-in}
 use Rattle.topology.proofs.Ancestry.{above-from, above-to, in-height, in-breadth, size-pos}
 use Rattle.topology.proofs.Children.{HasChild, childOf-lt, childOf-first, childOf-next, childOf-after, subtree-childOf, depth-childOf}
-use Rattle.topology.proofs.Lookup.{end-code, valid-size}
-use Rattle.topology.proofs.Reader.{drawn, within}
+use Rattle.topology.proofs.Lookup.{valid-size, valid-end}
+use Rattle.topology.proofs.Reader.{within}
 use Rattle.pifo.specs.Tree.{Step, step}
-use Rattle.simulation.specs.Carrying.{route}
-use Rattle.simulation.proofs.Carried.{steps}
+use Rattle.simulation.specs.Carrying.{steps, route}
 use Rattle.simulation.proofs.Nodes.{route-self, route-step, route-child}
 use Rattle.queue_tree.specs.Arrivals.{stepsOf}
 use Rattle.queue_tree.specs.declared.Path.{Path}
@@ -25,9 +24,6 @@ use Rattle.translator.specs.Carry.{pathOf}
 use Rattle.translator.specs.Ways.{Plain, Over, Toward}
 use Rattle.translator.specs.declared.Turn.{Turn}
 use Rattle.translator.proofs.Paths.{steps-path}
-
-valid-end : (bytes : List ℕ) → fault 64 bytes ≡ 0 → (n : ℕ) → n < size (tree bytes) → branchEnd bytes n ≡ n + size (subtree (tree bytes) n)
-valid-end bytes e n h = ap (λ (b : List ℕ). branchEnd b n) (sym (drawn 64 bytes e)) ∙ end-code (tree bytes) n h
 
 -- ---- the child toward a node
 
@@ -80,7 +76,7 @@ module _ (bytes : List ℕ) (x y : ℕ) (o : Over bytes x y) where
     node-lt = omega (arith, w .at, childOf-lt t x index here)
 
     end-at : end ≡ node + size (subtree t node)
-    end-at = w .ends ∙ valid-end bytes (o .valid) node node-lt
+    end-at = w .ends ∙ valid-end 64 bytes (o .valid) node node-lt
 
     next-at : end ≡ childOf t x (suc index)
     next-at =
@@ -121,7 +117,8 @@ module _ (bytes : List ℕ) (x y : ℕ) (o : Over bytes x y) where
     pub turning-end : y < end → Toward t x y (record { index = index; node = node })
     turning-end h =
         record {
-          has = here;
+          low = here .1;
+          high = here .2;
           node = w .at;
           above = above-to t node y node-lt (w .before) (omega (arith, end-at));
         }
@@ -137,59 +134,65 @@ pub record Descending (bytes : List ℕ) (all : List Step) (l to rank : ℕ) (pa
   pub rest : stepsOf path ++ steps rank (route (tree bytes) node to) ≡ all
 
 module _ (bytes : List ℕ) (all : List Step) (l to rank : ℕ) (path : Path) (node : ℕ) (d : Descending bytes all l to rank path node) where
-  abbrev t′ : Topo
-  t′ = tree bytes
+  abbrev T : Topo
+  T = tree bytes
 
   pub descending-room : path .count < 9
   descending-room =
       omega (
         arith,
         d .deep,
-        in-height t′ (addr t′ node) (addr-in t′ node (upper bytes node to (d .over))),
+        in-height T (addr T node) (addr-in T node (upper bytes node to (d .over))),
         within 64 bytes (d .over .valid) .steps,
       )
 
-  pub descending-down : (turn : Turn) → Toward t′ node to turn → (node < turn .node) × (turn .node ≤ to)
-  descending-down turn w =
-      let l : turn .node < size t′ = omega (arith, w .node, childOf-lt t′ node (turn .index) (w .has)) in
-      let a = above-from t′ (turn .node) to l (lower bytes node to (d .over)) (w .above) in
-      (omega (arith, w .node, childOf-after t′ node (turn .index) (w .has)), a .0)
+  module _ (turn : Turn) (w : Toward T node to turn) where
+    has : HasChild T node (turn .index)
+    has = (upper bytes node to (d .over), w .low, w .high)
 
-  pub descending-next : (turn : Turn) → Toward t′ node to turn → (more : Path)
-      → more ≡ pathOf (stepsOf path ++ (step (turn .index) rank ∷ [])) (path .«leaf_rank») → Descending bytes all l to rank more (turn .node)
-  descending-next turn w more e =
-      let s : Step = step (turn .index) rank in
-      let now : stepsOf more ≡ stepsOf path ++ (s ∷ []) = ap stepsOf e ∙ steps-path (stepsOf path ++ (s ∷ [])) (path .«leaf_rank») in
-      let rank-kept : more .«leaf_rank» ≡ path .«leaf_rank» = ap (λ (p : Path). p .«leaf_rank») e in
-      let way = route-step t′ node to (turn .index) (w .has) (rw (sym (w .node)) (w .above)) in
-      record {
-        over =
-            record {
-              valid = d .over .valid;
-              upper = omega (arith, w .node, childOf-lt t′ node (turn .index) (w .has), valid-size 64 bytes (d .over .valid));
-              lower = d .over .lower;
-              above = w .above;
-            };
-        plain = e ∙ ap₂ pathOf (sym now) (sym rank-kept);
-        leaf = rank-kept ∙ d .leaf;
-        deep =
-            omega (
-              arith,
-              ap (λ (p : Path). p .count) e,
-              length-append (stepsOf path) (s ∷ []),
-              ap (λ (p : Path). p .count) (d .plain),
-              d .deep,
-              depth-childOf t′ node (turn .index) (w .has),
-              ap (depth t′) (w .node),
-            );
-        rest =
-            ap₂ (λ (f : List Step) (k : ℕ). f ++ steps rank (route t′ k to)) now (w .node)
-            ∙ append-assoc (stepsOf path) (s ∷ []) (steps rank (route t′ (childOf t′ node (turn .index)) to))
-            ∙ ap (λ (a : List ℕ). stepsOf path ++ steps rank a) (sym way)
-            ∙ d .rest;
-      }
+    turn-lt : turn .node < size T
+    turn-lt = omega (arith, w .node, childOf-lt T node (turn .index) has)
+
+    pub descending-down : (node < turn .node) × (turn .node ≤ to)
+    descending-down =
+        let a = above-from T (turn .node) to turn-lt (lower bytes node to (d .over)) (w .above) in
+        (omega (arith, w .node, childOf-after T node (turn .index) has), a .0)
+
+    pub descending-next : (more : Path) → more ≡ pathOf (stepsOf path ++ (step (turn .index) rank ∷ [])) (path .«leaf_rank»)
+        → Descending bytes all l to rank more (turn .node)
+    descending-next more e =
+        let s : Step = step (turn .index) rank in
+        let now : stepsOf more ≡ stepsOf path ++ (s ∷ []) = ap stepsOf e ∙ steps-path (stepsOf path ++ (s ∷ [])) (path .«leaf_rank») in
+        let rank-kept : more .«leaf_rank» ≡ path .«leaf_rank» = ap (λ (p : Path). p .«leaf_rank») e in
+        let way = route-step T node to (turn .index) has (rw (sym (w .node)) (w .above)) in
+        record {
+          over =
+              record {
+                valid = d .over .valid;
+                upper = omega (arith, turn-lt, valid-size 64 bytes (d .over .valid));
+                lower = d .over .lower;
+                above = w .above;
+              };
+          plain = e ∙ ap₂ pathOf (sym now) (sym rank-kept);
+          leaf = rank-kept ∙ d .leaf;
+          deep =
+              omega (
+                arith,
+                ap (λ (p : Path). p .count) e,
+                length-append (stepsOf path) (s ∷ []),
+                ap (λ (p : Path). p .count) (d .plain),
+                d .deep,
+                depth-childOf T node (turn .index) has,
+                ap (depth T) (w .node),
+              );
+          rest =
+              ap₂ (λ (f : List Step) (k : ℕ). f ++ steps rank (route T k to)) now (w .node)
+              ∙ append-assoc (stepsOf path) (s ∷ []) (steps rank (route T (childOf T node (turn .index)) to))
+              ∙ ap (λ (a : List ℕ). stepsOf path ++ steps rank a) (sym way)
+              ∙ d .rest;
+        }
 
   pub descending-end : node ≡ to → path ≡ pathOf all l
   descending-end e =
-      let none : route t′ node to ≡ [] = ap (route t′ node) (sym e) ∙ route-self t′ node in
+      let none : route T node to ≡ [] = ap (route T node) (sym e) ∙ route-self T node in
       d .plain ∙ ap₂ pathOf (sym (append-nil (stepsOf path)) ∙ ap (λ (a : List ℕ). stepsOf path ++ steps rank a) (sym none) ∙ d .rest) (d .leaf)

@@ -1,7 +1,7 @@
 -- What the carrying of a path promises: the refusal's number, and the carried path as the code's.
 use mathlib.Core.Path.{_≡_}
 use mathlib.Core.Logic.{_≢_}
-use Prim.Native.Nat.{ℕ, _-_}
+use Prim.Native.Nat.{ℕ, _-_, _≤_}
 use mathlib.Core.List.{List, _++_, map}
 use lib.ListN.{length, replicate}
 use Rattle.topology.specs.Reader.{orElse, tree}
@@ -30,7 +30,16 @@ noStep = record { child = 0; rank = 0 }
 abbrev pub pathOf : List Step → ℕ → Path
 pathOf ss l = record { steps = map codeStep ss ++ replicate (9 - length ss) noStep; count = length ss; «leaf_rank» = l }
 
+-- The answer: the refusal's number; the carried path where there is no refusal, else the path as it came.
 pub record Carries (source target m : List ℕ) (path : Path) (r : Carried) : Type 0 where
   pub refusal : r .refusal ≡ carryFault source target m (stepsOf path)
   pub carried : r .refusal ≡ 0 → r .path ≡ pathOf (carry (tree source) (tree target) m (stepsOf path)) (path .«leaf_rank»)
   pub kept : r .refusal ≢ 0 → r .path ≡ path
+
+-- A path that was carried, for the crates above (`carried-steps` in proofs/Outcome.antt): the definition's, with no fault in the target,
+-- and of no more steps than a path has.
+pub record Arrives (source target m : List ℕ) (path carried : Path) : Type 0 where
+  pub steps : stepsOf carried ≡ carry (tree source) (tree target) m (stepsOf path)
+  pub leaf : carried .«leaf_rank» ≡ path .«leaf_rank»
+  pub fault : pathFault (tree target) (stepsOf carried) ≡ 0
+  pub few : carried .count ≤ 8

@@ -1,12 +1,11 @@
 -- What the private functions promise.
 use mathlib.Core.Path.{_≡_}
-use Prim.Native.Nat.{ℕ, _<_}
+use Prim.Native.Nat.{ℕ, _≤_, _<_}
 use mathlib.Core.List.{List}
 use lib.ListN.{length}
-use Rattle.topology.specs.Tree.{Topo}
-use Rattle.topology.specs.Address.{Above, addr, childOf}
+use Rattle.topology.specs.Tree.{Topo, width}
+use Rattle.topology.specs.Address.{Above, addr, subtree, childOf}
 use Rattle.topology.specs.Reader.{fault, tree}
-use Rattle.topology.proofs.Children.{HasChild}
 use Rattle.queue_tree.specs.Arrivals.{stepsOf}
 use Rattle.queue_tree.specs.declared.Path.{Path}
 use Rattle.translator.specs.Carry.{pathOf}
@@ -25,6 +24,7 @@ pub record Over (bytes : List ℕ) (x y : ℕ) : Type 0 where
 
 -- a child of x that is y or lies above it
 pub record Toward (t : Topo) (x y : ℕ) (r : Turn) : Type 0 where
-  pub has : HasChild t x (r .index)
+  pub low : 0 < r .index
+  pub high : r .index ≤ width (subtree t x)
   pub node : r .node ≡ childOf t x (r .index)
   pub above : Above (addr t (r .node)) (addr t y)

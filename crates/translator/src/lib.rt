@@ -10,8 +10,7 @@ ghost use Rattle.topology.specs.Reader.{tree};
 ghost use Rattle.topology.specs.Address.{depth};
 ghost use Rattle.pifo.specs.Tree.{step};
 ghost use Rattle.embedding_laws.specs.Check.{mapFault};
-ghost use Rattle.simulation.specs.Carrying.{route};
-ghost use Rattle.simulation.proofs.Carried.{steps};
+ghost use Rattle.simulation.specs.Carrying.{steps, route};
 ghost use Rattle.queue_tree.specs.Arrivals.{stepsOf};
 ghost use Rattle.translator.specs.Carry.{pathOf, Carries};
 ghost use Rattle.translator.specs.Ways.{Plain, Over, Toward};
@@ -85,10 +84,11 @@ fn walk(source: &[u8], target: &[u8], map: &[u8], path: Path) -> Carried
 {
     let steps = path.steps;
     let count = path.count;
+    let leaf_rank = path.leaf_rank;
     let mut carried = Path {
         steps: [Step { child: 0, rank: 0 }; 9],
         count: 0,
-        leaf_rank: path.leaf_rank,
+        leaf_rank,
     };
     let mut node = 0;
     let mut i = 0;
@@ -97,13 +97,9 @@ fn walk(source: &[u8], target: &[u8], map: &[u8], path: Path) -> Carried
         let Found::Node(child) = topology::child(source, node, step.child as usize) else {
             return Carried { path, refusal: 13 };
         };
-        carried = descend(
-            target,
-            carried,
-            map[node] as usize,
-            map[child] as usize,
-            step.rank,
-        );
+        let from = map[node] as usize;
+        let to = map[child] as usize;
+        carried = descend(target, carried, from, to, step.rank);
         node = child;
         i += 1;
     }

@@ -1,12 +1,10 @@
 -- `descend` meets its contract. The loop has come down to `node`, and the path has the steps down to there.
-use borrow.Author.Needs.{needs}
 use native.Mathlib.Omega.{arith}
 use mathlib.Core.Path.{refl}
 use mathlib.Core.List.{_++_}
 use Prim.Native.Nat.{_-_}
 use Rattle.topology.specs.Reader.{tree}
-use Rattle.simulation.specs.Carrying.{route}
-use Rattle.simulation.proofs.Carried.{steps}
+use Rattle.simulation.specs.Carrying.{steps, route}
 use Rattle.queue_tree.specs.Arrivals.{stepsOf}
 use Rattle.translator.proofs.Ways.{Descending, descending-room, descending-down, descending-next, descending-end}
 use Rattle.translator.proofs.descend.Statement.{statement}

@@ -1,18 +1,27 @@
 -- `walk` meets its contract. The loop has walked the first i steps of the path and carried them (`Walking` in proofs/Walking.antt).
 use borrow.Author.Needs.{needs}
 use native.Mathlib.Omega.{arith}
-use mathlib.Core.Path.{sym, _∙_}
+use mathlib.Core.Path.{_≡_, sym, _∙_}
 use Prim.Native.Nat.{_-_}
+use lib.ListN.{length}
 use Rattle.lists.proofs.Map.{length-map}
 use Rattle.translator.proofs.Walking.{Walking, walking-start, walking-few, walking-source, walking-map, walking-lost, walking-child, walking-over, walking-next, walking-above, walking-leaf}
 use Rattle.translator.proofs.walk.Statement.{statement}
 use Rattle.translator.proofs.walk.Tie as tie
+use Rattle.translator.proofs.walk.Reads as reads
+use Rattle.translator.proofs.walk.Lts as lts
+use Rattle.topology.proofs.child.Reads as child-reads
+use Rattle.translator.proofs.descend.Reads as descend-reads
 
 abbrev Inv-loop : tie.InvT-loop
-Inv-loop source target map path steps count carried₀ node₀ i₀ carried node i = Walking source target map path carried node i
+Inv-loop source target map path steps count «leaf_rank» carried₀ node₀ i₀ carried node i = Walking source target map path carried node i
 
 abbrev μ-loop : tie.MeasureT-loop
-μ-loop source target map path steps count carried₀ node₀ i₀ carried node i = count - i
+μ-loop source target map path steps count «leaf_rank» carried₀ node₀ i₀ carried node i = count - i
+
+places : (c : lts.Start (child-reads.Asked, child-reads.Learnt, descend-reads.Asked, descend-reads.Learnt) reads.Pre reads.Post Inv-loop μ-loop)
+    → length (c .args .path .steps) ≡ 9
+places c = sym (length-map _ (c .args .path .steps)) ∙ c .good .1 .1 .1 .0 .1 .1 .0 .1 .0 .1
 
 loop-holds : tie.Need-loop-holds Inv-loop μ-loop
 loop-holds c = walking-start _ _ _ (c .before .before .before .before .pre) _
@@ -45,31 +54,37 @@ returns : tie.Need-returns Inv-loop μ-loop
 returns c =
     let at = c .before .before .before .before .before .before in
     let s = at .before .before .before .before .before in
-    walking-lost _ _ _ (s .pre) _ _ _ _ (at .loop .inv) (c .before .before .before .before .before .loop-test .taken) (sym (length-map _ (s .args .path .steps)) ∙ s .good .1 .1 .1 .0 .1 .1 .0 .1 .0 .1) _ (c .before .before .child .ensures) (c .enum-told .given .1)
+    let child = c .before .before .child in
+    walking-lost _ _ _ (s .pre) _ _ _ _ (at .loop .inv) _ (child .ensures) (c .before .before .before .before .before .loop-test .taken) (places s) (c .enum-told .given .1)
 
-shared-slice-read-descend : tie.Need-shared-slice-read-descend Inv-loop μ-loop
-shared-slice-read-descend c =
+shared-slice-read-from : tie.Need-shared-slice-read-from Inv-loop μ-loop
+shared-slice-read-from c =
     let at = c .before .before .before .before .before .before .before .before in
     let s = at .before .before .before .before .before in
     walking-map _ _ _ (s .pre) _ _ _ _ (at .loop .inv)
 
-cast-descend : tie.Need-cast-descend Inv-loop μ-loop
-cast-descend c = omega (arith, c .shared-slice-known4 .given (c .before .before .before .before .before .before .before .before .loop .node))
+cast-from : tie.Need-cast-from Inv-loop μ-loop
+cast-from c = omega (arith, c .shared-slice-known4 .given (c .before .before .before .before .before .before .before .before .loop .node))
 
-shared-slice-read-descend-2 : tie.Need-shared-slice-read-descend-2 Inv-loop μ-loop
-shared-slice-read-descend-2 c =
+shared-slice-read-to : tie.Need-shared-slice-read-to Inv-loop μ-loop
+shared-slice-read-to c =
     let at = c .before .before .before .before .before .before .before .before .before in
     let s = at .before .before .before .before .before in
-    walking-child _ _ _ (s .pre) _ _ _ _ (at .loop .inv) (c .before .before .before .before .before .before .before .before .loop-test .taken) (sym (length-map _ (s .args .path .steps)) ∙ s .good .1 .1 .1 .0 .1 .1 .0 .1 .0 .1) _ (c .before .before .before .before .before .child .ensures) _ (c .before .before .before .child2 .given .1)
+    let child = c .before .before .before .before .before .child in
+    walking-child _ _ _ (s .pre) _ _ _ _ (at .loop .inv) _ (child .ensures) _ (c .before .before .before .child2 .given .1)
 
-cast-descend-2 : tie.Need-cast-descend-2 Inv-loop μ-loop
-cast-descend-2 c = omega (arith, c .shared-slice-known5 .given (c .before .before .before .child2 .given .0 .0))
+cast-to : tie.Need-cast-to Inv-loop μ-loop
+cast-to c = omega (arith, c .shared-slice-known5 .given (c .before .before .before .child2 .given .0 .0))
 
 descend-requires : tie.Need-descend-requires Inv-loop μ-loop
 descend-requires c κs =
     let at = c .before .before .before .before .before .before .before .before .before in
     let s = at .before .before .before .before .before in
-    (walking-over _ _ _ (s .pre) _ _ _ _ (at .loop .inv) (c .before .before .before .before .before .before .before .before .loop-test .taken) (sym (length-map _ (s .args .path .steps)) ∙ s .good .1 .1 .1 .0 .1 .1 .0 .1 .0 .1) _ (c .before .before .before .before .before .child .ensures) _ (c .before .before .before .child2 .given .1), at .loop .inv .plain, at .loop .inv .below)
+    let child = c .before .before .before .before .before .child in (
+      walking-over _ _ _ (s .pre) _ _ _ _ (at .loop .inv) _ (child .ensures) _ (c .before .before .before .child2 .given .1),
+      at .loop .inv .plain,
+      at .loop .inv .below,
+    )
 
 add-i : tie.Need-add-i Inv-loop μ-loop
 add-i c = search needs
@@ -81,7 +96,9 @@ loop-again : tie.Need-loop-again Inv-loop μ-loop
 loop-again c =
     let at = c .before .before .before .before .before .before .before .before .before .before in
     let s = at .before .before .before .before .before in
-    walking-next _ _ _ (s .pre) _ _ _ _ (at .loop .inv) (c .before .before .before .before .before .before .before .before .before .loop-test .taken) (sym (length-map _ (s .args .path .steps)) ∙ s .good .1 .1 .1 .0 .1 .1 .0 .1 .0 .1) _ (c .before .before .before .before .before .before .child .ensures) _ (c .before .before .before .before .child2 .given .1) _ (c .descend .ensures)
+    let child = c .before .before .before .before .before .before .child in
+    walking-next _ _ _ (s .pre) _ _ _ _ (at .loop .inv) _ (child .ensures) (c .before .before .before .before .before .before .before .before .before .loop-test .taken) (places s) _
+    (c .before .before .before .before .child2 .given .1) _ (c .descend .ensures)
 
 shared-slice-read-if1 : tie.Need-shared-slice-read-if1 Inv-loop μ-loop
 shared-slice-read-if1 c =
@@ -115,10 +132,10 @@ walk-spec =
     enum-known-child
     enum-told
     returns
-    shared-slice-read-descend
-    cast-descend
-    shared-slice-read-descend-2
-    cast-descend-2
+    shared-slice-read-from
+    cast-from
+    shared-slice-read-to
+    cast-to
     descend-requires
     add-i
     loop-less
