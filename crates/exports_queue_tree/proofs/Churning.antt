@@ -5,6 +5,7 @@ use mathlib.Core.Logic.{_≢_}
 use native.Mathlib.Omega.{arith}
 use mathlib.Core.Bool.{Bool, true, false}
 use lib.Dec.{eqb}
+use borrow.Author.Tests.{eq-eqb, ne-eqb}
 use Rattle.topology.specs.Reader.{pick}
 use Rattle.pifo.specs.Machine.{Machine, Answer, pushing, popping, after, serve}
 use Rattle.queue_tree.specs.Arrivals.{stepsOf}
@@ -12,7 +13,7 @@ use Rattle.queue_tree.specs.State.{machine, wellFormed}
 use Rattle.queue_tree.specs.Calls.{Serves}
 use Rattle.queue_tree.specs.declared.Path.{Path}
 use Rattle.queue_tree.specs.declared.State.{State}
-use Rattle.exports_queue_tree.specs.Churn.{roundOf, churned, Rounded, Churned}
+use Rattle.exports_queue_tree.specs.Churn.{inTurn, roundOf, churned, Rounded, Churned}
 
 pub round-served : (s t u : State) (path : Path) (k : ℕ) (a b : Answer ℕ) → Serves s popping a t
     → Serves t (pushing (stepsOf path) (path .«leaf_rank») k) b u → Rounded s path k u
@@ -29,7 +30,7 @@ pub churn-none : (s : State) (even odd : Path) → Churned s even odd 0 s
 unfolding churned
 churn-none s even odd = record { machine = λ w. refl; formed = λ w. w; ill = λ w. refl }
 
-pub churn-more : (s : State) (even odd : Path) (i : ℕ) (t u : State) (path : Path) → path ≡ pick (eqb (i % 2) 0) even odd
+pub churn-more : (s : State) (even odd : Path) (i : ℕ) (t u : State) (path : Path) → path ≡ inTurn even odd i
     → Churned s even odd i t → Rounded t path i u → Churned s even odd (i + 1) u
 unfolding churned
 churn-more s even odd i t u path e before now =
@@ -43,3 +44,9 @@ churn-more s even odd i t u path e before now =
       formed = λ w. now .formed (before .formed w);
       ill = λ w. let stays = before .ill w in now .ill (ap wellFormed stays ∙ w) ∙ stays;
     }
+
+pub turn-even : (even odd : Path) (k : ℕ) → k % 2 ≡ 0 → even ≡ inTurn even odd k
+turn-even even odd k e = ap (λ (b : Bool). pick b even odd) (sym (eq-eqb (k % 2) 0 e))
+
+pub turn-odd : (even odd : Path) (k : ℕ) → k % 2 ≢ 0 → odd ≡ inTurn even odd k
+turn-odd even odd k e = ap (λ (b : Bool). pick b even odd) (sym (ne-eqb (k % 2) 0 e))

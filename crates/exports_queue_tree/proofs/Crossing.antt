@@ -11,7 +11,10 @@ use Rattle.queue_tree.specs.declared.Item.{Item}
 use Rattle.queue_tree.specs.declared.Item.the-variants.{Child, Packet}
 use Rattle.queue_tree.specs.declared.Entry.{Entry}
 use Rattle.queue_tree.specs.declared.Step.{Step}
-use Rattle.exports_queue_tree.specs.Plain.{itemFrom, entryFrom, entriesFrom, stepsFrom, rankOf, tagOf, childOf, packetOf, itemTag, itemChild, itemPacket}
+use Rattle.queue_tree.specs.declared.State.{State}
+use Rattle.exports_queue_tree.specs.declared.PlainState.{PlainState}
+use Rattle.exports_queue_tree.specs.declared.PlainPath.{PlainPath}
+use Rattle.exports_queue_tree.specs.Plain.{stateOf, pathOf, itemFrom, entryFrom, entriesFrom, stepsFrom, rankOf, tagOf, childOf, packetOf, itemTag, itemChild, itemPacket}
 
 pub item-child : (t c p : ℕ) → t ≡ 0 → Child c ≡ itemFrom t c p
 item-child t c p e = ap (λ (u : ℕ). itemFrom u c p) (sym e)
@@ -66,3 +69,24 @@ entries-back (e ∷ es) =
     let h : entryFrom (rankOf e) (tagOf e) (childOf e) (packetOf e) ≡ e = ap (λ (x : Item). record { rank = e .rank; item = x }) (item-back (e .item)) in
     let r = entries-back es in
     cc
+
+-- ---- states and paths
+
+pub state-from : (p : PlainState) (es : List Entry) → es ≡ entriesFrom (p .ranks) (p .tags) (p .children) (p .packets)
+    → record { topology = p .topology; nodes = p .nodes; limit = p .limit; refused = p .refused; owners = p .owners; entries = es; used = p .used } ≡ stateOf p
+unfolding stateOf
+state-from p es e =
+    ap (λ (l : List Entry). record { topology = p .topology; nodes = p .nodes; limit = p .limit; refused = p .refused; owners = p .owners; entries = l; used = p .used }) e
+
+pub path-from : (p : PlainPath) (ss : List Step) → ss ≡ stepsFrom (p .children) (p .ranks)
+    → record { steps = ss; count = p .count; «leaf_rank» = p .«leaf_rank» } ≡ pathOf p
+unfolding pathOf
+path-from p ss e = ap (λ (l : List Step). record { steps = l; count = p .count; «leaf_rank» = p .«leaf_rank» }) e
+
+pub state-back : (s : State) (rs ts cs ps : List ℕ) → rs ≡ map rankOf (s .entries) → ts ≡ map tagOf (s .entries)
+    → cs ≡ map childOf (s .entries) → ps ≡ map packetOf (s .entries)
+    → stateOf (record { topology = s .topology; nodes = s .nodes; limit = s .limit; refused = s .refused; owners = s .owners; ranks = rs; tags = ts; children = cs; packets = ps; used = s .used }) ≡ s
+unfolding stateOf
+state-back s rs ts cs ps a b c d =
+    let e : entriesFrom rs ts cs ps ≡ s .entries = rw (a, b, c, d) (entries-back (s .entries)) in
+    ap (λ (l : List Entry). record { topology = s .topology; nodes = s .nodes; limit = s .limit; refused = s .refused; owners = s .owners; entries = l; used = s .used }) e

@@ -15,10 +15,14 @@ use Rattle.queue_tree.specs.declared.State.{State}
 abbrev pub roundOf : Path → ℕ → List (Call ℕ)
 roundOf path k = popping ∷ pushing (stepsOf path) (path .«leaf_rank») k ∷ []
 
--- the machine after rounds 0 to n - 1, even ones along the first path and odd ones along the second
+-- the path of round k: the first in even rounds, the second in odd ones
+abbrev pub inTurn : Path → Path → ℕ → Path
+inTurn even odd k = pick (eqb (k % 2) 0) even odd
+
+-- the machine after rounds 0 to n - 1
 unfoldable pub churned : Path → Path → Machine ℕ → ℕ → Machine ℕ
 churned even odd m zero = m
-churned even odd m (suc k) = after (churned even odd m k) (roundOf (pick (eqb (k % 2) 0) even odd) k)
+churned even odd m (suc k) = after (churned even odd m k) (roundOf (inTurn even odd k) k)
 
 -- a round of a state: that of its machine; an ill formed state stays
 pub record Rounded (s : State) (path : Path) (k : ℕ) (r : State) : Type 0 where

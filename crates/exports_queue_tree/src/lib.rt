@@ -17,7 +17,7 @@ ghost use Rattle.queue_tree.specs.Calls.{Opens, amount};
 ghost use Rattle.queue_tree.specs.State.{wellFormed, treeOf};
 ghost use Rattle.exports_queue_tree.specs.Plain.{itemFrom, entriesFrom, stepsFrom, pathOf, stateOf, tagOf, childOf, packetOf, rankOf, itemTag, itemChild, itemPacket};
 ghost use Rattle.exports_queue_tree.specs.Answers.{opening, plainAmount, Served};
-ghost use Rattle.exports_queue_tree.specs.Churn.{Rounded, Churned};
+ghost use Rattle.exports_queue_tree.specs.Churn.{inTurn, Rounded, Churned};
 
 // A state as plain numbers. Entry i has the rank `ranks[i]`; where `tags[i]` is 0 it is the child `children[i]`, else the packet
 // `packets[i]`. The other fields are those of a state.
@@ -328,6 +328,16 @@ pub extern "C" fn linduvar_pop(state: PlainState) -> PlainAnswer
     }
 }
 
+// The path of a round: the first in even rounds, the second in odd ones.
+fn in_turn(even: Path, odd: Path, number: u32) -> Path
+    ensures { λ r. ⌜ r ≡ inTurn even odd number ⌝ }
+{
+    if number % 2 == 0 {
+        return even;
+    }
+    odd
+}
+
 // One round of a churn: a pop, then a push of a packet with the round's number.
 fn round(state: State, path: Path, number: u32) -> State
     ensures { λ r. ⌜ Rounded state path number r ⌝ }
@@ -347,11 +357,8 @@ pub extern "C" fn linduvar_churn(state: PlainState, first: PlainPath, second: Pl
     let mut current = state_of(state);
     let mut i = 0;
     while i < rounds {
-        if i % 2 == 0 {
-            current = round(current, even, i);
-        } else {
-            current = round(current, odd, i);
-        }
+        let path = in_turn(even, odd, i);
+        current = round(current, path, i);
         i += 1;
     }
     plain(current)
