@@ -26,8 +26,8 @@ pub opens-plain : (bytes : List ℕ) (limit : ℕ) (o : Opened) (q : PlainOpened
     → q .refusal ≡ o .refusal → Opens bytes limit (opening q)
 opens-plain bytes limit o q h e f =
     let same : o ≡ opening q =
-      ap (λ (s : State). record { state = s; refusal = o .refusal }) (sym e)
-      ∙ ap (λ (n : ℕ). record { state = stateOf (q .state); refusal = n }) (sym f)
+    ap (λ (s : State). record { state = s; refusal = o .refusal }) (sym e)
+    ∙ ap (λ (n : ℕ). record { state = stateOf (q .state); refusal = n }) (sym f)
     in
     subst (Opens bytes limit) same h
 

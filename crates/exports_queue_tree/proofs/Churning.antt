@@ -1,5 +1,5 @@
 -- Rounds of a pop and a push: one round from the two calls' promises, and one round more of many.
-use mathlib.Core.Path.{_≡_, refl, sym, ap, _∙_}
+use mathlib.Core.Path.{_≡_, refl, sym, ap, _∙_, subst}
 use Prim.Native.Nat.{ℕ, zero, suc, _+_, _%_}
 use mathlib.Core.Logic.{_≢_}
 use native.Mathlib.Omega.{arith}
@@ -22,8 +22,8 @@ round-served s t u path k a b first second =
       machine = λ w. second .machine (first .formed w) ∙ ap (λ (m : Machine ℕ). serve m (pushing (stepsOf path) (path .«leaf_rank») k) .1) (first .machine w);
       formed = λ w. second .formed (first .formed w);
       ill = λ w.
-        let stays = first .kept 18 (first .ill w) in
-        second .kept 18 (second .ill (ap wellFormed stays ∙ w)) ∙ stays;
+          let stays = first .kept 18 (first .ill w) in
+          second .kept 18 (second .ill (ap wellFormed stays ∙ w)) ∙ stays;
     }
 
 pub churn-none : (s : State) (even odd : Path) → Churned s even odd 0 s
@@ -37,10 +37,10 @@ churn-more s even odd i t u path e before now =
     let n : i + 1 ≡ suc i = omega arith in
     record {
       machine = λ w.
-        now .machine (before .formed w)
-        ∙ ap (λ (m : Machine ℕ). after m (roundOf path i)) (before .machine w)
-        ∙ ap (λ (p : Path). after (churned even odd (machine s) i) (roundOf p i)) e
-        ∙ ap (churned even odd (machine s)) (sym n);
+          now .machine (before .formed w)
+          ∙ ap (λ (m : Machine ℕ). after m (roundOf path i)) (before .machine w)
+          ∙ ap (λ (p : Path). after (churned even odd (machine s) i) (roundOf p i)) e
+          ∙ ap (churned even odd (machine s)) (sym n);
       formed = λ w. now .formed (before .formed w);
       ill = λ w. let stays = before .ill w in now .ill (ap wellFormed stays ∙ w) ∙ stays;
     }
@@ -50,3 +50,13 @@ turn-even even odd k e = ap (λ (b : Bool). pick b even odd) (sym (eq-eqb (k % 2
 
 pub turn-odd : (even odd : Path) (k : ℕ) → k % 2 ≢ 0 → odd ≡ inTurn even odd k
 turn-odd even odd k e = ap (λ (b : Bool). pick b even odd) (sym (ne-eqb (k % 2) 0 e))
+
+-- the rounds of equal states, paths and numbers
+pub churn-same : (s t u r : State) (even odd first second : Path) (i n : ℕ) → s ≡ t → even ≡ first → odd ≡ second → i ≡ n → r ≡ u
+    → Churned s even odd i u → Churned t first second n r
+churn-same s t u r even odd first second i n a b c d e h =
+    subst (λ (x : State). Churned x first second n r) a
+    (subst (λ (x : Path). Churned s x second n r) b
+    (subst (λ (x : Path). Churned s even x n r) c
+    (subst (λ (x : ℕ). Churned s even odd x r) d
+    (subst (λ (x : State). Churned s even odd i x) (sym e) h))))

@@ -75,7 +75,12 @@ fn item(tag: u8, child: u8, packet: u32) -> Item
     Item::Packet(packet)
 }
 
-fn entries_of(ranks: [u32; 2304], tags: [u8; 2304], children: [u8; 2304], packets: [u32; 2304]) -> [Entry; 2304]
+fn entries_of(
+    ranks: [u32; 2304],
+    tags: [u8; 2304],
+    children: [u8; 2304],
+    packets: [u32; 2304],
+) -> [Entry; 2304]
     ensures { λ r. ⌜ r ≡ entriesFrom ranks tags children packets ⌝ }
 {
     let mut entries = [Entry {
@@ -349,7 +354,12 @@ fn round(state: State, path: Path, number: u32) -> State
 
 // Many calls at once, for the benchmark: a pop and a push in each round, along the first path in even rounds and the second in odd ones.
 #[no_mangle]
-pub extern "C" fn linduvar_churn(state: PlainState, first: PlainPath, second: PlainPath, rounds: u32) -> PlainState
+pub extern "C" fn linduvar_churn(
+    state: PlainState,
+    first: PlainPath,
+    second: PlainPath,
+    rounds: u32,
+) -> PlainState
     ensures { λ r. ⌜ Churned (stateOf state) (pathOf first) (pathOf second) rounds (stateOf r) ⌝ }
 {
     let even = path_of(first);
