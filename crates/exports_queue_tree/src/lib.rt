@@ -252,6 +252,15 @@ fn plain(state: State) -> PlainState
     }
 }
 
+fn amount_of(amount: Amount) -> PlainAmount
+    ensures { λ r. ⌜ r ≡ plainAmount amount ⌝ }
+{
+    match amount {
+        Amount::Count(value) => PlainAmount { number: 0, value },
+        Amount::Refused(number) => PlainAmount { number, value: 0 },
+    }
+}
+
 // Opens an empty tree with a packet limit.
 #[no_mangle]
 pub extern "C" fn linduvar_open(bytes: &[u8], limit: usize) -> PlainOpened
@@ -269,10 +278,7 @@ pub extern "C" fn linduvar_open(bytes: &[u8], limit: usize) -> PlainOpened
 pub extern "C" fn linduvar_held(state: PlainState) -> PlainAmount
     ensures { λ r. ⌜ r ≡ plainAmount (amount (wellFormed (stateOf state)) (held (treeOf (stateOf state)))) ⌝ }
 {
-    match queue_tree::held(state_of(state)) {
-        Amount::Count(value) => PlainAmount { number: 0, value },
-        Amount::Refused(number) => PlainAmount { number, value: 0 },
-    }
+    amount_of(queue_tree::held(state_of(state)))
 }
 
 // How many pushes a tree has refused because it was full.
@@ -280,10 +286,7 @@ pub extern "C" fn linduvar_held(state: PlainState) -> PlainAmount
 pub extern "C" fn linduvar_refusals(state: PlainState) -> PlainAmount
     ensures { λ r. ⌜ r ≡ plainAmount (amount (wellFormed (stateOf state)) (state .refused)) ⌝ }
 {
-    match queue_tree::refusals(state_of(state)) {
-        Amount::Count(value) => PlainAmount { number: 0, value },
-        Amount::Refused(number) => PlainAmount { number, value: 0 },
-    }
+    amount_of(queue_tree::refusals(state_of(state)))
 }
 
 // Pushes a packet along a path. A refusal by its number alone gives back the very numbers of the state.

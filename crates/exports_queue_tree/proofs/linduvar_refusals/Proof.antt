@@ -1,7 +1,6 @@
--- A count and a refusal.
+-- The amount as plain numbers.
+use mathlib.Core.Path.{_∙_}
 use borrow.Author.Needs.{needs}
-use mathlib.Core.Path.{sym, ap, _∙_}
-use Rattle.exports_queue_tree.specs.Answers.{plainAmount}
 use Rattle.exports_queue_tree.proofs.Answering.{refusals-plain}
 use Rattle.exports_queue_tree.proofs.linduvar_refusals.Statement.{statement}
 use Rattle.exports_queue_tree.proofs.linduvar_refusals.Tie as tie
@@ -12,29 +11,12 @@ state-of-requires c κs = search needs
 refusals-requires : tie.Need-refusals-requires
 refusals-requires c κs = search needs
 
-enum-known-value : tie.Need-enum-known-value
-enum-known-value c = search needs
-
-enum-known-number : tie.Need-enum-known-number
-enum-known-number c = search needs
+amount-of-requires : tie.Need-amount-of-requires
+amount-of-requires c κs = search needs
 
 returns : tie.Need-returns
 returns c =
-    let call = c .before .before .before in
-    ap plainAmount (sym (c .before .value .given .1)) ∙ refusals-plain _ _ _ (call .before .state-of .ensures) (call .refusals .ensures)
-
-returns-2 : tie.Need-returns-2
-returns-2 c =
-    let call = c .before .before .before in
-    ap plainAmount (sym (c .before .number .given .1)) ∙ refusals-plain _ _ _ (call .before .state-of .ensures) (call .refusals .ensures)
+    c .amount-of .ensures ∙ refusals-plain _ _ _ (c .before .before .state-of .ensures) (c .before .refusals .ensures)
 
 pub linduvar-refusals-spec : {M : Type 1} → statement M
-linduvar-refusals-spec =
-    tie.close
-    (tie.spec
-    state-of-requires
-    refusals-requires
-    enum-known-value
-    enum-known-number
-    returns
-    returns-2)
+linduvar-refusals-spec = tie.close (tie.spec state-of-requires refusals-requires amount-of-requires returns)
