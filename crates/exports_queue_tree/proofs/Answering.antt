@@ -1,12 +1,10 @@
 -- The calls on plain states: what the queue tree promises of the state that they stand for, as the numbers' own promise.
 use mathlib.Core.Path.{_≡_, refl, sym, ap, _∙_, subst}
-use mathlib.Core.Logic.{_≢_}
 use Prim.Native.Nat.{ℕ}
-use native.Mathlib.Omega.{arith}
 use mathlib.Core.Bool.{Bool, true, false}
 use mathlib.Core.List.{List}
 use Rattle.topology.specs.Reader.{pick}
-use Rattle.pifo.specs.Machine.{Call, Answer, pushing, accepted, departed, refused, full, serve}
+use Rattle.pifo.specs.Machine.{Call, Answer, pushing, refused, serve}
 use Rattle.pifo.specs.Tree.{held}
 use Rattle.queue_tree.specs.Arrivals.{stepsOf}
 use Rattle.queue_tree.specs.State.{machine, wellFormed, treeOf}
@@ -54,35 +52,14 @@ is-answered s r call a h = by-test (wellFormed s) refl
     by-test true e = h .answer e
     by-test false e = h .ill e
 
-module _ (s : PlainState) (call : Call ℕ) (t r : State) (a b : Answer ℕ) (q : PlainAnswer) (is : t ≡ stateOf s) (case : a ≡ b) (h : Serves t call a r) where
-  served : stateOf (q .state) ≡ r → q .number ≡ numberOf b → q .value ≡ valueOf b → ((n : ℕ) → b ≡ refused n → q .state ≡ s) → Served s call q
-  served e n v k =
-      let g = subst (λ (u : State). Serves u call a r) is h in
-      let f = subst (Serves (stateOf s) call a) (sym e) g in
-      let x = is-answered (stateOf s) r call a g in
-      let y = sym case ∙ x in
-      record {
-        number = n ∙ ap numberOf y;
-        value = v ∙ ap valueOf y;
-        serves = subst (λ (z : Answer ℕ). Serves (stateOf s) call z (stateOf (q .state))) x f;
-        same = λ m z. k m (y ∙ z);
-      }
-
-  -- an answer with a state of its own
-  pub served-anew : stateOf (q .state) ≡ r → q .number ≡ numberOf b → q .value ≡ valueOf b → ((n : ℕ) → b ≢ refused n) → Served s call q
-  served-anew e n v k = served e n v (λ m z. absurd (k m z))
-
-  -- a refusal by its number alone, with the state that came
-  pub served-refused : (k : ℕ) → b ≡ refused k → q .state ≡ s → q .number ≡ k → q .value ≡ 0 → Served s call q
-  served-refused k z e n v =
-      served (ap stateOf e ∙ sym is ∙ sym (h .kept k (case ∙ z))) (n ∙ sym (ap numberOf z)) (v ∙ sym (ap valueOf z)) (λ m w. e)
-
--- no other answer is a refusal by its number alone
-pub accepted-not : (n : ℕ) → _≢_ {A = Answer ℕ} accepted (refused n)
-accepted-not n e = absurd (let z : _≡_ {A = ℕ} 0 1 = cc in omega arith)
-
-pub full-not : (c n : ℕ) → _≢_ {A = Answer ℕ} (full c) (refused n)
-full-not c n e = absurd (let z : _≡_ {A = ℕ} 0 1 = cc in omega arith)
-
-pub departed-not : (p n : ℕ) → departed p ≢ refused n
-departed-not p n e = absurd (let z : _≡_ {A = ℕ} 0 1 = cc in omega arith)
+pub served-plain : (s : PlainState) (call : Call ℕ) (t r : State) (a : Answer ℕ) (q : PlainAnswer) → t ≡ stateOf s → Serves t call a r
+    → stateOf (q .state) ≡ r → q .number ≡ numberOf a → q .value ≡ valueOf a → Served s call q
+served-plain s call t r a q is h e n v =
+    let g = subst (λ (u : State). Serves u call a r) is h in
+    let f = subst (Serves (stateOf s) call a) (sym e) g in
+    let x = is-answered (stateOf s) r call a g in
+    record {
+      number = n ∙ ap numberOf x;
+      value = v ∙ ap valueOf x;
+      serves = subst (λ (z : Answer ℕ). Serves (stateOf s) call z (stateOf (q .state))) x f;
+    }

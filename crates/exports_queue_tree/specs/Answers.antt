@@ -40,9 +40,8 @@ valueOf (full c) = c
 unfoldable pub answered : State → Call ℕ → Answer ℕ
 answered s call = pick (wellFormed s) (serve (machine s) call .0) (refused 18)
 
--- A call on a plain state: the answer, and the state after it; where the answer is a refusal by its number alone, the numbers that came.
+-- A call on a plain state: the answer, and the state after it.
 pub record Served (s : PlainState) (call : Call ℕ) (r : PlainAnswer) : Type 0 where
   pub number : r .number ≡ numberOf (answered (stateOf s) call)
   pub value : r .value ≡ valueOf (answered (stateOf s) call)
   pub serves : Serves (stateOf s) call (answered (stateOf s) call) (stateOf (r .state))
-  pub same : (n : ℕ) → answered (stateOf s) call ≡ refused n → r .state ≡ s

@@ -13,10 +13,10 @@ ghost use mathlib.Core.List.{map};
 ghost use Rattle.pifo.specs.Machine.{pushing, popping};
 ghost use Rattle.pifo.specs.Tree.{held};
 ghost use Rattle.queue_tree.specs.Arrivals.{stepsOf};
-ghost use Rattle.queue_tree.specs.Calls.{Opens, amount};
+ghost use Rattle.queue_tree.specs.Calls.{Opens, amount, pushAnswer, popAnswer};
 ghost use Rattle.queue_tree.specs.State.{wellFormed, treeOf};
 ghost use Rattle.exports_queue_tree.specs.Plain.{itemFrom, entriesFrom, stepsFrom, pathOf, stateOf, tagOf, childOf, packetOf, rankOf, itemTag, itemChild, itemPacket};
-ghost use Rattle.exports_queue_tree.specs.Answers.{opening, plainAmount, Served};
+ghost use Rattle.exports_queue_tree.specs.Answers.{opening, plainAmount, numberOf, valueOf, Served};
 ghost use Rattle.exports_queue_tree.specs.Churn.{inTurn, Rounded, Churned};
 
 // A state as plain numbers. Entry i has the rank `ranks[i]`; where `tags[i]` is 0 it is the child `children[i]`, else the packet
@@ -289,50 +289,69 @@ pub extern "C" fn linduvar_refusals(state: PlainState) -> PlainAmount
     amount_of(queue_tree::refusals(state_of(state)))
 }
 
-// Pushes a packet along a path. A refusal by its number alone gives back the very numbers of the state.
+fn push_number(answer: PushAnswer) -> u8
+    ensures { λ r. ⌜ r ≡ numberOf (pushAnswer answer) ⌝ }
+{
+    match answer {
+        PushAnswer::Accepted => 0,
+        PushAnswer::Refused(number) => number,
+        PushAnswer::Full(_) => 15,
+    }
+}
+
+fn push_value(answer: PushAnswer) -> u32
+    ensures { λ r. ⌜ r ≡ valueOf (pushAnswer answer) ⌝ }
+{
+    match answer {
+        PushAnswer::Accepted => 0,
+        PushAnswer::Refused(_) => 0,
+        PushAnswer::Full(count) => count,
+    }
+}
+
+// Pushes a packet along a path.
 #[no_mangle]
 pub extern "C" fn linduvar_push(state: PlainState, path: PlainPath, packet: u32) -> PlainAnswer
     ensures { λ r. ⌜ Served state (pushing (stepsOf (pathOf path)) (path .«leaf_rank») packet) r ⌝ }
 {
     let pushed = queue_tree::push(state_of(state), path_of(path), packet);
     let answer = pushed.answer;
-    match answer {
-        PushAnswer::Accepted => PlainAnswer {
-            state: plain(pushed.state),
-            number: 0,
-            value: 0,
-        },
-        PushAnswer::Refused(number) => PlainAnswer {
-            state,
-            number,
-            value: 0,
-        },
-        PushAnswer::Full(count) => PlainAnswer {
-            state: plain(pushed.state),
-            number: 15,
-            value: count,
-        },
+    PlainAnswer {
+        state: plain(pushed.state),
+        number: push_number(answer),
+        value: push_value(answer),
     }
 }
 
-// Pops the packet at the head. A refusal gives back the very numbers of the state.
+fn pop_number(answer: PopAnswer) -> u8
+    ensures { λ r. ⌜ r ≡ numberOf (popAnswer answer) ⌝ }
+{
+    match answer {
+        PopAnswer::Departed(_) => 0,
+        PopAnswer::Refused(number) => number,
+    }
+}
+
+fn pop_value(answer: PopAnswer) -> u32
+    ensures { λ r. ⌜ r ≡ valueOf (popAnswer answer) ⌝ }
+{
+    match answer {
+        PopAnswer::Departed(packet) => packet,
+        PopAnswer::Refused(_) => 0,
+    }
+}
+
+// Pops the packet at the head.
 #[no_mangle]
 pub extern "C" fn linduvar_pop(state: PlainState) -> PlainAnswer
     ensures { λ r. ⌜ Served state popping r ⌝ }
 {
     let popped = queue_tree::pop(state_of(state));
     let answer = popped.answer;
-    match answer {
-        PopAnswer::Departed(packet) => PlainAnswer {
-            state: plain(popped.state),
-            number: 0,
-            value: packet,
-        },
-        PopAnswer::Refused(number) => PlainAnswer {
-            state,
-            number,
-            value: 0,
-        },
+    PlainAnswer {
+        state: plain(popped.state),
+        number: pop_number(answer),
+        value: pop_value(answer),
     }
 }
 
