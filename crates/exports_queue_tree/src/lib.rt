@@ -15,7 +15,7 @@ ghost use Rattle.pifo.specs.Tree.{held};
 ghost use Rattle.queue_tree.specs.Arrivals.{stepsOf};
 ghost use Rattle.queue_tree.specs.Calls.{Opens, amount, pushAnswer, popAnswer};
 ghost use Rattle.queue_tree.specs.State.{wellFormed, treeOf};
-ghost use Rattle.exports_queue_tree.specs.Plain.{itemFrom, entriesFrom, stepsFrom, pathOf, stateOf, tagOf, childOf, packetOf, rankOf, itemTag, itemChild, itemPacket};
+ghost use Rattle.exports_queue_tree.specs.Plain.{itemFrom, entriesFrom, stepsFrom, pathOf, stateOf, tagOf, childOf, packetOf, rankOf};
 ghost use Rattle.exports_queue_tree.specs.Answers.{opening, plainAmount, numberOf, valueOf, Served};
 ghost use Rattle.exports_queue_tree.specs.Churn.{inTurn, Rounded, Churned};
 
@@ -159,9 +159,10 @@ fn ranks_of(entries: [Entry; 2304]) -> [u32; 2304]
     ranks
 }
 
-fn tag(item: Item) -> u8
-    ensures { λ r. ⌜ r ≡ itemTag item ⌝ }
+fn tag(entry: Entry) -> u8
+    ensures { λ r. ⌜ r ≡ tagOf entry ⌝ }
 {
+    let item = entry.item;
     match item {
         Item::Child(_) => 0,
         Item::Packet(_) => 1,
@@ -174,17 +175,16 @@ fn tags_of(entries: [Entry; 2304]) -> [u8; 2304]
     let mut tags = [0u8; 2304];
     let mut i = 0;
     while i < 2304 {
-        let entry = entries[i];
-        let item = entry.item;
-        tags[i] = tag(item);
+        tags[i] = tag(entries[i]);
         i += 1;
     }
     tags
 }
 
-fn child(item: Item) -> u8
-    ensures { λ r. ⌜ r ≡ itemChild item ⌝ }
+fn child(entry: Entry) -> u8
+    ensures { λ r. ⌜ r ≡ childOf entry ⌝ }
 {
+    let item = entry.item;
     match item {
         Item::Child(index) => index,
         Item::Packet(_) => 0,
@@ -197,17 +197,16 @@ fn children_of(entries: [Entry; 2304]) -> [u8; 2304]
     let mut children = [0u8; 2304];
     let mut i = 0;
     while i < 2304 {
-        let entry = entries[i];
-        let item = entry.item;
-        children[i] = child(item);
+        children[i] = child(entries[i]);
         i += 1;
     }
     children
 }
 
-fn packet(item: Item) -> u32
-    ensures { λ r. ⌜ r ≡ itemPacket item ⌝ }
+fn packet(entry: Entry) -> u32
+    ensures { λ r. ⌜ r ≡ packetOf entry ⌝ }
 {
+    let item = entry.item;
     match item {
         Item::Child(_) => 0,
         Item::Packet(number) => number,
@@ -220,9 +219,7 @@ fn packets_of(entries: [Entry; 2304]) -> [u32; 2304]
     let mut packets = [0u32; 2304];
     let mut i = 0;
     while i < 2304 {
-        let entry = entries[i];
-        let item = entry.item;
-        packets[i] = packet(item);
+        packets[i] = packet(entries[i]);
         i += 1;
     }
     packets

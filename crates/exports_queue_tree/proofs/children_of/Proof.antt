@@ -17,11 +17,11 @@ abbrev μ-loop : tie.MeasureT-loop
 loop-holds : tie.Need-loop-holds Inv-loop μ-loop
 loop-holds c = fill-none _ _ 2304 (omega arith)
 
-mul-entry : tie.Need-mul-entry Inv-loop μ-loop
-mul-entry c = search needs
+mul-child : tie.Need-mul-child Inv-loop μ-loop
+mul-child c = search needs
 
-array-copy-out-entry : tie.Need-array-copy-out-entry Inv-loop μ-loop
-array-copy-out-entry c = search needs
+array-copy-out-child : tie.Need-array-copy-out-child Inv-loop μ-loop
+array-copy-out-child c = search needs
 
 child-requires : tie.Need-child-requires Inv-loop μ-loop
 child-requires c κs = search needs
@@ -52,8 +52,8 @@ children-of-spec =
     Inv-loop
     μ-loop
     loop-holds
-    mul-entry
-    array-copy-out-entry
+    mul-child
+    array-copy-out-child
     child-requires
     array-write-children
     add-i

@@ -17,11 +17,11 @@ abbrev μ-loop : tie.MeasureT-loop
 loop-holds : tie.Need-loop-holds Inv-loop μ-loop
 loop-holds c = fill-none _ _ 2304 (omega arith)
 
-mul-entry : tie.Need-mul-entry Inv-loop μ-loop
-mul-entry c = search needs
+mul-packet : tie.Need-mul-packet Inv-loop μ-loop
+mul-packet c = search needs
 
-array-copy-out-entry : tie.Need-array-copy-out-entry Inv-loop μ-loop
-array-copy-out-entry c = search needs
+array-copy-out-packet : tie.Need-array-copy-out-packet Inv-loop μ-loop
+array-copy-out-packet c = search needs
 
 packet-requires : tie.Need-packet-requires Inv-loop μ-loop
 packet-requires c κs = search needs
@@ -55,8 +55,8 @@ packets-of-spec =
     Inv-loop
     μ-loop
     loop-holds
-    mul-entry
-    array-copy-out-entry
+    mul-packet
+    array-copy-out-packet
     packet-requires
     mul-packets
     array-write-packets

@@ -17,11 +17,11 @@ abbrev μ-loop : tie.MeasureT-loop
 loop-holds : tie.Need-loop-holds Inv-loop μ-loop
 loop-holds c = fill-none _ _ 2304 (omega arith)
 
-mul-entry : tie.Need-mul-entry Inv-loop μ-loop
-mul-entry c = search needs
+mul-tag : tie.Need-mul-tag Inv-loop μ-loop
+mul-tag c = search needs
 
-array-copy-out-entry : tie.Need-array-copy-out-entry Inv-loop μ-loop
-array-copy-out-entry c = search needs
+array-copy-out-tag : tie.Need-array-copy-out-tag Inv-loop μ-loop
+array-copy-out-tag c = search needs
 
 tag-requires : tie.Need-tag-requires Inv-loop μ-loop
 tag-requires c κs = search needs
@@ -52,8 +52,8 @@ tags-of-spec =
     Inv-loop
     μ-loop
     loop-holds
-    mul-entry
-    array-copy-out-entry
+    mul-tag
+    array-copy-out-tag
     tag-requires
     array-write-tags
     add-i
