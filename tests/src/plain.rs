@@ -141,8 +141,9 @@ impl PlainState {
         self.used -= 1;
     }
 
-    /// The same with every entry written anew, those behind the last included:
-    /// what the library gives back where a call altered the state.
+    /// The same with every entry written anew, those behind the last included,
+    /// as the library gives a state back: tags are 0 and 1, and a child has the
+    /// packet 0, a packet the child 0.
     pub fn rewritten(&self) -> PlainState {
         let mut plain = *self;
         for at in 0..MOST_ENTRIES {

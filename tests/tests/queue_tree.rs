@@ -220,7 +220,7 @@ fn random_lists(comparison: &mut Comparison) {
         let random = &mut comparison.random;
         let (limit, calls) = match list {
             0..SHORT_LISTS => (random.pick(&LIMITS), 40),
-            _ => (random.pick(&[255, 256]), 700),
+            _ => ([255, 256][list % 2], 700),
         };
         let topology = any_topology(random);
         let habits = Habits::any(random);
@@ -395,7 +395,21 @@ struct Comparison {
 const ANSWERS: [usize; 12] = [0, 1, 2, 3, 4, 5, 13, 14, 15, 16, 17, 18];
 
 /// What is worth to be met besides the kinds of paths and states.
-const OCCASIONS: [&str; 5] = [
+const OCCASIONS: [&str; 19] = [
+    "accepted 0 steps down",
+    "accepted 1 steps down",
+    "accepted 2 steps down",
+    "accepted 3 steps down",
+    "accepted 4 steps down",
+    "accepted 5 steps down",
+    "accepted 6 steps down",
+    "accepted 7 steps down",
+    "accepted 8 steps down",
+    "accepted through an eighth child",
+    "full at a limit of 1",
+    "full at a limit of 2",
+    "full at a limit of 255",
+    "full at a limit of 256",
     "path at fault when full",
     "the count reaches its end",
     "the count stays at its end",
@@ -497,11 +511,10 @@ impl Comparison {
         );
         self.meet(number);
 
-        // A refusal leaves every number, or every entry and all but the count.
+        // A refusal leaves every entry, and all else but the count of a full tree.
         if number != 0 {
-            let mut expected = before;
+            let mut expected = before.rewritten();
             if number == 15 {
-                expected = before.rewritten();
                 expected.refused = value;
             }
             let same = sides.plain == expected;
@@ -511,6 +524,17 @@ impl Comparison {
         let earlier = Earlier(&before);
         self.compare_state(sides, format_args!("after {call:?} on {earlier:?}"));
 
+        match (number, call) {
+            (0, Call::Push { path, .. }) => {
+                self.kinds
+                    .meet(&format!("accepted {} steps down", path.count));
+                if path.count > 0 && path.children[0] == 8 {
+                    self.kinds.meet("accepted through an eighth child");
+                }
+            }
+            (15, _) => self.kinds.meet(&format!("full at a limit of {limit}")),
+            _ => {}
+        }
         match number {
             13 | 14 if held == limit => self.kinds.meet("path at fault when full"),
             15 if refused == u32::MAX => self.kinds.meet("the count stays at its end"),
@@ -561,7 +585,7 @@ impl Comparison {
             ("pop", rattle_queue_tree::pop(before)),
         ] {
             let question = format_args!("{call} on an ill formed state: {kind}");
-            let same = rattle.state == *before;
+            let same = rattle.state == before.rewritten();
             let answer = (rattle.number, rattle.value, same);
             self.agree(question, Some(before), answer, (18, 0, true));
             self.meet(18);
