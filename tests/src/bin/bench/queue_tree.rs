@@ -1,7 +1,8 @@
 //! The queue tree: a pop and a push in turn, with some packets held.
 //!
 //! The rounds are made in one call, so that crossing the boundary, which
-//! rewrites the state, is not counted.
+//! rewrites the state, is not counted. Below stand a push and a pop of Rattle
+//! alone.
 
 use linduvar_tests::plain::{PlainPath, PlainState};
 use linduvar_tests::queue_tree::{self, QueueTree, Step, MOST_PACKETS};
@@ -12,6 +13,7 @@ use std::hint::black_box;
 const CHAINS: usize = 4;
 const CALLS: u32 = 4_000;
 const ROUNDS: usize = 10;
+const SINGLES: usize = 2_000;
 
 pub fn run(random: &mut Random) {
     println!("the queue tree, a pop and a push, the best of {ROUNDS} rounds of {CALLS}:");
@@ -52,8 +54,27 @@ pub fn run(random: &mut Random) {
                 "depth {depth}, {packets:3} held        Rattle {rattle:11.1}   Rust {rust:11.1} ({:.2})",
                 rattle / rust
             );
+            // One call each, less the crossing; the push finds one packet less.
+            let mut less = tree.clone();
+            less.pop().expect("a packet is held");
+            let less = PlainState::write(&less.state());
+            let crossing = single(|| _ = black_box(in_rattle(0)));
+            let pop = single(|| _ = black_box(rattle_queue_tree::pop(black_box(&state))));
+            let push =
+                single(|| _ = black_box(rattle_queue_tree::push(black_box(&less), &plain[0], 0)));
+            println!(
+                "{:25}push {:.1}, pop {:.1}, crossing {crossing:.1}",
+                "",
+                push - crossing,
+                pop - crossing
+            );
         }
     }
+}
+
+/// Nanoseconds that one call takes.
+fn single(call: impl FnMut()) -> f64 {
+    crate::best_of(SINGLES, call)
 }
 
 /// Nanoseconds per round; what a run without rounds takes is not counted.
