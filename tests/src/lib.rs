@@ -3,14 +3,24 @@
 //! compare them with those proved in Rattle. The queue tree is not compared
 //! yet: see the feature `queue_tree` in Cargo.toml.
 
+pub mod both_trees;
 pub mod embedding;
 pub mod generate;
+pub mod laborious;
 pub mod pairs;
+pub mod paper;
 pub mod queue_tree;
 pub mod random;
 pub mod rattle;
 pub mod rattle_embedding;
 #[cfg(feature = "queue_tree")]
 pub mod rattle_queue_tree;
+#[cfg(feature = "translator")]
+pub mod rattle_translator;
+pub mod reached;
+pub mod samples;
+pub mod script;
+pub mod scripts;
 pub mod states;
 pub mod topology;
+pub mod translator;

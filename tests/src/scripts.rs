@@ -1,0 +1,319 @@
+//! Random scripts for gatewalk, of many kinds.
+//!
+//! A script is made as a list of commands, each with its operands, so that
+//! commands can be put in or cut at a chosen place.
+
+use crate::generate;
+use crate::pairs::{self, Drawn};
+use crate::queue_tree::{read_steps, Step, MOST_PACKETS};
+use crate::random::Random;
+use crate::script::SCRIPT_BYTES;
+use crate::states::{any_path, Habits};
+use crate::topology::{MOST_STEPS_DOWN, SOURCE_NODES, TARGET_NODES};
+
+pub type Command = Vec<u8>;
+
+pub fn source_node(children: u8) -> Command {
+    vec![0x01, children]
+}
+
+pub fn target_node(children: u8) -> Command {
+    vec![0x02, children]
+}
+
+pub fn limit(packets: usize) -> Command {
+    let packets = packets as u16;
+    [vec![0x03], packets.to_be_bytes().to_vec()].concat()
+}
+
+pub const OPEN: u8 = 0x04;
+pub const POP: u8 = 0x07;
+
+pub fn step(child: u8, rank: u32) -> Command {
+    [vec![0x05, child], rank.to_be_bytes().to_vec()].concat()
+}
+
+pub fn push(packet: u32, leaf_rank: u32) -> Command {
+    let numbers = [packet.to_be_bytes(), leaf_rank.to_be_bytes()];
+    [vec![0x06], numbers.concat()].concat()
+}
+
+/// The steps of a path and the push along them.
+pub fn push_along(steps: &[Step], packet: u32, leaf_rank: u32) -> Vec<Command> {
+    let mut commands: Vec<Command> = steps
+        .iter()
+        .map(|taken| step(taken.child, taken.rank))
+        .collect();
+    commands.push(push(packet, leaf_rank));
+    commands
+}
+
+/// Both drawings, the limit and 04, in the plainest order.
+pub fn opening(source: &[u8], target: &[u8], packets: usize) -> Vec<Command> {
+    let mut commands: Vec<Command> = source.iter().copied().map(source_node).collect();
+    commands.extend(target.iter().copied().map(target_node));
+    commands.push(limit(packets));
+    commands.push(vec![OPEN]);
+    commands
+}
+
+/// The same in any order that comes to the same.
+fn shuffled_opening(
+    source: &[u8],
+    target: &[u8],
+    packets: usize,
+    random: &mut Random,
+) -> Vec<Command> {
+    let mut commands = Vec::new();
+    let (mut source, mut target) = (source.iter(), target.iter());
+    while source.len() + target.len() > 0 {
+        let next = if random.below(source.len() + target.len()) < source.len() {
+            source.next().copied().map(source_node)
+        } else {
+            target.next().copied().map(target_node)
+        };
+        commands.extend(next);
+    }
+    commands.insert(random.within(0..=commands.len()), limit(packets));
+    commands.push(vec![OPEN]);
+    commands
+}
+
+/// Pushes and pops for a source, as many calls as are asked for.
+pub fn calls(source: &[u8], count: usize, random: &mut Random) -> Vec<Command> {
+    let habits = Habits::any(random);
+    let mut commands = Vec::new();
+    let mut pushes_in_ten = 7;
+    for _ in 0..count {
+        if random.one_in(20) {
+            pushes_in_ten = random.pick(&[1, 3, 5, 7, 9, 10]);
+        }
+        if random.below(10) < pushes_in_ten {
+            let (steps, _, _) = any_path(source, &habits, random);
+            let mut steps = read_steps(&steps);
+            // A ninth step ends the script: see "ninth 05".
+            steps.truncate(MOST_STEPS_DOWN);
+            let (packet, rank) = (habits.packet(random), habits.rank(random));
+            commands.extend(push_along(&steps, packet, rank));
+        } else {
+            commands.push(vec![POP]);
+        }
+    }
+    commands
+}
+
+/// The kinds of random scripts, and how many of a hundred are of each.
+pub const KINDS: [(&str, usize); 10] = [
+    ("whole", 22),
+    ("any pair", 8),
+    ("damaged drawing", 14),
+    ("limit out of range", 5),
+    ("out of turn", 15),
+    ("out of turn, then cut", 5),
+    ("unknown command", 6),
+    ("cut", 13),
+    ("one byte damaged", 8),
+    ("noise", 4),
+];
+
+/// A random script, most of them far shorter than the longest.
+pub fn any(random: &mut Random) -> (&'static str, Vec<u8>) {
+    let mut lot = random.below(100);
+    for (kind, share) in KINDS {
+        if lot < share {
+            return (kind, of_kind(kind, random));
+        }
+        lot -= share;
+    }
+    unreachable!("the shares add up to a hundred")
+}
+
+fn of_kind(kind: &str, random: &mut Random) -> Vec<u8> {
+    let mut commands = match kind {
+        "any pair" => {
+            let drawn = pairs::any(random, SOURCE_NODES, TARGET_NODES);
+            whole(&drawn, random)
+        }
+        "damaged drawing" => {
+            let mut drawn = small_or_large(random);
+            let broken = if random.one_in(2) {
+                &mut drawn.source
+            } else {
+                &mut drawn.target
+            };
+            *broken = generate::any(random);
+            let mut commands = shuffled_opening(&drawn.source, &drawn.target, 1, random);
+            commands.push(vec![POP]);
+            commands
+        }
+        "limit out of range" => {
+            // With a map and without.
+            let drawn = pairs::any(random, 8, 12);
+            let packets = random.pick(&[0, 257, 258, 511, 512, 768, 65_535]);
+            shuffled_opening(&drawn.source, &drawn.target, packets, random)
+        }
+        _ => {
+            let drawn = small_or_large(random);
+            whole(&drawn, random)
+        }
+    };
+    match kind {
+        "out of turn" => _ = put_out_of_turn(&mut commands, random),
+        "out of turn, then cut" => {
+            let at = put_out_of_turn(&mut commands, random);
+            commands.truncate(at + 1);
+            cut_operands(&mut commands, random);
+        }
+        "unknown command" => {
+            let any = random.within(8..=255) as u8;
+            let byte = random.pick(&[0, 8, 9, 10, 11, 255, any]);
+            commands.insert(random.within(0..=commands.len()), vec![byte]);
+        }
+        "cut" => cut(&mut commands, random),
+        "noise" => commands = vec![noise(random)],
+        _ => {}
+    }
+    let mut script = commands.concat();
+    if kind == "one byte damaged" {
+        let at = random.below(script.len());
+        let any = random.below(256) as u8;
+        script[at] = random.pick(&[any, any, 0, 1, 4, 7, script[at] ^ 1]);
+    }
+    script
+}
+
+/// A pair with a map, the small ones more frequent.
+fn small_or_large(random: &mut Random) -> Drawn {
+    let (source, target) = random.pick(&[(4, 7), (8, 12), (8, 12), (SOURCE_NODES, TARGET_NODES)]);
+    pairs::embedded(random, source, target)
+}
+
+/// An opening over the pair, and calls.
+fn whole(drawn: &Drawn, random: &mut Random) -> Vec<Command> {
+    let any = random.within(1..=MOST_PACKETS);
+    let packets = random.pick(&[1, 2, 3, 10, 255, MOST_PACKETS, any]);
+    let mut commands = shuffled_opening(&drawn.source, &drawn.target, packets, random);
+    let count = random.pick(&[0, 4, 12, 40, 100]);
+    // Some scripts fill the tree and go on.
+    let count = if random.one_in(12) {
+        packets + count
+    } else {
+        count
+    };
+    commands.extend(calls(&drawn.source, count, random));
+    commands
+}
+
+/// Puts one command out of turn into a script that has none. Where it is.
+fn put_out_of_turn(commands: &mut Vec<Command>, random: &mut Random) -> usize {
+    let place = |command: u8| commands.iter().position(|of| of[0] == command);
+    let opened = place(OPEN).expect("an opening");
+    let limited = place(0x03).expect("a limit");
+    let end = commands.len();
+    let (before, after) = (0..=opened, opened + 1..=end);
+    let any = random.below(256) as u8;
+    let (at, command) = match random.below(10) {
+        0 => (random.within(after), source_node(any)),
+        1 => (random.within(after), target_node(any)),
+        2 => (random.within(after), limit(1)),
+        3 => (random.within(limited + 1..=opened), limit(1)),
+        4 => (random.within(0..=limited), vec![OPEN]),
+        5 => (random.within(after), vec![OPEN]),
+        6 => (random.within(before), step(any, 1)),
+        7 => (random.within(before), push(u32::from(any), 1)),
+        8 => (random.within(before), vec![POP]),
+        _ => {
+            let at = random.within(after);
+            // What was gathered before does not matter: nine are too many.
+            for _ in 0..8 {
+                commands.insert(at, step(1, 1));
+            }
+            (at + 8, step(any, 1))
+        }
+    };
+    commands.insert(at, command);
+    at
+}
+
+/// Cuts a script anywhere, or within a command of some sort that it has.
+fn cut(commands: &mut Vec<Command>, random: &mut Random) {
+    if random.one_in(3) {
+        let mut script = commands.concat();
+        script.truncate(random.below(script.len()));
+        *commands = vec![script];
+        return;
+    }
+    let sort = random.pick(&[0x01, 0x02, 0x03, 0x05, 0x06]);
+    let of_sort: Vec<usize> = (0..commands.len())
+        .filter(|&at| commands[at][0] == sort)
+        .collect();
+    if !of_sort.is_empty() {
+        commands.truncate(random.pick(&of_sort) + 1);
+        cut_operands(commands, random);
+    }
+}
+
+/// Cuts the last command's operands short, if it has any.
+fn cut_operands(commands: &mut [Command], random: &mut Random) {
+    if let Some(last) = commands.last_mut() {
+        last.truncate(random.within(1..=last.len().max(2) - 1));
+    }
+}
+
+/// Bytes with no plan behind them, mostly known commands.
+fn noise(random: &mut Random) -> Vec<u8> {
+    let highest = random.pick(&[4, 7, 8, 255]);
+    (0..random.within(0..=60))
+        .map(|_| random.within(0..=highest) as u8)
+        .collect()
+}
+
+/// A script past the longest, and whether something is cut there: a command
+/// begins some bytes before that place, or right at it.
+pub fn over_long(random: &mut Random) -> Vec<u8> {
+    let drawn = small_or_large(random);
+    let packets = random.pick(&[1, 10, MOST_PACKETS]);
+    let mut script = shuffled_opening(&drawn.source, &drawn.target, packets, random).concat();
+    // Steps take much room and little work.
+    let fill = [step(1, 1).repeat(8), push(1, 1)].concat();
+    while script.len() + fill.len() + 20 < SCRIPT_BYTES {
+        if random.one_in(20) {
+            script.extend(calls(&drawn.source, 3, random).concat());
+        } else {
+            script.extend(&fill);
+        }
+    }
+    script.truncate(SCRIPT_BYTES);
+    let whole = whole_commands(&script);
+    script.truncate(whole);
+    let begins = SCRIPT_BYTES - random.within(0..=10);
+    while script.len() < begins {
+        script.push(POP);
+    }
+    let last = random.pick(&[0x00, 0x01, 0x02, 0x03, OPEN, 0x05, 0x06, POP, 0x08]);
+    script.push(last);
+    script.extend((0..random.within(0..=20)).map(|_| random.within(0..=8) as u8));
+    while script.len() <= SCRIPT_BYTES {
+        script.push(POP);
+    }
+    script
+}
+
+/// How many bytes of a script of known commands make whole ones.
+fn whole_commands(script: &[u8]) -> usize {
+    let mut at = 0;
+    loop {
+        let next = match script.get(at) {
+            Some(0x01 | 0x02) => at + 2,
+            Some(0x03) => at + 3,
+            Some(0x05) => at + 6,
+            Some(0x06) => at + 9,
+            Some(_) => at + 1,
+            None => return at,
+        };
+        if next > script.len() {
+            return at;
+        }
+        at = next;
+    }
+}

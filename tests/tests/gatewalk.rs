@@ -1,0 +1,225 @@
+//! Runs the program gatewalk and the second implementation on the same
+//! scripts and compares all that they print. The first difference ends the run.
+
+use linduvar_tests::pairs;
+use linduvar_tests::random::{self, Random};
+use linduvar_tests::reached::Reached;
+use linduvar_tests::script::{run, SCRIPT_BYTES};
+use linduvar_tests::scripts::{self, calls, opening, POP};
+use linduvar_tests::topology::{SOURCE_NODES, TARGET_NODES};
+use linduvar_tests::{laborious, paper, samples};
+use std::io::{ErrorKind, Read, Write};
+use std::path::{Path, PathBuf};
+use std::process::{Child, Command, Stdio};
+use std::time::{Duration, Instant};
+use std::{env, thread};
+
+const RANDOM_SCRIPTS: u64 = 6_000;
+const LONG_SCRIPTS: u64 = 40;
+
+/// A script that takes longer fails; what is aimed at is `AIM`.
+const SECONDS: f64 = 20.0;
+const AIM: f64 = 2.0;
+
+fn main() {
+    let seed = random::seed();
+    println!("seed {seed} (LINDUVAR_SEED={seed} repeats this run)");
+    for (script, printed) in paper::scripts() {
+        assert_eq!(text(&script), printed, "{script:02X?}");
+    }
+    println!("the paper's scripts: as it has them");
+    sample_scripts();
+    byte_by_byte();
+    ten_megabytes();
+    laborious_scripts();
+    every_limit(seed);
+    random_scripts(seed);
+    println!("no difference");
+}
+
+/// The program, or another in its place.
+fn program() -> PathBuf {
+    let program = match env::var_os("LINDUVAR_GATEWALK") {
+        Some(path) => PathBuf::from(path),
+        None => Path::new(env!("CARGO_MANIFEST_DIR")).join("../target/bin/gatewalk"),
+    };
+    assert!(
+        program.is_file(),
+        "{} is missing; run `rt check gatewalk` first",
+        program.display()
+    );
+    program
+}
+
+fn start() -> Child {
+    Command::new(program())
+        .stdin(Stdio::piped())
+        .stdout(Stdio::piped())
+        .spawn()
+        .expect("gatewalk starts")
+}
+
+/// What gatewalk prints for a script that `write` sends down its pipe.
+fn gatewalk(write: impl FnOnce(&mut dyn Write) -> std::io::Result<()> + Send) -> Vec<u8> {
+    let mut child = start();
+    let mut input = child.stdin.take().expect("a pipe");
+    let mut output = child.stdout.take().expect("a pipe");
+    let mut printed = Vec::new();
+    thread::scope(|scope| {
+        scope.spawn(move || match write(&mut input) {
+            // It may stop reading where the longest script ends.
+            Err(error) if error.kind() != ErrorKind::BrokenPipe => panic!("{error}"),
+            _ => {}
+        });
+        output.read_to_end(&mut printed).expect("what it prints");
+    });
+    let status = child.wait().expect("it was started");
+    assert!(status.success(), "gatewalk: {status}");
+    printed
+}
+
+fn walk(script: &[u8]) -> Vec<u8> {
+    gatewalk(|input| input.write_all(script))
+}
+
+fn text(script: &[u8]) -> String {
+    String::from_utf8(walk(script)).expect("plain text")
+}
+
+/// Compares, and names the script where they differ.
+fn compare(what: &str, script: &[u8]) {
+    let (rattle, rust) = (walk(script), run(script));
+    if rattle != rust {
+        let lines = |bytes: &[u8]| -> Vec<String> {
+            let text = String::from_utf8_lossy(bytes);
+            text.lines().map(str::to_string).collect()
+        };
+        let (rattle, rust) = (lines(&rattle), lines(&rust));
+        let at = rattle.iter().zip(&rust).take_while(|(a, b)| a == b).count();
+        panic!(
+            "a difference: {what}\n  script {script:02X?}\n  line {at} (from 0)\n  Rattle {:?}\n  Rust   {:?}",
+            rattle.get(at),
+            rust.get(at)
+        );
+    }
+}
+
+/// Each sample prints what its comments say, and `samples/run` gives its bytes.
+fn sample_scripts() {
+    let folder = samples::folder();
+    let garden = folder.join("garden.hex");
+    let sample = samples::read(&garden);
+    assert_eq!(text(&sample.script), sample.promised);
+    assert_eq!(shell(&folder, &garden), sample.script);
+    let refusals = samples::refusals();
+    for (number, path) in &refusals {
+        let sample = samples::read(path);
+        let printed = text(&sample.script);
+        let last = printed.lines().last().expect("a line");
+        let expected = format!("no {number} ");
+        assert!(last.starts_with(&expected), "{}: {last}", path.display());
+        assert_eq!(printed, sample.promised, "{}", path.display());
+        assert_eq!(shell(&folder, path), sample.script);
+    }
+    println!("samples: as they say, {} refusals", refusals.len());
+}
+
+/// The bytes that the shell script makes of a sample.
+fn shell(folder: &Path, sample: &Path) -> Vec<u8> {
+    let output = Command::new(folder.join("run")).arg(sample).output();
+    output.expect("samples/run starts").stdout
+}
+
+/// A pipe that gives one byte at a time.
+fn byte_by_byte() {
+    let printed = gatewalk(|input| {
+        for byte in paper::EXAMPLE {
+            input.write_all(&[byte])?;
+            input.flush()?;
+            thread::sleep(Duration::from_millis(1));
+        }
+        Ok(())
+    });
+    assert_eq!(printed, paper::EXAMPLE_OUTPUT.as_bytes());
+    println!("byte by byte: as at once");
+}
+
+/// Ten megabytes: of steps and pushes, of pops, of zeros.
+fn ten_megabytes() {
+    const LENGTH: usize = 10_000_000;
+    let opened = opening(&[1, 0], &[1, 1, 0], 3).concat();
+    let turns = [scripts::step(1, 1), scripts::push(1, 1), vec![POP]].concat();
+    for repeated in [turns, vec![POP], vec![0]] {
+        let mut script = opened.clone();
+        while script.len() < LENGTH {
+            script.extend(&repeated);
+        }
+        compare("ten megabytes", &script);
+    }
+    println!("ten megabytes: the first {SCRIPT_BYTES} bytes count");
+}
+
+fn laborious_scripts() {
+    println!("the most laborious scripts (the aim is {AIM} s):");
+    for (name, script) in laborious::scripts() {
+        assert!(script.len() <= SCRIPT_BYTES);
+        let start = Instant::now();
+        let printed = walk(&script);
+        let seconds = start.elapsed().as_secs_f64();
+        assert_eq!(printed, run(&script), "{name}");
+        let note = if seconds > AIM { ", over the aim" } else { "" };
+        println!(
+            "  {name:36} {seconds:6.3} s, {} bytes printed{note}",
+            printed.len()
+        );
+        assert!(seconds < SECONDS, "{name} took {seconds} s");
+    }
+}
+
+/// Whole lists of calls at each limit.
+fn every_limit(seed: u64) {
+    let mut random = Random::new(seed);
+    for limit in 1..=256 {
+        let drawn = pairs::embedded(&mut random, SOURCE_NODES, TARGET_NODES);
+        let mut script = opening(&drawn.source, &drawn.target, limit);
+        script.extend(calls(&drawn.source, 2 * limit + 20, &mut random));
+        compare("a list of calls", &script.concat());
+    }
+    println!("lists of calls at each limit: no difference");
+}
+
+/// Random scripts, shared among as many threads as there are processors.
+fn random_scripts(seed: u64) {
+    let threads = thread::available_parallelism().map_or(1, |threads| threads.get()) as u64;
+    let start = Instant::now();
+    let mut reached = Reached::new();
+    thread::scope(|scope| {
+        let workers: Vec<_> = (0..threads)
+            .map(|first| scope.spawn(move || some_scripts(seed, first, threads)))
+            .collect();
+        for worker in workers {
+            reached.add(worker.join().expect("no difference"));
+        }
+    });
+    reached.print();
+    println!("{:.1} s", start.elapsed().as_secs_f64());
+    reached.require_everything();
+}
+
+/// Every `stride`th of the random scripts.
+fn some_scripts(seed: u64, first: u64, stride: u64) -> Reached {
+    let mut reached = Reached::new();
+    for number in (first..RANDOM_SCRIPTS).step_by(stride as usize) {
+        let mut random = Random::new(seed.wrapping_add(number));
+        let (kind, script) = scripts::any(&mut random);
+        compare(kind, &script);
+        reached.script(kind, &script);
+    }
+    for number in (first..LONG_SCRIPTS).step_by(stride as usize) {
+        let mut random = Random::new(seed.wrapping_add(number));
+        let script = scripts::over_long(&mut random);
+        compare("over-long", &script);
+        reached.script("over-long", &script);
+    }
+    reached
+}
