@@ -5,6 +5,7 @@
 
 pub mod both_trees;
 pub mod embedding;
+pub mod gatewalk;
 pub mod generate;
 pub mod laborious;
 pub mod pairs;

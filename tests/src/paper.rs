@@ -107,7 +107,7 @@ fn order_of_tests() -> Vec<(Vec<u8>, String)> {
             after(&[step(1, 1).repeat(8), cut(&step(1, 1))].concat()),
             "map 0\nno 21 56\n",
         ),
-        // 13 before 14 and both before 15, which leaves nothing behind.
+        // 13 and 14 before 15, and each leaves the tree as it was.
         script(
             after(
                 &[
@@ -120,6 +120,15 @@ fn order_of_tests() -> Vec<(Vec<u8>, String)> {
                 .concat(),
             ),
             "map 0\nin 1\nno 13 23\nno 15 32\nout 00000007\nno 16 42\n",
+        ),
+        script(
+            [
+                opening(&[1, 0], &[1, 0], 1),
+                vec![step(1, 0), push(7, 0), push(8, 0)],
+            ]
+            .concat()
+            .concat(),
+            "map 0 1\nin 1\nno 14 27\n",
         ),
         // Nothing is read behind a refusal that stops.
         script(vec![OPEN, 0x01, 0x00], "no 22 0\n"),

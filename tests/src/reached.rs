@@ -2,12 +2,12 @@
 //! cases, and scripts of every kind.
 
 use crate::script::{outcomes, Done, Refused, REFUSALS, SCRIPT_BYTES};
-use crate::scripts::KINDS;
+use crate::scripts::{KINDS, LONG_KINDS};
 use std::collections::BTreeMap;
 
 /// Each refusal must be met this often, but those at the end of the longest
 /// script, which take long to reach.
-const OFTEN_ENOUGH: usize = 20;
+const OFTEN_ENOUGH: usize = 5;
 const AT_THE_END: usize = 3;
 
 #[derive(Default)]
@@ -88,7 +88,7 @@ impl Reached {
     }
 
     pub fn require_everything(&self) {
-        for (kind, _) in KINDS {
+        for kind in KINDS.iter().map(|(kind, _)| kind).chain(&LONG_KINDS) {
             assert!(self.kinds.contains_key(kind), "no script: {kind}");
         }
         for command in 1..=7 {

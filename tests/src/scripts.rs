@@ -79,6 +79,16 @@ fn shuffled_opening(
     commands
 }
 
+/// A push for a source, along a path that is mostly right.
+fn any_push(source: &[u8], habits: &Habits, random: &mut Random) -> Vec<Command> {
+    let (steps, _, _) = any_path(source, habits, random);
+    let mut steps = read_steps(&steps);
+    // A ninth step would end the script.
+    steps.truncate(MOST_STEPS_DOWN);
+    let (packet, leaf_rank) = (habits.packet(random), habits.rank(random));
+    push_along(&steps, packet, leaf_rank)
+}
+
 /// Pushes and pops for a source, as many calls as are asked for.
 pub fn calls(source: &[u8], count: usize, random: &mut Random) -> Vec<Command> {
     let habits = Habits::any(random);
@@ -89,12 +99,7 @@ pub fn calls(source: &[u8], count: usize, random: &mut Random) -> Vec<Command> {
             pushes_in_ten = random.pick(&[1, 3, 5, 7, 9, 10]);
         }
         if random.below(10) < pushes_in_ten {
-            let (steps, _, _) = any_path(source, &habits, random);
-            let mut steps = read_steps(&steps);
-            // A ninth step ends the script: see "ninth 05".
-            steps.truncate(MOST_STEPS_DOWN);
-            let (packet, rank) = (habits.packet(random), habits.rank(random));
-            commands.extend(push_along(&steps, packet, rank));
+            commands.extend(any_push(source, &habits, random));
         } else {
             commands.push(vec![POP]);
         }
@@ -102,18 +107,35 @@ pub fn calls(source: &[u8], count: usize, random: &mut Random) -> Vec<Command> {
     commands
 }
 
+/// Pushes enough to fill a tree, though some are refused.
+fn fill(source: &[u8], packets: usize, random: &mut Random) -> Vec<Command> {
+    let habits = Habits::any(random);
+    (0..2 * packets + 10)
+        .flat_map(|_| any_push(source, &habits, random))
+        .collect()
+}
+
+/// A large pair opened with that limit, filled, and calls after that.
+pub fn at_limit(packets: usize, random: &mut Random) -> Vec<u8> {
+    let drawn = pairs::embedded(random, SOURCE_NODES, TARGET_NODES);
+    let mut script = opening(&drawn.source, &drawn.target, packets);
+    script.extend(fill(&drawn.source, packets, random));
+    script.extend(calls(&drawn.source, packets + 20, random));
+    script.concat()
+}
+
 /// The kinds of random scripts, and how many of a hundred are of each.
 pub const KINDS: [(&str, usize); 10] = [
-    ("whole", 22),
+    ("whole", 20),
     ("any pair", 8),
-    ("damaged drawing", 14),
-    ("limit out of range", 5),
-    ("out of turn", 15),
+    ("damaged drawing", 20),
+    ("limit out of range", 7),
+    ("out of turn", 14),
     ("out of turn, then cut", 5),
     ("unknown command", 6),
-    ("cut", 13),
-    ("one byte damaged", 8),
-    ("noise", 4),
+    ("cut", 11),
+    ("one byte damaged", 6),
+    ("noise", 3),
 ];
 
 /// A random script, most of them far shorter than the longest.
@@ -149,7 +171,7 @@ fn of_kind(kind: &str, random: &mut Random) -> Vec<u8> {
         "limit out of range" => {
             // With a map and without.
             let drawn = pairs::any(random, 8, 12);
-            let packets = random.pick(&[0, 257, 258, 511, 512, 768, 65_535]);
+            let packets = random.pick(&[0, 0, 257, 258, 512, 768, 65_535]);
             shuffled_opening(&drawn.source, &drawn.target, packets, random)
         }
         _ => {
@@ -193,13 +215,10 @@ fn whole(drawn: &Drawn, random: &mut Random) -> Vec<Command> {
     let any = random.within(1..=MOST_PACKETS);
     let packets = random.pick(&[1, 2, 3, 10, 255, MOST_PACKETS, any]);
     let mut commands = shuffled_opening(&drawn.source, &drawn.target, packets, random);
+    if random.one_in(12) {
+        commands.extend(fill(&drawn.source, packets, random));
+    }
     let count = random.pick(&[0, 4, 12, 40, 100]);
-    // Some scripts fill the tree and go on.
-    let count = if random.one_in(12) {
-        packets + count
-    } else {
-        count
-    };
     commands.extend(calls(&drawn.source, count, random));
     commands
 }
@@ -268,52 +287,43 @@ fn noise(random: &mut Random) -> Vec<u8> {
         .collect()
 }
 
-/// A script past the longest, and whether something is cut there: a command
-/// begins some bytes before that place, or right at it.
-pub fn over_long(random: &mut Random) -> Vec<u8> {
+/// The kinds of scripts that go on past the longest.
+pub const LONG_KINDS: [&str; 3] = [
+    "over-long, cut within a command",
+    "over-long, a command ends there",
+    "over-long, a command begins there",
+];
+
+/// A script that goes on past the longest, with a command at that place.
+pub fn over_long(kind: &str, random: &mut Random) -> Vec<u8> {
     let drawn = small_or_large(random);
     let packets = random.pick(&[1, 10, MOST_PACKETS]);
     let mut script = shuffled_opening(&drawn.source, &drawn.target, packets, random).concat();
     // Steps take much room and little work.
-    let fill = [step(1, 1).repeat(8), push(1, 1)].concat();
-    while script.len() + fill.len() + 20 < SCRIPT_BYTES {
+    let idle = [step(1, 1).repeat(8), push(1, 1)].concat();
+    while script.len() + 300 < SCRIPT_BYTES {
         if random.one_in(20) {
             script.extend(calls(&drawn.source, 3, random).concat());
         } else {
-            script.extend(&fill);
+            script.extend(&idle);
         }
     }
-    script.truncate(SCRIPT_BYTES);
-    let whole = whole_commands(&script);
-    script.truncate(whole);
-    let begins = SCRIPT_BYTES - random.within(0..=10);
-    while script.len() < begins {
+    let long = [step(1, 1), push(1, 1), push(2, 1), limit(1), source_node(0)];
+    let short = [vec![POP], vec![OPEN], vec![0x08], step(1, 1), push(1, 1)];
+    let last = match kind {
+        "over-long, cut within a command" => &long[random.below(long.len())],
+        _ => &short[random.below(short.len())],
+    };
+    let before = match kind {
+        "over-long, cut within a command" => random.within(1..=last.len() - 1),
+        "over-long, a command ends there" => last.len(),
+        _ => 0,
+    };
+    while script.len() + before < SCRIPT_BYTES {
         script.push(POP);
     }
-    let last = random.pick(&[0x00, 0x01, 0x02, 0x03, OPEN, 0x05, 0x06, POP, 0x08]);
-    script.push(last);
-    script.extend((0..random.within(0..=20)).map(|_| random.within(0..=8) as u8));
-    while script.len() <= SCRIPT_BYTES {
-        script.push(POP);
-    }
+    script.extend(last);
+    // More that would be printed if it were read.
+    script.extend((0..random.within(1..=20)).map(|_| random.within(0..=8) as u8));
     script
-}
-
-/// How many bytes of a script of known commands make whole ones.
-fn whole_commands(script: &[u8]) -> usize {
-    let mut at = 0;
-    loop {
-        let next = match script.get(at) {
-            Some(0x01 | 0x02) => at + 2,
-            Some(0x03) => at + 3,
-            Some(0x05) => at + 6,
-            Some(0x06) => at + 9,
-            Some(_) => at + 1,
-            None => return at,
-        };
-        if next > script.len() {
-            return at;
-        }
-        at = next;
-    }
 }

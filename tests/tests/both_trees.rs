@@ -27,18 +27,22 @@ fn main() {
     let mut answers = BTreeMap::new();
     let (mut lists, mut calls) = (0, 0);
     for limit in 1..=MOST_PACKETS {
-        for _ in 0..LISTS_A_LIMIT {
+        let mut full = false;
+        for list in 0..LISTS_A_LIMIT {
             let drawn = pairs::embedded(&mut random, SOURCE_NODES, TARGET_NODES);
             let mut trees = Trees::open(&drawn, limit);
-            let count = 2 * limit + 20;
-            for answer in trees.calls(count, &mut random) {
+            // Every other list fills the trees first.
+            let pushes = if list % 2 == 0 { 2 * limit + 10 } else { 0 };
+            for answer in trees.calls(pushes, limit + 20, &mut random) {
                 *answers.entry(answer).or_insert(0) += 1;
+                full |= answer == 15;
+                calls += 1;
             }
             lists += 1;
-            calls += count;
         }
+        assert!(full, "limit {limit} was not met");
     }
-    println!("{lists} lists, {calls} calls; how many met each answer:");
+    println!("{lists} lists, {calls} calls, each limit met; how many met each answer:");
     for (answer, times) in &answers {
         println!("  {times:7}  {answer}");
     }
@@ -84,13 +88,13 @@ impl Trees {
         trees
     }
 
-    /// A list of calls; the number of each answer.
-    fn calls(&mut self, count: usize, random: &mut Random) -> Vec<u8> {
+    /// A list of calls, those pushes first; the number of each answer.
+    fn calls(&mut self, pushes: usize, others: usize, random: &mut Random) -> Vec<u8> {
         let habits = Habits::any(random);
-        let mut pushes_in_ten = 8;
-        (0..count)
-            .map(|_| {
-                if random.one_in(20) {
+        let mut pushes_in_ten = 10;
+        (0..pushes + others)
+            .map(|call| {
+                if call >= pushes && random.one_in(20) {
                     pushes_in_ten = random.pick(&[1, 5, 8, 10]);
                 }
                 let answer = match random.below(10) < pushes_in_ten {

@@ -1,21 +1,19 @@
 //! Runs the program gatewalk and the second implementation on the same
 //! scripts and compares all that they print. The first difference ends the run.
 
-use linduvar_tests::pairs;
+use linduvar_tests::gatewalk::{walk, walk_slowly};
 use linduvar_tests::random::{self, Random};
 use linduvar_tests::reached::Reached;
 use linduvar_tests::script::{run, SCRIPT_BYTES};
-use linduvar_tests::scripts::{self, calls, opening, POP};
-use linduvar_tests::topology::{SOURCE_NODES, TARGET_NODES};
+use linduvar_tests::scripts::{self, opening, LONG_KINDS, POP};
 use linduvar_tests::{laborious, paper, samples};
-use std::io::{ErrorKind, Read, Write};
-use std::path::{Path, PathBuf};
-use std::process::{Child, Command, Stdio};
+use std::path::Path;
+use std::process::Command;
+use std::thread;
 use std::time::{Duration, Instant};
-use std::{env, thread};
 
 const RANDOM_SCRIPTS: u64 = 6_000;
-const LONG_SCRIPTS: u64 = 40;
+const LONG_SCRIPTS: u64 = 60;
 
 /// A script that takes longer fails; what is aimed at is `AIM`.
 const SECONDS: f64 = 20.0;
@@ -35,51 +33,6 @@ fn main() {
     every_limit(seed);
     random_scripts(seed);
     println!("no difference");
-}
-
-/// The program, or another in its place.
-fn program() -> PathBuf {
-    let program = match env::var_os("LINDUVAR_GATEWALK") {
-        Some(path) => PathBuf::from(path),
-        None => Path::new(env!("CARGO_MANIFEST_DIR")).join("../target/bin/gatewalk"),
-    };
-    assert!(
-        program.is_file(),
-        "{} is missing; run `rt check gatewalk` first",
-        program.display()
-    );
-    program
-}
-
-fn start() -> Child {
-    Command::new(program())
-        .stdin(Stdio::piped())
-        .stdout(Stdio::piped())
-        .spawn()
-        .expect("gatewalk starts")
-}
-
-/// What gatewalk prints for a script that `write` sends down its pipe.
-fn gatewalk(write: impl FnOnce(&mut dyn Write) -> std::io::Result<()> + Send) -> Vec<u8> {
-    let mut child = start();
-    let mut input = child.stdin.take().expect("a pipe");
-    let mut output = child.stdout.take().expect("a pipe");
-    let mut printed = Vec::new();
-    thread::scope(|scope| {
-        scope.spawn(move || match write(&mut input) {
-            // It may stop reading where the longest script ends.
-            Err(error) if error.kind() != ErrorKind::BrokenPipe => panic!("{error}"),
-            _ => {}
-        });
-        output.read_to_end(&mut printed).expect("what it prints");
-    });
-    let status = child.wait().expect("it was started");
-    assert!(status.success(), "gatewalk: {status}");
-    printed
-}
-
-fn walk(script: &[u8]) -> Vec<u8> {
-    gatewalk(|input| input.write_all(script))
 }
 
 fn text(script: &[u8]) -> String {
@@ -132,7 +85,7 @@ fn shell(folder: &Path, sample: &Path) -> Vec<u8> {
 
 /// A pipe that gives one byte at a time.
 fn byte_by_byte() {
-    let printed = gatewalk(|input| {
+    let printed = walk_slowly(|input| {
         for byte in paper::EXAMPLE {
             input.write_all(&[byte])?;
             input.flush()?;
@@ -180,10 +133,7 @@ fn laborious_scripts() {
 fn every_limit(seed: u64) {
     let mut random = Random::new(seed);
     for limit in 1..=256 {
-        let drawn = pairs::embedded(&mut random, SOURCE_NODES, TARGET_NODES);
-        let mut script = opening(&drawn.source, &drawn.target, limit);
-        script.extend(calls(&drawn.source, 2 * limit + 20, &mut random));
-        compare("a list of calls", &script.concat());
+        compare("a list of calls", &scripts::at_limit(limit, &mut random));
     }
     println!("lists of calls at each limit: no difference");
 }
@@ -217,9 +167,10 @@ fn some_scripts(seed: u64, first: u64, stride: u64) -> Reached {
     }
     for number in (first..LONG_SCRIPTS).step_by(stride as usize) {
         let mut random = Random::new(seed.wrapping_add(number));
-        let script = scripts::over_long(&mut random);
-        compare("over-long", &script);
-        reached.script("over-long", &script);
+        let kind = LONG_KINDS[number as usize % LONG_KINDS.len()];
+        let script = scripts::over_long(kind, &mut random);
+        compare(kind, &script);
+        reached.script(kind, &script);
     }
     reached
 }

@@ -2,12 +2,10 @@
 //! limit, and random ones. In each the two trees must answer alike, and every
 //! refusal that a script can meet must be met.
 
-use linduvar_tests::pairs;
 use linduvar_tests::random::{self, Random};
 use linduvar_tests::reached::Reached;
 use linduvar_tests::script::{run, SCRIPT_BYTES};
-use linduvar_tests::scripts::{self, calls, opening};
-use linduvar_tests::topology::{SOURCE_NODES, TARGET_NODES};
+use linduvar_tests::scripts::{self, LONG_KINDS};
 use linduvar_tests::{laborious, paper, samples};
 use std::time::Instant;
 
@@ -63,10 +61,8 @@ fn laborious_scripts() {
 fn every_limit(seed: u64) {
     let mut random = Random::new(seed);
     for limit in 1..=256 {
-        let drawn = pairs::embedded(&mut random, SOURCE_NODES, TARGET_NODES);
-        let mut script = opening(&drawn.source, &drawn.target, limit);
-        script.extend(calls(&drawn.source, 2 * limit + 20, &mut random));
-        assert!(text(&script.concat()).starts_with("map 0"));
+        let printed = text(&scripts::at_limit(limit, &mut random));
+        assert!(printed.contains("no 15 "), "limit {limit} was not met");
     }
     println!("lists of calls at each limit: both trees alike");
 }
@@ -80,7 +76,8 @@ fn random_scripts(seed: u64) {
     }
     for number in 0..LONG_SCRIPTS {
         let mut random = Random::new(seed.wrapping_add(number));
-        reached.script("over-long", &scripts::over_long(&mut random));
+        let kind = LONG_KINDS[number as usize % LONG_KINDS.len()];
+        reached.script(kind, &scripts::over_long(kind, &mut random));
     }
     reached.print();
     reached.require_everything();

@@ -4,6 +4,10 @@ mod embedding;
 #[cfg(feature = "queue_tree")]
 mod queue_tree;
 mod topology;
+#[cfg(feature = "translator")]
+mod translator;
+#[cfg(feature = "gatewalk")]
+mod whole_scripts;
 
 use linduvar_tests::random::{self, Random};
 use std::time::Instant;
@@ -17,6 +21,10 @@ fn main() {
     embedding::run(&mut random);
     #[cfg(feature = "queue_tree")]
     queue_tree::run(&mut random);
+    #[cfg(feature = "translator")]
+    translator::run(&mut random);
+    #[cfg(feature = "gatewalk")]
+    whole_scripts::run();
 }
 
 /// Nanoseconds that the fastest of some rounds took.
