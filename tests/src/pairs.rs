@@ -67,8 +67,8 @@ pub fn embedded(random: &mut Random, source_nodes: usize, target_nodes: usize) -
 /// A tree around `source`, of `nodes` nodes where there is room for them, and
 /// the map from one into the other.
 ///
-/// New nodes come between a node and its child, or as new children of inner
-/// nodes; in the end the children of every node are shuffled.
+/// New nodes come between a node and one or more of its children, or as new
+/// children of inner nodes; in the end the children of every node are shuffled.
 pub fn grown(random: &mut Random, source: &[u8], nodes: usize) -> (Vec<u8>, Vec<u8>) {
     let source = Topology::read(source, TARGET_NODES).expect("a valid tree");
     let mut tree = Growing {
@@ -95,9 +95,14 @@ pub fn grown(random: &mut Random, source: &[u8], nodes: usize) -> (Vec<u8>, Vec<
             }
         } else if !children.is_empty() {
             let at = random.below(children.len());
-            if depth + 2 + tree.height(children[at]) <= MOST_STEPS_DOWN {
-                tree.children_of[parent][at] = size;
-                tree.children_of.push(vec![children[at]]);
+            let together = random.one_in(2);
+            let (below, beside): (Vec<usize>, Vec<usize>) = children
+                .iter()
+                .partition(|&&child| child == children[at] || together && random.one_in(2));
+            let height = below.iter().map(|&child| tree.height(child)).max();
+            if depth + 2 + height.unwrap_or(0) <= MOST_STEPS_DOWN {
+                tree.children_of[parent] = [beside, vec![size]].concat();
+                tree.children_of.push(below);
             }
         }
     }

@@ -1,4 +1,5 @@
-//! The paper's own examples as scripts, each with its whole output.
+//! The paper's own examples as scripts, and some worked by hand from its
+//! words, each with its whole output.
 
 use crate::scripts::{limit, opening, push, source_node, step, target_node, OPEN, POP};
 
@@ -10,7 +11,7 @@ pub fn scripts() -> Vec<(Vec<u8>, String)> {
     ];
     scripts.extend(pairs());
     scripts.extend(topologies());
-    scripts.extend(order_of_tests());
+    scripts.extend(worked_by_hand());
     scripts
 }
 
@@ -84,8 +85,9 @@ fn topologies() -> Vec<(Vec<u8>, String)> {
     scripts
 }
 
-/// What is tested first where two things are wrong.
-fn order_of_tests() -> Vec<(Vec<u8>, String)> {
+/// What is tested first where two things are wrong, and what a refusal or a
+/// pop leaves.
+fn worked_by_hand() -> Vec<(Vec<u8>, String)> {
     let cut = |command: &[u8]| command[..command.len() - 1].to_vec();
     let opened = opening(&[0], &[0], 1).concat();
     let after = |command: &[u8]| [&opened[..], command].concat();
@@ -129,6 +131,16 @@ fn order_of_tests() -> Vec<(Vec<u8>, String)> {
             .concat()
             .concat(),
             "map 0 1\nin 1\nno 14 27\n",
+        ),
+        // A pop leaves the steps that were gathered.
+        script(
+            [
+                opening(&[1, 0], &[1, 0], 1),
+                vec![step(1, 0), vec![POP], push(7, 0), vec![POP]],
+            ]
+            .concat()
+            .concat(),
+            "map 0 1\nno 16 18\nin 1\nout 00000007\n",
         ),
         // Nothing is read behind a refusal that stops.
         script(vec![OPEN, 0x01, 0x00], "no 22 0\n"),

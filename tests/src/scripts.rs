@@ -79,14 +79,19 @@ fn shuffled_opening(
     commands
 }
 
-/// A push for a source, along a path that is mostly right.
+/// A push for a source, along a path that is mostly right. Now and then a pop
+/// comes while the steps are gathered, and leaves them.
 fn any_push(source: &[u8], habits: &Habits, random: &mut Random) -> Vec<Command> {
     let (steps, _, _) = any_path(source, habits, random);
     let mut steps = read_steps(&steps);
     // A ninth step would end the script.
     steps.truncate(MOST_STEPS_DOWN);
     let (packet, leaf_rank) = (habits.packet(random), habits.rank(random));
-    push_along(&steps, packet, leaf_rank)
+    let mut commands = push_along(&steps, packet, leaf_rank);
+    if random.one_in(12) {
+        commands.insert(random.below(commands.len()), vec![POP]);
+    }
+    commands
 }
 
 /// Pushes and pops for a source, as many calls as are asked for.
@@ -285,6 +290,20 @@ fn noise(random: &mut Random) -> Vec<u8> {
     (0..random.within(0..=60))
         .map(|_| random.within(0..=highest) as u8)
         .collect()
+}
+
+/// Drawings of very many nodes, by which a count that is too small would show.
+pub fn crowded() -> Vec<Vec<u8>> {
+    let mut scripts = Vec::new();
+    for nodes in [
+        32, 33, 64, 65, 66, 255, 256, 257, 288, 289, 320, 321, 32_000,
+    ] {
+        for many in [vec![0; nodes], [vec![8; 7], vec![0; nodes - 7]].concat()] {
+            scripts.push(opening(&many, &[0], 1).concat());
+            scripts.push(opening(&[0], &many, 1).concat());
+        }
+    }
+    scripts
 }
 
 /// The kinds of scripts that go on past the longest.

@@ -29,6 +29,7 @@ fn main() {
     sample_scripts();
     byte_by_byte();
     ten_megabytes();
+    crowded_drawings();
     laborious_scripts();
     every_limit(seed);
     random_scripts(seed);
@@ -110,6 +111,13 @@ fn ten_megabytes() {
         compare("ten megabytes", &script);
     }
     println!("ten megabytes: the first {SCRIPT_BYTES} bytes count");
+}
+
+fn crowded_drawings() {
+    for script in scripts::crowded() {
+        compare("a crowded drawing", &script);
+    }
+    println!("crowded drawings: no difference");
 }
 
 fn laborious_scripts() {
