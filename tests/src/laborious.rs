@@ -1,8 +1,8 @@
 //! The longest scripts with the most work in them, to be timed.
 
+use crate::commands::{opening, push_along, Command, POP};
 use crate::queue_tree::{Step, MOST_PACKETS};
 use crate::script::SCRIPT_BYTES;
-use crate::scripts::{opening, push_along, Command, POP};
 
 /// The scripts with their names.
 pub fn scripts() -> Vec<(&'static str, Vec<u8>)> {
@@ -85,7 +85,7 @@ fn push_pop(path: &[u8]) -> impl Fn(u32) -> Vec<u8> + '_ {
     |turn| [push(path, turn, 0), vec![POP]].concat()
 }
 
-/// 256 pushes, then as many pops as make up for the bytes, and again.
+/// 256 pushes, then three pops for each, and again.
 fn fill_and_empty(turn: u32) -> Vec<u8> {
     match turn % 1024 < 256 {
         true => push(&[1], turn, turn % 3),
@@ -117,7 +117,7 @@ fn fan(children: u8) -> Vec<u8> {
     [vec![children], vec![0; usize::from(children)]].concat()
 }
 
-/// Eight children a node, 32 nodes into 63, and no map.
+/// Eight children a node, 32 nodes into 64, and no map.
 fn hard_search() -> Vec<u8> {
     let source = [vec![8], fan(8), fan(8), fan(7), vec![0; 5]].concat();
     let target = [vec![8], fan(7).repeat(6), fan(8), vec![1; 5], vec![0]].concat();

@@ -4,6 +4,7 @@
 //! yet: see the feature `queue_tree` in Cargo.toml.
 
 pub mod both_trees;
+pub mod commands;
 pub mod embedding;
 pub mod gatewalk;
 pub mod generate;

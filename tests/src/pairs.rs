@@ -153,6 +153,19 @@ impl Growing {
     }
 }
 
+/// Whether some target node that is no image has images below two of its
+/// children: there the ranks of carried steps decide.
+pub fn shares_a_node(target: &[u8], map: &[u8]) -> bool {
+    let target = Topology::read(target, TARGET_NODES).expect("a valid tree");
+    let has_image = |&&node: &&usize| {
+        let mut images = map.iter();
+        images.any(|&image| target.is_above(node, usize::from(image)))
+    };
+    (0..target.node_count())
+        .filter(|&node| !map.contains(&(node as u8)))
+        .any(|node| target.children(node).iter().filter(has_image).count() > 1)
+}
+
 /// A list that may be a map, made from one that is.
 pub fn damaged_map(right: &[u8], pair: &Pair, random: &mut Random) -> Vec<u8> {
     let mut map = right.to_vec();

@@ -1,7 +1,7 @@
 //! The paper's own examples as scripts, and some worked by hand from its
 //! words, each with its whole output.
 
-use crate::scripts::{limit, opening, push, source_node, step, target_node, OPEN, POP};
+use crate::commands::{limit, opening, push, source_node, step, target_node, OPEN, POP};
 
 pub fn scripts() -> Vec<(Vec<u8>, String)> {
     let mut scripts = vec![

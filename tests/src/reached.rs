@@ -1,7 +1,8 @@
 //! Counts what scripts have reached: every command, every refusal with its
 //! cases, and scripts of every kind.
 
-use crate::script::{outcomes, Done, Refused, REFUSALS, SCRIPT_BYTES};
+use crate::pairs::shares_a_node;
+use crate::script::{outcomes, Done, Outcome, Refused, REFUSALS, SCRIPT_BYTES};
 use crate::scripts::{KINDS, LONG_KINDS};
 use std::collections::BTreeMap;
 
@@ -16,6 +17,8 @@ pub struct Reached {
     commands: BTreeMap<u8, usize>,
     refusals: BTreeMap<Refused, usize>,
     most_held: usize,
+    /// Maps by which two branches of the source share a chip node.
+    shared: usize,
     /// Scripts past the longest that end with a whole command.
     ended_by_length: usize,
 }
@@ -34,16 +37,17 @@ impl Reached {
                 Err(refused) => *self.refusals.entry(*refused).or_default() += 1,
                 Ok(done) => {
                     *self.commands.entry(outcome.command).or_default() += 1;
-                    if let Done::Held(packets) = done {
-                        self.most_held = self.most_held.max(*packets);
+                    match done {
+                        Done::Held(packets) => self.most_held = self.most_held.max(*packets),
+                        Done::Map(map) if shares_a_node(&target(script, &outcomes), map) => {
+                            self.shared += 1;
+                        }
+                        _ => {}
                     }
                 }
             }
         }
-        let stopped = matches!(
-            outcomes.last().map(|last| &last.answer),
-            Some(Err((number, _))) if !(13..=16).contains(number)
-        );
+        let stopped = outcomes.last().is_some_and(Outcome::stops);
         if script.len() > SCRIPT_BYTES && !stopped {
             self.ended_by_length += 1;
         }
@@ -61,15 +65,13 @@ impl Reached {
             *self.refusals.entry(refused).or_default() += times;
         }
         self.most_held = self.most_held.max(other.most_held);
+        self.shared += other.shared;
         self.ended_by_length += other.ended_by_length;
     }
 
-    pub fn scripts(&self) -> usize {
-        self.kinds.values().sum()
-    }
-
     pub fn print(&self) {
-        println!("{} scripts; how many of each kind:", self.scripts());
+        let scripts: usize = self.kinds.values().sum();
+        println!("{scripts} scripts; how many of each kind:");
         for (kind, times) in &self.kinds {
             println!("  {times:7}  {kind}");
         }
@@ -82,8 +84,8 @@ impl Reached {
             println!("  {times:7}  {number:2} {case}");
         }
         println!(
-            "at most {} packets held; {} scripts ended by their length alone",
-            self.most_held, self.ended_by_length
+            "at most {} packets held; {} maps share a chip node; {} scripts ended by their length alone",
+            self.most_held, self.shared, self.ended_by_length
         );
     }
 
@@ -103,6 +105,16 @@ impl Reached {
             assert!(times >= enough, "{refused:?} was met only {times} times");
         }
         assert!(self.ended_by_length >= AT_THE_END);
+        assert!(self.shared >= OFTEN_ENOUGH, "{} maps share", self.shared);
         assert_eq!(self.most_held, 256, "no tree was full at the highest limit");
     }
+}
+
+/// The target that a script drew.
+fn target(script: &[u8], outcomes: &[Outcome]) -> Vec<u8> {
+    let accepted = outcomes.iter().filter(|outcome| outcome.answer.is_ok());
+    accepted
+        .filter(|outcome| outcome.command == 0x02)
+        .map(|outcome| script[outcome.offset + 1])
+        .collect()
 }

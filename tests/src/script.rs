@@ -113,7 +113,8 @@ impl Outcome {
         }
     }
 
-    fn stops(&self) -> bool {
+    /// Whether the script ends here: after 13 to 16 it goes on.
+    pub fn stops(&self) -> bool {
         matches!(self.answer, Err((number, _)) if !(13..=16).contains(&number))
     }
 }

@@ -3,61 +3,18 @@
 //! A script is made as a list of commands, each with its operands, so that
 //! commands can be put in or cut at a chosen place.
 
+use crate::commands::{
+    limit, opening, push, push_along, source_node, step, target_node, Command, OPEN, POP,
+};
 use crate::generate;
 use crate::pairs::{self, Drawn};
-use crate::queue_tree::{read_steps, Step, MOST_PACKETS};
+use crate::queue_tree::{read_steps, MOST_PACKETS};
 use crate::random::Random;
 use crate::script::SCRIPT_BYTES;
 use crate::states::{any_path, Habits};
 use crate::topology::{MOST_STEPS_DOWN, SOURCE_NODES, TARGET_NODES};
 
-pub type Command = Vec<u8>;
-
-pub fn source_node(children: u8) -> Command {
-    vec![0x01, children]
-}
-
-pub fn target_node(children: u8) -> Command {
-    vec![0x02, children]
-}
-
-pub fn limit(packets: usize) -> Command {
-    let packets = packets as u16;
-    [vec![0x03], packets.to_be_bytes().to_vec()].concat()
-}
-
-pub const OPEN: u8 = 0x04;
-pub const POP: u8 = 0x07;
-
-pub fn step(child: u8, rank: u32) -> Command {
-    [vec![0x05, child], rank.to_be_bytes().to_vec()].concat()
-}
-
-pub fn push(packet: u32, leaf_rank: u32) -> Command {
-    let numbers = [packet.to_be_bytes(), leaf_rank.to_be_bytes()];
-    [vec![0x06], numbers.concat()].concat()
-}
-
-/// The steps of a path and the push along them.
-pub fn push_along(steps: &[Step], packet: u32, leaf_rank: u32) -> Vec<Command> {
-    let mut commands: Vec<Command> = steps
-        .iter()
-        .map(|taken| step(taken.child, taken.rank))
-        .collect();
-    commands.push(push(packet, leaf_rank));
-    commands
-}
-
-/// Both drawings, the limit and 04, in the plainest order.
-pub fn opening(source: &[u8], target: &[u8], packets: usize) -> Vec<Command> {
-    let mut commands: Vec<Command> = source.iter().copied().map(source_node).collect();
-    commands.extend(target.iter().copied().map(target_node));
-    commands.push(limit(packets));
-    commands.push(vec![OPEN]);
-    commands
-}
-
-/// The same in any order that comes to the same.
+/// Both drawings, the limit and 04, in any order that comes to the same.
 fn shuffled_opening(
     source: &[u8],
     target: &[u8],
@@ -157,32 +114,11 @@ pub fn any(random: &mut Random) -> (&'static str, Vec<u8>) {
 
 fn of_kind(kind: &str, random: &mut Random) -> Vec<u8> {
     let mut commands = match kind {
-        "any pair" => {
-            let drawn = pairs::any(random, SOURCE_NODES, TARGET_NODES);
-            whole(&drawn, random)
-        }
-        "damaged drawing" => {
-            let mut drawn = small_or_large(random);
-            let broken = if random.one_in(2) {
-                &mut drawn.source
-            } else {
-                &mut drawn.target
-            };
-            *broken = generate::any(random);
-            let mut commands = shuffled_opening(&drawn.source, &drawn.target, 1, random);
-            commands.push(vec![POP]);
-            commands
-        }
-        "limit out of range" => {
-            // With a map and without.
-            let drawn = pairs::any(random, 8, 12);
-            let packets = random.pick(&[0, 0, 257, 258, 512, 768, 65_535]);
-            shuffled_opening(&drawn.source, &drawn.target, packets, random)
-        }
-        _ => {
-            let drawn = small_or_large(random);
-            whole(&drawn, random)
-        }
+        "any pair" => whole(&pairs::any(random, SOURCE_NODES, TARGET_NODES), random),
+        "damaged drawing" => damaged_drawing(random),
+        "limit out of range" => limit_out_of_range(random),
+        "noise" => vec![noise(random)],
+        _ => whole(&small_or_large(random), random),
     };
     match kind {
         "out of turn" => _ = put_out_of_turn(&mut commands, random),
@@ -191,22 +127,12 @@ fn of_kind(kind: &str, random: &mut Random) -> Vec<u8> {
             commands.truncate(at + 1);
             cut_operands(&mut commands, random);
         }
-        "unknown command" => {
-            let any = random.within(8..=255) as u8;
-            let byte = random.pick(&[0, 8, 9, 10, 11, 255, any]);
-            commands.insert(random.within(0..=commands.len()), vec![byte]);
-        }
+        "unknown command" => put_unknown(&mut commands, random),
         "cut" => cut(&mut commands, random),
-        "noise" => commands = vec![noise(random)],
+        "one byte damaged" => damage_a_byte(&mut commands, random),
         _ => {}
     }
-    let mut script = commands.concat();
-    if kind == "one byte damaged" {
-        let at = random.below(script.len());
-        let any = random.below(256) as u8;
-        script[at] = random.pick(&[any, any, 0, 1, 4, 7, script[at] ^ 1]);
-    }
-    script
+    commands.concat()
 }
 
 /// A pair with a map, the small ones more frequent.
@@ -226,6 +152,40 @@ fn whole(drawn: &Drawn, random: &mut Random) -> Vec<Command> {
     let count = random.pick(&[0, 4, 12, 40, 100]);
     commands.extend(calls(&drawn.source, count, random));
     commands
+}
+
+/// An opening where one of the drawings may be none.
+fn damaged_drawing(random: &mut Random) -> Vec<Command> {
+    let mut drawn = small_or_large(random);
+    let damaged = generate::any(random);
+    if random.one_in(2) {
+        drawn.source = damaged;
+    } else {
+        drawn.target = damaged;
+    }
+    let mut commands = shuffled_opening(&drawn.source, &drawn.target, 1, random);
+    commands.push(vec![POP]);
+    commands
+}
+
+/// An opening over a pair that has a map or not.
+fn limit_out_of_range(random: &mut Random) -> Vec<Command> {
+    let drawn = pairs::any(random, 8, 12);
+    let packets = random.pick(&[0, 0, 257, 258, 512, 768, 65_535]);
+    shuffled_opening(&drawn.source, &drawn.target, packets, random)
+}
+
+fn put_unknown(commands: &mut Vec<Command>, random: &mut Random) {
+    let any = random.within(8..=255) as u8;
+    let byte = random.pick(&[0, 8, 9, 10, 11, 255, any]);
+    commands.insert(random.within(0..=commands.len()), vec![byte]);
+}
+
+fn damage_a_byte(commands: &mut [Command], random: &mut Random) {
+    let command = &mut commands[random.below(commands.len())];
+    let at = random.below(command.len());
+    let any = random.below(256) as u8;
+    command[at] = random.pick(&[any, any, 0, 1, 4, 7, command[at] ^ 1]);
 }
 
 /// Puts one command out of turn into a script that has none. Where it is.

@@ -25,11 +25,13 @@ fn main() {
     println!("seed {seed} (LINDUVAR_SEED={seed} repeats this run)");
     let mut random = Random::new(seed);
     let mut answers = BTreeMap::new();
-    let (mut lists, mut calls) = (0, 0);
+    let (mut lists, mut calls, mut shared) = (0, 0, 0);
     for limit in 1..=MOST_PACKETS {
         let mut full = false;
         for list in 0..LISTS_A_LIMIT {
             let drawn = pairs::embedded(&mut random, SOURCE_NODES, TARGET_NODES);
+            let map = drawn.map.as_deref().expect("a pair made from a map");
+            shared += usize::from(pairs::shares_a_node(&drawn.target, map));
             let mut trees = Trees::open(&drawn, limit);
             // Every other list fills the trees first.
             let pushes = if list % 2 == 0 { 2 * limit + 10 } else { 0 };
@@ -42,7 +44,9 @@ fn main() {
         }
         assert!(full, "limit {limit} was not met");
     }
-    println!("{lists} lists, {calls} calls, each limit met; how many met each answer:");
+    println!("{lists} lists, in {shared} of them branches share a chip node; {calls} calls,");
+    println!("each limit met; how many met each answer:");
+    assert!(shared >= OFTEN_ENOUGH);
     for (answer, times) in &answers {
         println!("  {times:7}  {answer}");
     }

@@ -1,11 +1,12 @@
 //! Runs the program gatewalk and the second implementation on the same
 //! scripts and compares all that they print. The first difference ends the run.
 
+use linduvar_tests::commands::{opening, push, step, POP};
 use linduvar_tests::gatewalk::{walk, walk_slowly};
 use linduvar_tests::random::{self, Random};
 use linduvar_tests::reached::Reached;
 use linduvar_tests::script::{run, SCRIPT_BYTES};
-use linduvar_tests::scripts::{self, opening, LONG_KINDS, POP};
+use linduvar_tests::scripts::{self, LONG_KINDS};
 use linduvar_tests::{laborious, paper, samples};
 use std::path::Path;
 use std::process::Command;
@@ -102,7 +103,7 @@ fn byte_by_byte() {
 fn ten_megabytes() {
     const LENGTH: usize = 10_000_000;
     let opened = opening(&[1, 0], &[1, 1, 0], 3).concat();
-    let turns = [scripts::step(1, 1), scripts::push(1, 1), vec![POP]].concat();
+    let turns = [step(1, 1), push(1, 1), vec![POP]].concat();
     for repeated in [turns, vec![POP], vec![0]] {
         let mut script = opened.clone();
         while script.len() < LENGTH {
