@@ -8,6 +8,7 @@ use linduvar_tests::reached::Reached;
 use linduvar_tests::script::{run, SCRIPT_BYTES};
 use linduvar_tests::scripts::{self, LONG_KINDS};
 use linduvar_tests::{laborious, paper, samples};
+use std::panic::resume_unwind;
 use std::path::Path;
 use std::process::Command;
 use std::thread;
@@ -157,7 +158,7 @@ fn random_scripts(seed: u64) {
             .map(|first| scope.spawn(move || some_scripts(seed, first, threads)))
             .collect();
         for worker in workers {
-            reached.add(worker.join().expect("no difference"));
+            reached.add(worker.join().unwrap_or_else(|panic| resume_unwind(panic)));
         }
     });
     reached.print();
