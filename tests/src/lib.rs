@@ -1,7 +1,7 @@
 //! A second implementation of the topology reader, of the search with its map
-//! check and of the queue tree, written from the paper, and what it takes to
-//! compare them with those proved in Rattle. The queue tree is not compared
-//! yet: see the feature `queue_tree` in Cargo.toml.
+//! check, of the queue tree, of the carrying of a path and of gatewalk, written
+//! from the paper, and what it takes to compare them with those proved in
+//! Rattle. The last two wait for the Rattle side: see Cargo.toml.
 
 pub mod both_trees;
 pub mod commands;
@@ -11,11 +11,11 @@ pub mod generate;
 pub mod laborious;
 pub mod pairs;
 pub mod paper;
+pub mod plain;
 pub mod queue_tree;
 pub mod random;
 pub mod rattle;
 pub mod rattle_embedding;
-#[cfg(feature = "queue_tree")]
 pub mod rattle_queue_tree;
 #[cfg(feature = "translator")]
 pub mod rattle_translator;

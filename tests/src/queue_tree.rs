@@ -1,13 +1,12 @@
 //! The second implementation of the queue tree: each node has its queue and
-//! its children. States in bytes are read into queues, tested, and only then
-//! made a tree.
+//! its children. A state, well formed or not, is its queues; it is tested, and
+//! only then made a tree.
 
 use crate::topology::{self, Topology, TARGET_NODES};
 
 pub const MOST_PACKETS: usize = 256;
 /// Each packet has at most 8 entries at inner nodes and one at a leaf.
 pub const MOST_ENTRIES: usize = 9 * MOST_PACKETS;
-pub const STEP_BYTES: usize = 5;
 
 #[derive(Clone, Copy, Debug, PartialEq, Eq)]
 pub enum Refusal {
@@ -52,26 +51,6 @@ pub struct Entry {
 pub struct Step {
     pub child: u8,
     pub rank: u32,
-}
-
-/// Steps as they cross the boundary; bytes that make no whole step are left.
-pub fn read_steps(bytes: &[u8]) -> Vec<Step> {
-    bytes
-        .chunks_exact(STEP_BYTES)
-        .map(|step| Step {
-            child: step[0],
-            rank: number(&step[1..]),
-        })
-        .collect()
-}
-
-pub fn write_steps(steps: &[Step]) -> Vec<u8> {
-    let mut bytes = Vec::new();
-    for step in steps {
-        bytes.push(step.child);
-        bytes.extend(step.rank.to_le_bytes());
-    }
-    bytes
 }
 
 #[derive(Clone)]
@@ -226,8 +205,8 @@ fn node(topology: &Topology, number: usize, queue: &mut impl FnMut(usize) -> Vec
     }
 }
 
-/// What the bytes of a state say, well formed or not: a queue for each node
-/// in order of their numbers.
+/// A state, well formed or not: a queue for each node in order of their
+/// numbers.
 #[derive(Clone, Debug, PartialEq, Eq)]
 pub struct State {
     pub topology: Vec<u8>,
@@ -236,73 +215,7 @@ pub struct State {
     pub queues: Vec<Vec<Entry>>,
 }
 
-// Where the fields of a state start. All numbers are little endian.
-pub const NODES_AT: usize = TARGET_NODES;
-pub const LIMIT_AT: usize = NODES_AT + 2;
-pub const USED_AT: usize = LIMIT_AT + 2;
-pub const REFUSED_AT: usize = USED_AT + 2;
-pub const OWNERS_AT: usize = REFUSED_AT + 4;
-pub const ENTRIES_AT: usize = OWNERS_AT + MOST_ENTRIES;
-pub const ENTRY_BYTES: usize = 9;
-pub const STATE_BYTES: usize = ENTRIES_AT + MOST_ENTRIES * ENTRY_BYTES;
-
 impl State {
-    /// None if the bytes speak of more nodes or entries than there can be, or
-    /// of an entry at a node that is not there.
-    pub fn read(bytes: &[u8]) -> Option<State> {
-        let nodes = number(&bytes[NODES_AT..LIMIT_AT]) as usize;
-        let used = number(&bytes[USED_AT..REFUSED_AT]) as usize;
-        if nodes > TARGET_NODES || used > MOST_ENTRIES {
-            return None;
-        }
-        let mut queues = vec![Vec::new(); nodes];
-        let owners = &bytes[OWNERS_AT..][..used];
-        let entries = bytes[ENTRIES_AT..].chunks_exact(ENTRY_BYTES);
-        for (&owner, entry) in owners.iter().zip(entries) {
-            let value = number(&entry[5..]);
-            let item = match entry[4] {
-                0 => Item::Child(value as u8),
-                _ => Item::Packet(value),
-            };
-            let rank = number(&entry[..4]);
-            queues
-                .get_mut(usize::from(owner))?
-                .push(Entry { rank, item });
-        }
-        Some(State {
-            topology: bytes[..nodes].to_vec(),
-            limit: number(&bytes[LIMIT_AT..USED_AT]) as usize,
-            refused: number(&bytes[REFUSED_AT..OWNERS_AT]),
-            queues,
-        })
-    }
-
-    /// The bytes, the queue of node 0 first and so on.
-    pub fn write(&self) -> Vec<u8> {
-        let used: usize = self.queues.iter().map(Vec::len).sum();
-        let mut bytes = self.topology.clone();
-        bytes.resize(NODES_AT, 0);
-        bytes.extend((self.queues.len() as u16).to_le_bytes());
-        bytes.extend((self.limit as u16).to_le_bytes());
-        bytes.extend((used as u16).to_le_bytes());
-        bytes.extend(self.refused.to_le_bytes());
-        for (node, queue) in self.queues.iter().enumerate() {
-            bytes.resize(bytes.len() + queue.len(), node as u8);
-        }
-        bytes.resize(ENTRIES_AT, 0);
-        for entry in self.queues.iter().flatten() {
-            bytes.extend(entry.rank.to_le_bytes());
-            let (tag, value) = match entry.item {
-                Item::Child(child) => (0, u32::from(child)),
-                Item::Packet(packet) => (1, packet),
-            };
-            bytes.push(tag);
-            bytes.extend(value.to_le_bytes());
-        }
-        bytes.resize(STATE_BYTES, 0);
-        bytes
-    }
-
     /// The topology if the state is well formed, clause by clause.
     fn well_formed(&self) -> Option<Topology> {
         let topology = Topology::read(&self.topology, TARGET_NODES).ok()?;
@@ -355,43 +268,13 @@ fn ranks_never_fall(queue: &[Entry]) -> bool {
     queue.windows(2).all(|two| two[0].rank <= two[1].rank)
 }
 
-/// A number of up to 4 bytes, little endian.
-fn number(bytes: &[u8]) -> u32 {
-    bytes
-        .iter()
-        .rev()
-        .fold(0, |number, &byte| number << 8 | u32::from(byte))
-}
-
-/// The loop that the benchmark times: pushes packets 0, 1 and so on, packet k
-/// along path k modulo `paths` with leaf rank k modulo 7; then, `rounds` times,
-/// pops one and pushes it again. The sum of the packets popped; 0 if anything
-/// is refused. The paths have equally many steps.
-pub fn churn(
-    topology: &[u8],
-    limit: usize,
-    steps: &[u8],
-    paths: usize,
-    packets: usize,
-    rounds: usize,
-) -> u64 {
-    let all_rounds = || {
-        let mut tree = QueueTree::open(topology, limit)?;
-        let path_bytes = steps.len() / paths;
-        let push = |tree: &mut QueueTree, packet: u32| {
-            let path = &steps[packet as usize % paths * path_bytes..][..path_bytes];
-            tree.push(&read_steps(path), packet % 7, packet)
-        };
-        for packet in 0..packets {
-            push(&mut tree, packet as u32)?;
-        }
-        let mut sum = 0u64;
-        for _ in 0..rounds {
-            let packet = tree.pop()?;
-            sum = sum.wrapping_add(u64::from(packet));
-            push(&mut tree, packet)?;
-        }
-        Ok::<u64, Refusal>(sum)
-    };
-    all_rounds().unwrap_or(0)
+/// The loop that the benchmark times: in each round a pop and then a push of
+/// the round's number, along the first path in even rounds and the second in
+/// odd ones. Refusals are passed over.
+pub fn churn(tree: &mut QueueTree, paths: [(&[Step], u32); 2], rounds: u32) {
+    for round in 0..rounds {
+        let (steps, leaf_rank) = paths[round as usize % 2];
+        _ = tree.pop();
+        _ = tree.push(steps, leaf_rank, round);
+    }
 }

@@ -21,9 +21,6 @@ mod boundary {
     }
 }
 
-/// Room for a path, as the boundary has it.
-pub const STEPS: usize = 9;
-
 /// The child numbers of a path's steps and the ranks, in two slices.
 pub struct Steps<'a> {
     pub children: &'a [u8],

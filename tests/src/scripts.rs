@@ -8,7 +8,7 @@ use crate::commands::{
 };
 use crate::generate;
 use crate::pairs::{self, Drawn};
-use crate::queue_tree::{read_steps, MOST_PACKETS};
+use crate::queue_tree::MOST_PACKETS;
 use crate::random::Random;
 use crate::script::SCRIPT_BYTES;
 use crate::states::{any_path, Habits};
@@ -39,12 +39,11 @@ fn shuffled_opening(
 /// A push for a source, along a path that is mostly right. Now and then a pop
 /// comes while the steps are gathered, and leaves them.
 fn any_push(source: &[u8], habits: &Habits, random: &mut Random) -> Vec<Command> {
-    let (steps, _, _) = any_path(source, habits, random);
-    let mut steps = read_steps(&steps);
+    let (path, _, _) = any_path(source, habits, random);
+    let mut steps = path.steps();
     // A ninth step would end the script.
     steps.truncate(MOST_STEPS_DOWN);
-    let (packet, leaf_rank) = (habits.packet(random), habits.rank(random));
-    let mut commands = push_along(&steps, packet, leaf_rank);
+    let mut commands = push_along(&steps, habits.packet(random), path.leaf_rank);
     if random.one_in(12) {
         commands.insert(random.below(commands.len()), vec![POP]);
     }

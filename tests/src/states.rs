@@ -1,10 +1,8 @@
 //! Random queue trees, paths and states, right and damaged.
 
 use crate::generate::{self, SHAPES};
-use crate::queue_tree::{
-    write_steps, Entry, Item, QueueTree, State, Step, ENTRIES_AT, ENTRY_BYTES, LIMIT_AT,
-    MOST_ENTRIES, NODES_AT, OWNERS_AT, USED_AT,
-};
+use crate::plain::{PlainPath, PlainState, MOST_STEPS};
+use crate::queue_tree::{Entry, Item, QueueTree, State, Step, MOST_ENTRIES};
 use crate::random::Random;
 use crate::topology::{Topology, MOST_CHILDREN, MOST_STEPS_DOWN, TARGET_NODES};
 
@@ -105,7 +103,7 @@ fn right_path(topology: &Topology, habits: &Habits, random: &mut Random) -> Vec<
 /// nothing comes before it.
 pub const PATHS: [(&str, u8); 8] = [
     ("right path", 0),
-    ("right path and part of a step", 0),
+    ("right path and noise behind it", 0),
     ("child 0", 13),
     ("missing child", 13),
     ("step at a leaf", 13),
@@ -114,13 +112,12 @@ pub const PATHS: [(&str, u8); 8] = [
     ("missing child, then an end above a leaf", 13),
 ];
 
-/// The steps of a path of any kind, mostly a right one, with what `PATHS` has
-/// on that kind.
+/// A path of any kind, mostly a right one, with what `PATHS` has on that kind.
 pub fn any_path(
     topology: &[u8],
     habits: &Habits,
     random: &mut Random,
-) -> (Vec<u8>, &'static str, u8) {
+) -> (PlainPath, &'static str, u8) {
     let topology = Topology::read(topology, TARGET_NODES).expect("a valid tree");
     let (kind, answer) = match random.one_in(4) {
         true => random.pick(&PATHS),
@@ -128,11 +125,18 @@ pub fn any_path(
     };
     let mut steps = right_path(&topology, habits, random);
     damage_path(&mut steps, kind, &topology, random);
-    let mut bytes = write_steps(&steps);
-    if kind == "right path and part of a step" {
-        bytes.resize(bytes.len() + random.within(1..=4), 1);
+    let mut path = PlainPath::write(&steps, habits.rank(random));
+    if kind == "right path and noise behind it" {
+        for at in path.count..MOST_STEPS {
+            path.children[at] = random.below(9) as u8;
+            path.ranks[at] = habits.rank(random);
+        }
     }
-    (bytes, kind, answer)
+    if kind == "ninth step" {
+        // However many more are counted, nine are read.
+        path.count = random.pick(&[9, 9, 10, 12, 256, 1 << 32, usize::MAX]);
+    }
+    (path, kind, answer)
 }
 
 /// Makes a path of that kind from a right one.
@@ -172,95 +176,62 @@ pub const DRESSES: [&str; 7] = [
     "queue by queue",
     "entries shuffled",
     "other tags of packets",
-    "child numbers with higher bytes",
+    "noise beside children and packets",
     "noise behind the entries",
     "noise behind the topology",
     "limit as many as held",
 ];
 
-/// The bytes of a state, written in that way.
-pub fn dressed(state: &State, kind: &str, random: &mut Random) -> Vec<u8> {
-    let mut bytes = state.write();
+/// A state, written in that way.
+pub fn dressed(state: &State, kind: &str, random: &mut Random) -> PlainState {
+    let mut plain = PlainState::write(state);
     if kind == "queue by queue" {
-        return bytes;
+        return plain;
     }
     // Whose turn it is next; the entries of each queue stay in order.
-    let mut turns: Vec<u8> = bytes[OWNERS_AT..][..used(&bytes)].to_vec();
+    let used = plain.used;
+    let mut turns: Vec<u8> = plain.owners[..used].to_vec();
     for last in (1..turns.len()).rev() {
         turns.swap(last, random.within(0..=last));
     }
     let mut queues: Vec<_> = state.queues.iter().map(|queue| queue.iter()).collect();
     for (at, &node) in turns.iter().enumerate() {
         let entry = queues[usize::from(node)].next();
-        write_entry(&mut bytes, at, node, entry.expect("a turn for each entry"));
+        plain.set(at, node, entry.expect("a turn for each entry"));
     }
-    for at in 0..turns.len() {
-        let entry = &mut bytes[entry_at(at)..][..ENTRY_BYTES];
-        match (kind, entry[4]) {
-            ("other tags of packets", 1) => entry[4] = random.within(1..=255) as u8,
-            ("child numbers with higher bytes", 0) => {
-                entry[6 + random.below(3)] = random.below(256) as u8;
+    for at in 0..used {
+        match (kind, plain.tags[at]) {
+            ("other tags of packets", 1) => plain.tags[at] = random.within(1..=255) as u8,
+            ("noise beside children and packets", 0) => {
+                plain.packets[at] = random.number() as u32;
+            }
+            ("noise beside children and packets", _) => {
+                plain.children[at] = random.below(256) as u8;
             }
             _ => {}
         }
     }
     if kind == "noise behind the entries" {
-        let behind = OWNERS_AT + turns.len()..ENTRIES_AT;
-        bytes[behind].fill_with(|| random.below(256) as u8);
-        bytes[entry_at(turns.len())..].fill_with(|| random.below(256) as u8);
+        for at in used..MOST_ENTRIES {
+            plain.owners[at] = random.below(256) as u8;
+            plain.ranks[at] = random.number() as u32;
+            plain.tags[at] = random.below(256) as u8;
+            plain.children[at] = random.below(256) as u8;
+            plain.packets[at] = random.number() as u32;
+        }
     }
     if kind == "noise behind the topology" {
-        bytes[state.topology.len()..NODES_AT].fill_with(|| random.below(256) as u8);
+        plain.topology[plain.nodes..].fill_with(|| random.below(256) as u8);
     }
-    bytes
+    plain
 }
 
-fn used(bytes: &[u8]) -> usize {
-    usize::from(read_number(bytes, USED_AT))
-}
-
-fn read_number(bytes: &[u8], at: usize) -> u16 {
-    u16::from_le_bytes([bytes[at], bytes[at + 1]])
-}
-
-fn write_number(bytes: &mut [u8], at: usize, number: usize) {
-    bytes[at..at + 2].copy_from_slice(&(number as u16).to_le_bytes());
-}
-
-fn entry_at(at: usize) -> usize {
-    ENTRIES_AT + at * ENTRY_BYTES
-}
-
-fn write_entry(bytes: &mut [u8], at: usize, owner: u8, entry: &Entry) {
-    bytes[OWNERS_AT + at] = owner;
-    let (tag, value) = match entry.item {
-        Item::Child(child) => (0, u32::from(child)),
-        Item::Packet(packet) => (1, packet),
-    };
-    let place = &mut bytes[entry_at(at)..][..ENTRY_BYTES];
-    place[..4].copy_from_slice(&entry.rank.to_le_bytes());
-    place[4] = tag;
-    place[5..].copy_from_slice(&value.to_le_bytes());
-}
-
-/// Adds an entry behind all others, with the highest rank.
-fn append(bytes: &mut [u8], owner: usize, item: Item) -> Option<()> {
-    let at = used(bytes);
-    if at == MOST_ENTRIES {
-        return None;
+/// An entry of the highest rank, which may stand behind all others.
+fn last(item: Item) -> Entry {
+    Entry {
+        rank: u32::MAX,
+        item,
     }
-    let rank = u32::MAX;
-    write_entry(bytes, at, owner as u8, &Entry { rank, item });
-    write_number(bytes, USED_AT, at + 1);
-    Some(())
-}
-
-/// Takes an entry out.
-fn remove(bytes: &mut [u8], at: usize) {
-    let used = used(bytes);
-    bytes.copy_within(OWNERS_AT + at + 1..OWNERS_AT + used, OWNERS_AT + at);
-    bytes.copy_within(entry_at(at + 1)..entry_at(used), entry_at(at));
-    write_number(bytes, USED_AT, used - 1);
 }
 
 /// Ways to break a clause of well-formedness.
@@ -290,13 +261,12 @@ pub const DAMAGES: [&str; 23] = [
     "packet more or less at a leaf",
 ];
 
-/// Breaks one clause in the bytes of a well formed state; None where that
-/// state gives no occasion for it.
-pub fn damage(bytes: &mut [u8], kind: &str, random: &mut Random) -> Option<()> {
-    let nodes = usize::from(read_number(bytes, NODES_AT));
-    let used = used(bytes);
-    let owners = bytes[OWNERS_AT..][..used].to_vec();
-    let topology = bytes[..nodes].to_vec();
+/// Breaks one clause of a well formed state; None where that state gives no
+/// occasion for it.
+pub fn damage(state: &mut PlainState, kind: &str, random: &mut Random) -> Option<()> {
+    let (nodes, used) = (state.nodes, state.used);
+    let owners = state.owners;
+    let topology = state.topology;
     let children = |node: usize| usize::from(topology[node]);
     let owner = |at: usize| usize::from(owners[at]);
     let is_leaf = |node: usize| topology[node] == 0;
@@ -314,46 +284,44 @@ pub fn damage(bytes: &mut [u8], kind: &str, random: &mut Random) -> Option<()> {
     match kind {
         "topology byte" => {
             let at = random.below(nodes);
-            let byte = bytes[at];
-            bytes[at] = random.pick(&[0, 1, byte + 1, byte.wrapping_sub(1), 8, 9, 255]);
+            let byte = topology[at];
+            state.topology[at] = random.pick(&[0, 1, byte + 1, byte.wrapping_sub(1), 8, 9, 255]);
         }
         "number of nodes" => {
-            let number = random.pick(&[0, nodes - 1, nodes + 1, 65, 255, 256 + nodes, 65_535]);
-            write_number(bytes, NODES_AT, number);
+            let far = random.pick(&[256 + nodes, (1 << 32) + nodes, usize::MAX]);
+            state.nodes = random.pick(&[0, nodes - 1, nodes + 1, 65, 255, far]);
         }
-        "limit 0" => write_number(bytes, LIMIT_AT, 0),
+        "limit 0" => state.limit = 0,
         "limit above 256" => {
-            let limit = random.pick(&[257, 258, 511, 512, 65_535]);
-            write_number(bytes, LIMIT_AT, limit);
+            let limit = state.limit;
+            let far = random.pick(&[65_536 + limit, (1 << 32) + limit, usize::MAX]);
+            state.limit = random.pick(&[257, 258, 511, 512, far]);
         }
         "limit below the packets held" => {
             if at_leaf.len() < 2 {
                 return None;
             }
-            write_number(bytes, LIMIT_AT, at_leaf.len() - 1);
+            state.limit = at_leaf.len() - 1;
         }
         "packets far above the limit" => {
             // One leaf that has them all.
             let limit = random.pick(&[1, 255, 256]);
-            bytes[0] = 0;
-            write_number(bytes, NODES_AT, 1);
-            write_number(bytes, LIMIT_AT, limit);
-            write_number(bytes, USED_AT, 0);
+            (state.topology[0], state.nodes) = (0, 1);
+            (state.limit, state.used) = (limit, 0);
             for _ in 0..random.pick(&[limit + 1, 257, limit + 256, 512, MOST_ENTRIES]) {
-                append(bytes, 0, Item::Packet(1))?;
+                state.append(0, &last(Item::Packet(1)))?;
             }
         }
         "more entries than there can be" => {
-            let number =
-                random.pick(&[MOST_ENTRIES + 1, 32_768, 65_535, 65_536 - 256 + used % 256]);
-            write_number(bytes, USED_AT, number);
+            let far = random.pick(&[65_536 + used, (1 << 32) + used, usize::MAX]);
+            state.used = random.pick(&[MOST_ENTRIES + 1, 32_768, far]);
         }
         "an entry more or less" => {
             let number = random.pick(&[used + 1, used.wrapping_sub(1), used + 256, 0]);
             if number > MOST_ENTRIES {
                 return None;
             }
-            write_number(bytes, USED_AT, number);
+            state.used = number;
         }
         "owner past the last node" => {
             let past = random.pick(&[nodes, nodes + 1, 64, 128, 255]);
@@ -362,35 +330,34 @@ pub fn damage(bytes: &mut [u8], kind: &str, random: &mut Random) -> Option<()> {
             }
             // In place of another owner, or with an entry more.
             if random.one_in(2) {
-                bytes[OWNERS_AT + any_entry?] = past as u8;
+                state.owners[any_entry?] = past as u8;
             } else {
-                append(bytes, past, Item::Packet(0))?;
+                state.append(past as u8, &last(Item::Packet(0)))?;
             }
         }
-        "another owner" => bytes[OWNERS_AT + any_entry?] = random.below(nodes) as u8,
+        "another owner" => state.owners[any_entry?] = random.below(nodes) as u8,
         "falling rank at an inner node" | "falling rank at a leaf" => {
             let inside = kind == "falling rank at an inner node";
             let first = if inside { inner_entry? } else { leaf_entry? };
             // Against the next of the same queue.
             let second = (first + 1..used).find(|&at| owner(at) == owner(first))?;
-            let rank = |at: usize| -> [u8; 4] {
-                let bytes = &bytes[entry_at(at)..][..4];
-                bytes.try_into().expect("4 bytes")
-            };
-            let (low, mut high) = (rank(first), rank(second));
+            let (low, mut high) = (state.ranks[first], state.ranks[second]);
             if low == high {
-                let higher = u32::from_le_bytes(high).checked_add(1)?;
-                high = higher.to_le_bytes();
+                high = high.checked_add(1)?;
             }
-            bytes[entry_at(first)..][..4].copy_from_slice(&high);
-            bytes[entry_at(second)..][..4].copy_from_slice(&low);
+            (state.ranks[first], state.ranks[second]) = (high, low);
         }
         "packet for a child at an inner node" => {
-            bytes[entry_at(inner_entry?) + 4] = random.pick(&[1, 2, 255]);
+            state.tags[inner_entry?] = random.pick(&[1, 2, 255]);
         }
-        "packet more at an inner node" => append(bytes, inner_node?, Item::Packet(1))?,
-        "child for a packet at a leaf" => bytes[entry_at(leaf_entry?) + 4] = 0,
-        "child more at a leaf" => append(bytes, leaf, Item::Child(random.pick(&[0, 1, 2])))?,
+        "packet more at an inner node" => {
+            state.append(inner_node? as u8, &last(Item::Packet(1)))?;
+        }
+        "child for a packet at a leaf" => state.tags[leaf_entry?] = 0,
+        "child more at a leaf" => {
+            let child = Item::Child(random.pick(&[0, 1, 2]));
+            state.append(leaf as u8, &last(child))?;
+        }
         "child number 0" | "child number too large" => {
             let node = inner_node?;
             let past = |node: usize, random: &mut Random| match kind {
@@ -400,34 +367,34 @@ pub fn damage(bytes: &mut [u8], kind: &str, random: &mut Random) -> Option<()> {
             // In place of another child, or as an entry more.
             if random.one_in(2) {
                 let at = inner_entry?;
-                bytes[entry_at(at) + 5] = past(owner(at), random);
+                state.children[at] = past(owner(at), random);
             } else {
-                append(bytes, node, Item::Child(past(node, random)))?;
+                state.append(node as u8, &last(Item::Child(past(node, random))))?;
             }
         }
         "another child" => {
             let at = inner_entry?;
-            bytes[entry_at(at) + 5] = random.within(1..=children(owner(at))) as u8;
+            state.children[at] = random.within(1..=children(owner(at))) as u8;
         }
         "child more" => {
             let node = inner_node?;
-            let last = children(node) as u8;
+            let most = children(node) as u8;
             let any = random.within(1..=children(node)) as u8;
-            append(bytes, node, Item::Child(random.pick(&[any, last])))?;
+            state.append(node as u8, &last(Item::Child(random.pick(&[any, most]))))?;
         }
         "child 256 times more" => {
             let node = inner_node?;
             let child = Item::Child(random.within(1..=children(node)) as u8);
             for _ in 0..256 {
-                append(bytes, node, child)?;
+                state.append(node as u8, &last(child))?;
             }
         }
-        "child less" => remove(bytes, inner_entry?),
+        "child less" => state.remove(inner_entry?),
         "packet more or less at a leaf" => {
             if random.one_in(2) {
-                remove(bytes, leaf_entry?);
+                state.remove(leaf_entry?);
             } else {
-                append(bytes, leaf, Item::Packet(1))?;
+                state.append(leaf as u8, &last(Item::Packet(1)))?;
             }
         }
         _ => unreachable!("a kind of damage without a name"),

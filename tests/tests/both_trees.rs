@@ -4,18 +4,17 @@
 
 use linduvar_tests::both_trees::BothTrees;
 use linduvar_tests::pairs::{self, Drawn};
-use linduvar_tests::queue_tree::{
-    read_steps, write_steps, Refusal, Step, MOST_PACKETS, STATE_BYTES,
-};
+use linduvar_tests::plain::{PlainAmount, PlainAnswer, PlainPath, PlainState, MOST_STEPS};
+use linduvar_tests::queue_tree::{Refusal, Step, MOST_PACKETS};
 use linduvar_tests::random::{self, Random};
 use linduvar_tests::rattle_queue_tree as rattle;
-use linduvar_tests::rattle_translator::{self, Steps, STEPS};
+use linduvar_tests::rattle_translator::{self, Steps};
 use linduvar_tests::states::{any_path, Habits};
 use linduvar_tests::topology::{SOURCE_NODES, TARGET_NODES};
 use linduvar_tests::translator::Path;
 use std::collections::BTreeMap;
 
-const LISTS_A_LIMIT: usize = 4;
+const LISTS_A_LIMIT: usize = 2;
 
 /// Each answer must be met this often.
 const OFTEN_ENOUGH: usize = 50;
@@ -60,8 +59,8 @@ fn main() {
 /// Two trees of the library and two of the second implementation.
 struct Trees {
     drawn: Drawn,
-    source: Vec<u8>,
-    chip: Vec<u8>,
+    source: PlainState,
+    chip: PlainState,
     rust: BothTrees,
 }
 
@@ -74,9 +73,9 @@ impl Trees {
         } = drawn;
         let map = map.as_ref().expect("a pair made from a map");
         let state = |topology: &[u8]| {
-            let mut state = vec![238; STATE_BYTES];
-            assert_eq!(rattle::open(topology, limit, &mut state), 0);
-            state
+            let opened = rattle::open(topology, limit);
+            assert_eq!(opened.refusal, 0);
+            opened.state
         };
         let trees = Trees {
             source: state(source),
@@ -106,33 +105,37 @@ impl Trees {
                     false => self.pop(),
                 };
                 self.compare_counts();
-                answer as u8
+                answer.0
             })
             .collect()
     }
 
-    fn push(&mut self, habits: &Habits, random: &mut Random) -> u64 {
-        let (bytes, _, _) = any_path(&self.drawn.source, habits, random);
-        let mut steps = read_steps(&bytes);
-        steps.truncate(STEPS);
-        let (leaf_rank, packet) = (habits.rank(random), habits.packet(random));
-        let answer = rattle::push(&mut self.source, &write_steps(&steps), leaf_rank, packet);
+    fn push(&mut self, habits: &Habits, random: &mut Random) -> Answer {
+        let (path, _, _) = any_path(&self.drawn.source, habits, random);
+        let (leaf_rank, packet) = (path.leaf_rank, habits.packet(random));
+        let source = taken(&mut self.source, |state| rattle::push(state, &path, packet));
+        let steps = path.steps();
         let chip = match self.carry(&steps) {
-            Ok(carried) => rattle::push(&mut self.chip, &write_steps(&carried), leaf_rank, packet),
-            Err(number) => u64::from(number),
+            Ok(carried) => {
+                let carried = PlainPath::write(&carried, leaf_rank);
+                taken(&mut self.chip, |state| {
+                    rattle::push(state, &carried, packet)
+                })
+            }
+            Err(number) => (number, 0),
         };
-        let path = Path { steps, leaf_rank };
-        let rust = match self.rust.push(&path, packet) {
-            Ok(()) => 0,
+        let rust = match self.rust.push(&Path { steps, leaf_rank }, packet) {
+            Ok(()) => (0, 0),
             Err(refusal) => refused(refusal),
         };
-        self.compare("a push", answer, chip, rust)
+        self.compare("a push", source, chip, rust)
     }
 
-    fn pop(&mut self) -> u64 {
-        let (source, chip) = (rattle::pop(&mut self.source), rattle::pop(&mut self.chip));
+    fn pop(&mut self) -> Answer {
+        let source = taken(&mut self.source, rattle::pop);
+        let chip = taken(&mut self.chip, rattle::pop);
         let rust = match self.rust.pop() {
-            Ok(packet) => u64::from(packet) << 8,
+            Ok(packet) => (0, packet),
             Err(refusal) => refused(refusal),
         };
         self.compare("a pop", source, chip, rust)
@@ -146,7 +149,7 @@ impl Trees {
             children: &children,
             ranks: &ranks,
         };
-        let mut room = ([0; STEPS], [0; STEPS]);
+        let mut room = ([0; MOST_STEPS], [0; MOST_STEPS]);
         let Drawn {
             source,
             target,
@@ -167,19 +170,20 @@ impl Trees {
 
     /// Packets held and refusals counted.
     fn compare_counts(&self) {
-        let (source, chip) = (rattle::held(&self.source), rattle::held(&self.chip));
-        self.compare("held", source, chip, (self.rust.held() as u64) << 8);
-        let (source, chip) = (rattle::refusals(&self.source), rattle::refusals(&self.chip));
-        self.compare(
-            "refusals",
-            source,
-            chip,
-            u64::from(self.rust.refusals()) << 8,
-        );
+        for (what, count, rust) in [
+            ("held", rattle::held as Count, self.rust.held() as u32),
+            ("refusals", rattle::refusals, self.rust.refusals()),
+        ] {
+            let of = |state| {
+                let amount = count(state);
+                (amount.number, amount.value)
+            };
+            self.compare(what, of(&self.source), of(&self.chip), (0, rust));
+        }
     }
 
     /// The one answer of all.
-    fn compare(&self, what: &str, source: u64, chip: u64, rust: u64) -> u64 {
+    fn compare(&self, what: &str, source: Answer, chip: Answer, rust: Answer) -> Answer {
         let Drawn {
             source: drawing,
             target,
@@ -188,17 +192,28 @@ impl Trees {
         assert!(
             source == rust && chip == rust,
             "a difference: {what}\n  source {drawing:?}\n  target {target:?}\n  map {map:?}\n  \
-             Rattle, source {source}\n  Rattle, chip   {chip}\n  Rust           {rust}"
+             Rattle, source {source:?}\n  Rattle, chip   {chip:?}\n  Rust           {rust:?}"
         );
         rust
     }
 }
 
-/// A refusal as it crosses the boundary.
-fn refused(refusal: Refusal) -> u64 {
+/// 0 or the refusal, with the packet, the count that 15 returns, or 0.
+type Answer = (u8, u32);
+
+type Count = fn(&PlainState) -> PlainAmount;
+
+/// Makes a call and keeps the state that it leaves.
+fn taken(state: &mut PlainState, call: impl Fn(&PlainState) -> PlainAnswer) -> Answer {
+    let answer = call(state);
+    *state = answer.state;
+    (answer.number, answer.value)
+}
+
+fn refused(refusal: Refusal) -> Answer {
     let count = match refusal {
-        Refusal::Full(count) => u64::from(count),
+        Refusal::Full(count) => count,
         _ => 0,
     };
-    u64::from(refusal.number()) | count << 8
+    (refusal.number(), count)
 }

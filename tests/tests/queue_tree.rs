@@ -3,16 +3,13 @@
 //! difference ends the run.
 
 use linduvar_tests::generate;
-use linduvar_tests::queue_tree::{
-    self, read_steps, write_steps, QueueTree, Refusal, State, Step, MOST_ENTRIES, MOST_PACKETS,
-    OWNERS_AT, REFUSED_AT, STATE_BYTES,
-};
+use linduvar_tests::plain::{PlainAmount, PlainAnswer, PlainPath, PlainState};
+use linduvar_tests::queue_tree::{self, QueueTree, Refusal, Step, MOST_ENTRIES, MOST_PACKETS};
 use linduvar_tests::random::{self, Random};
 use linduvar_tests::rattle_queue_tree;
 use linduvar_tests::states::{
     any_path, any_topology, any_tree, damage, dressed, Habits, DAMAGES, DRESSES, LIMITS, PATHS,
 };
-use linduvar_tests::topology::{MOST_CHILDREN, MOST_STEPS_DOWN};
 use std::collections::BTreeMap;
 use std::fmt;
 
@@ -30,7 +27,6 @@ fn main() {
     let seed = random::seed();
     println!("seed {seed} (LINDUVAR_SEED={seed} repeats this run)");
     examples();
-    buffers();
     long_strings();
     let mut comparison = Comparison::new(seed);
     openings(&mut comparison);
@@ -48,143 +44,121 @@ fn main() {
 fn examples() {
     // Two packets down child 1: the later leaves first.
     let mut tree = Literal::open(&[1, 0], 2);
-    tree.push(&[(1, 1)], 9, 100, 0);
-    tree.push(&[(1, 4)], 2, 200, 0);
-    tree.pop(200 << 8);
-    tree.pop(100 << 8);
-    tree.pop(16);
+    tree.push(&[(1, 1)], 9, 100, (0, 0));
+    tree.push(&[(1, 4)], 2, 200, (0, 0));
+    tree.pop((0, 200));
+    tree.pop((0, 100));
+    tree.pop((16, 0));
 
     // The script of gatewalk, on the source.
     let mut tree = Literal::open(&[3, 0, 0, 0], 2);
-    tree.push(&[(3, 5)], 0, 0x0A, 0);
-    tree.push(&[(1, 5)], 0, 0x0B, 0);
-    tree.push(&[(2, 3)], 0, 0x0C, 15 | 1 << 8);
-    tree.pop(0x0A << 8);
-    tree.push(&[(2, 3)], 0, 0x0C, 0);
-    tree.pop(0x0C << 8);
-    tree.pop(0x0B << 8);
-    tree.pop(16);
+    tree.push(&[(3, 5)], 0, 0x0A, (0, 0));
+    tree.push(&[(1, 5)], 0, 0x0B, (0, 0));
+    tree.push(&[(2, 3)], 0, 0x0C, (15, 1));
+    tree.pop((0, 0x0A));
+    tree.push(&[(2, 3)], 0, 0x0C, (0, 0));
+    tree.pop((0, 0x0C));
+    tree.pop((0, 0x0B));
+    tree.pop((16, 0));
     // And on the chip, where the paths are carried over.
     let mut tree = Literal::open(&[2, 2, 0, 0, 0], 2);
-    tree.push(&[(2, 5)], 0, 0x0A, 0);
-    tree.push(&[(1, 5), (1, 5)], 0, 0x0B, 0);
-    tree.push(&[(1, 3), (2, 3)], 0, 0x0C, 15 | 1 << 8);
-    tree.pop(0x0A << 8);
-    tree.push(&[(1, 3), (2, 3)], 0, 0x0C, 0);
-    tree.pop(0x0C << 8);
-    tree.pop(0x0B << 8);
-    tree.pop(16);
+    tree.push(&[(2, 5)], 0, 0x0A, (0, 0));
+    tree.push(&[(1, 5), (1, 5)], 0, 0x0B, (0, 0));
+    tree.push(&[(1, 3), (2, 3)], 0, 0x0C, (15, 1));
+    tree.pop((0, 0x0A));
+    tree.push(&[(1, 3), (2, 3)], 0, 0x0C, (0, 0));
+    tree.pop((0, 0x0C));
+    tree.pop((0, 0x0B));
+    tree.pop((16, 0));
 
     // Ties go by arrival, at the leaf and above it.
     let mut tree = Literal::open(&[2, 0, 0], 256);
-    tree.push(&[(2, 7)], 7, 4, 0);
-    tree.push(&[(1, 7)], 7, 3, 0);
-    tree.push(&[(2, 7)], 7, 2, 0);
-    tree.push(&[(2, 7)], 6, 1, 0);
+    tree.push(&[(2, 7)], 7, 4, (0, 0));
+    tree.push(&[(1, 7)], 7, 3, (0, 0));
+    tree.push(&[(2, 7)], 7, 2, (0, 0));
+    tree.push(&[(2, 7)], 6, 1, (0, 0));
     for packet in [1, 3, 4, 2] {
-        tree.pop(packet << 8);
+        tree.pop((0, packet));
     }
-    tree.pop(16);
+    tree.pop((16, 0));
 
     // Paths at fault; 13 goes before 14, and both before 15.
     let mut tree = Literal::open(&[2, 1, 0, 0], 1);
     for full in [false, true] {
-        tree.push(&[(0, 1)], 0, 0, 13);
-        tree.push(&[(3, 1)], 0, 0, 13);
-        tree.push(&[(255, 1)], 0, 0, 13);
-        tree.push(&[(2, 1), (1, 1)], 0, 0, 13);
-        tree.push(&[(1, 1), (2, 1)], 0, 0, 13);
-        tree.push(&[(1, 1), (1, 1), (1, 1)], 0, 0, 13);
-        tree.push(&[(1, 1); 9], 0, 0, 13);
-        tree.push(&[], 0, 0, 14);
-        tree.push(&[(1, 1)], 0, 0, 14);
+        tree.push(&[(0, 1)], 0, 0, (13, 0));
+        tree.push(&[(3, 1)], 0, 0, (13, 0));
+        tree.push(&[(255, 1)], 0, 0, (13, 0));
+        tree.push(&[(2, 1), (1, 1)], 0, 0, (13, 0));
+        tree.push(&[(1, 1), (2, 1)], 0, 0, (13, 0));
+        tree.push(&[(1, 1), (1, 1), (1, 1)], 0, 0, (13, 0));
+        tree.push(&[(1, 1); 9], 0, 0, (13, 0));
+        tree.push(&[], 0, 0, (14, 0));
+        tree.push(&[(1, 1)], 0, 0, (14, 0));
         if !full {
-            tree.pop(16);
-            tree.push(&[(1, 1), (1, 1)], 0, u32::MAX, 0);
+            tree.pop((16, 0));
+            tree.push(&[(1, 1), (1, 1)], 0, u32::MAX, (0, 0));
         }
     }
-    tree.push(&[(2, 1)], 0, 0, 15 | 1 << 8);
-    tree.push(&[(2, 1)], 0, 0, 15 | 2 << 8);
-    tree.pop(u64::from(u32::MAX) << 8);
+    tree.push(&[(2, 1)], 0, 0, (15, 1));
+    tree.push(&[(2, 1)], 0, 0, (15, 2));
+    tree.pop((0, u32::MAX));
 
     // One leaf and nothing else.
     let mut tree = Literal::open(&[0], 3);
-    tree.push(&[(1, 0)], 0, 9, 13);
-    tree.push(&[], u32::MAX, 1, 0);
-    tree.push(&[], 0, 2, 0);
-    tree.push(&[], 1 << 31, 3, 0);
+    tree.push(&[(1, 0)], 0, 9, (13, 0));
+    tree.push(&[], u32::MAX, 1, (0, 0));
+    tree.push(&[], 0, 2, (0, 0));
+    tree.push(&[], 1 << 31, 3, (0, 0));
     for packet in [2, 3, 1] {
-        tree.pop(packet << 8);
+        tree.pop((0, packet));
     }
 
     // The deepest path has 8 steps, and a ninth is refused.
     let mut tree = Literal::open(&[1, 1, 1, 1, 1, 1, 1, 1, 0], 1);
-    tree.push(&[(1, 0); 9], 0, 5, 13);
-    tree.push(&[(1, 0); 7], 0, 5, 14);
-    tree.push(&[(1, 0); 8], 0, 5, 0);
-    tree.pop(5 << 8);
+    tree.push(&[(1, 0); 9], 0, 5, (13, 0));
+    tree.push(&[(1, 0); 7], 0, 5, (14, 0));
+    tree.push(&[(1, 0); 8], 0, 5, (0, 0));
+    tree.pop((0, 5));
     println!("examples: as the paper has them");
 }
 
 /// A tree on Rattle's side alone, for answers that are known.
 struct Literal {
-    bytes: Vec<u8>,
+    state: PlainState,
 }
 
 impl Literal {
     fn open(topology: &[u8], limit: usize) -> Literal {
-        let mut bytes = vec![238; STATE_BYTES];
-        assert_eq!(rattle_queue_tree::open(topology, limit, &mut bytes), 0);
-        Literal { bytes }
+        let opened = rattle_queue_tree::open(topology, limit);
+        assert_eq!(opened.refusal, 0);
+        Literal {
+            state: opened.state,
+        }
     }
 
-    fn push(&mut self, path: &[(u8, u32)], leaf_rank: u32, packet: u32, answer: u64) {
+    fn push(&mut self, path: &[(u8, u32)], leaf_rank: u32, packet: u32, answer: (u8, u32)) {
         let steps: Vec<Step> = path
             .iter()
             .map(|&(child, rank)| Step { child, rank })
             .collect();
-        let steps = write_steps(&steps);
-        let rattle = rattle_queue_tree::push(&mut self.bytes, &steps, leaf_rank, packet);
-        assert_eq!(rattle, answer, "push of {packet} along {path:?}");
+        let path = PlainPath::write(&steps, leaf_rank);
+        let rattle = rattle_queue_tree::push(&self.state, &path, packet);
+        let met = (rattle.number, rattle.value);
+        assert_eq!(met, answer, "push of {packet} along {path:?}");
+        self.state = rattle.state;
     }
 
-    fn pop(&mut self, answer: u64) {
-        assert_eq!(rattle_queue_tree::pop(&mut self.bytes), answer, "pop");
+    fn pop(&mut self, answer: (u8, u32)) {
+        let rattle = rattle_queue_tree::pop(&self.state);
+        assert_eq!((rattle.number, rattle.value), answer, "pop");
+        self.state = rattle.state;
     }
-}
-
-/// Buffers that are too short are left alone, and what lies behind one that
-/// is too long as well.
-fn buffers() {
-    let untouched = vec![238; STATE_BYTES + 8];
-    let mut bytes = untouched.clone();
-    for length in [0, 1, 74, STATE_BYTES - 1] {
-        let short = &mut bytes[..length];
-        assert_eq!(rattle_queue_tree::open(&[0], 1, short), 255);
-        assert_eq!(rattle_queue_tree::push(short, &[], 0, 0), 255);
-        assert_eq!(rattle_queue_tree::pop(short), 255);
-        assert_eq!(rattle_queue_tree::held(short), 255);
-        assert_eq!(rattle_queue_tree::refusals(short), 255);
-        assert!(bytes == untouched, "a short buffer was altered");
-    }
-    assert_eq!(rattle_queue_tree::open(&[0], 1, &mut bytes), 0);
-    assert_eq!(rattle_queue_tree::push(&mut bytes, &[], 0, 7), 0);
-    assert_eq!(rattle_queue_tree::held(&bytes), 1 << 8);
-    assert_eq!(rattle_queue_tree::push(&mut bytes, &[], 0, 7), 15 | 1 << 8);
-    assert_eq!(rattle_queue_tree::refusals(&bytes), 1 << 8);
-    assert_eq!(rattle_queue_tree::pop(&mut bytes), 7 << 8);
-    assert_eq!(bytes[STATE_BYTES..], untouched[STATE_BYTES..]);
-    println!("buffers: too short and too long ones kept");
 }
 
 /// Strings far beyond any limit still get an answer.
 fn long_strings() {
-    const LENGTH: usize = 1_000_000;
-    let long = vec![1; LENGTH];
-    let mut bytes = vec![238; STATE_BYTES];
-    assert_eq!(rattle_queue_tree::open(&long, 0, &mut bytes), 5);
-    let mut tree = Literal::open(&[1, 1, 1, 1, 1, 1, 1, 1, 0], 1);
-    assert_eq!(rattle_queue_tree::push(&mut tree.bytes, &long, 0, 0), 13);
+    let long = vec![1; 1_000_000];
+    assert_eq!(rattle_queue_tree::open(&long, 0).refusal, 5);
     println!("long strings: answered");
 }
 
@@ -220,8 +194,7 @@ fn every_short_list(comparison: &mut Comparison) {
                     })
                     .collect();
                 calls.push(Call::Push {
-                    steps: write_steps(&steps),
-                    leaf_rank: rank(path.len()),
+                    path: PlainPath::write(&steps, rank(path.len())),
                     packet: calls.len() as u32,
                 });
             }
@@ -254,10 +227,8 @@ fn random_lists(comparison: &mut Comparison) {
         let near_the_end = random.one_in(3).then(|| u32::MAX - random.below(4) as u32);
         let mut sides = comparison.open(&topology, limit).expect("a valid tree");
         if let Some(refused) = near_the_end {
-            let at = REFUSED_AT..OWNERS_AT;
-            sides.bytes[at].copy_from_slice(&refused.to_le_bytes());
-            let state = State::read(&sides.bytes).expect("a state with a new count");
-            sides.tree = QueueTree::from_state(&state).expect("a well formed state");
+            sides.plain.refused = refused;
+            sides = Sides::read(sides.plain).expect("a well formed state");
         }
         let mut filling = true;
         for _ in 0..calls {
@@ -283,8 +254,8 @@ fn states(comparison: &mut Comparison) {
         if kind == "limit as many as held" {
             state.limit = tree.held().max(1);
         }
-        let bytes = dressed(&state, kind, random);
-        let mut sides = Sides::read(bytes).expect("a well formed state");
+        let plain = dressed(&state, kind, random);
+        let mut sides = Sides::read(plain).expect("a well formed state");
         comparison.kinds.meet(kind);
         let used: usize = state.queues.iter().map(Vec::len).sum();
         if used == MOST_ENTRIES {
@@ -305,17 +276,17 @@ fn damaged_states(comparison: &mut Comparison) {
         let habits = Habits::any(random);
         let tree = any_tree(random, &habits);
         let dress = random.pick(&DRESSES);
-        let mut bytes = dressed(&tree.state(), dress, random);
+        let mut plain = dressed(&tree.state(), dress, random);
         let kind = random.pick(&DAMAGES);
-        if damage(&mut bytes, kind, random).is_none() {
+        if damage(&mut plain, kind, random).is_none() {
             continue;
         }
-        match Sides::read(bytes.clone()) {
+        match Sides::read(plain) {
             Err(refusal) => {
                 assert_eq!(refusal, Refusal::IllFormed);
                 comparison.kinds.meet(kind);
-                let (steps, ..) = any_path(tree.topology(), &habits, &mut comparison.random);
-                comparison.refuses_all(&bytes, &steps, kind);
+                let (path, ..) = any_path(tree.topology(), &habits, &mut comparison.random);
+                comparison.refuses_all(&plain, &path, kind);
             }
             Ok(mut sides) => {
                 comparison.kinds.meet("damage that did no harm");
@@ -329,75 +300,65 @@ fn damaged_states(comparison: &mut Comparison) {
 
 /// The loop of the benchmark, with and without refusals in it.
 fn churns(comparison: &mut Comparison) {
-    let mut sums = 0;
+    let mut altered = 0;
     for _ in 0..CHURNS {
         let random = &mut comparison.random;
-        let chains = random.within(1..=MOST_CHILDREN);
-        let depth = random.within(1..=MOST_STEPS_DOWN).min(63 / chains);
-        let chain = [vec![1; depth - 1], vec![0]].concat();
-        let mut topology = [vec![chains as u8], chain.repeat(chains)].concat();
-        // Some paths end above a leaf, and some have a step at one.
-        let length = random.pick(&[depth, depth, depth, depth, depth - 1, depth + 1]);
-        let paths = random.within(1..=8);
-        let mut steps = Vec::new();
-        for _ in 0..paths {
-            let mut child = random.within(1..=chains) as u8;
-            for _ in 0..length {
-                let rank = random.below(3) as u32;
-                steps.push(Step { child, rank });
-                child = 1;
-            }
-        }
-        let steps = write_steps(&steps);
-        let limit = random.pick(&LIMITS);
-        let packets = random.within(0..=limit.min(20) + 1);
-        let rounds = random.within(0..=60);
-        if random.one_in(8) {
-            topology.push(0);
-        }
-        let rattle = rattle_queue_tree::churn(&topology, limit, &steps, paths, packets, rounds);
-        let rust = queue_tree::churn(&topology, limit, &steps, paths, packets, rounds);
-        let question = format_args!(
-            "churn of {packets} packets to {limit} on {topology:?}, {rounds} rounds \
-             along {paths} paths {steps:?}"
-        );
-        comparison.agree(question, None, rattle, rust);
-        sums += usize::from(rust != 0);
+        let habits = Habits::any(random);
+        let tree = any_tree(random, &habits);
+        let kind = random.pick(&DRESSES);
+        let sides = Sides::read(dressed(&tree.state(), kind, random)).expect("a well formed state");
+        let (first, ..) = any_path(tree.topology(), &habits, random);
+        let (second, ..) = any_path(tree.topology(), &habits, random);
+        let rounds = random.within(0..=40) as u32;
+
+        let mut after = sides.clone();
+        after.plain = rattle_queue_tree::churn(&sides.plain, &first, &second, rounds);
+        let paths = [first.steps(), second.steps()];
+        let paths = [
+            (&paths[0][..], first.leaf_rank),
+            (&paths[1][..], second.leaf_rank),
+        ];
+        queue_tree::churn(&mut after.tree, paths, rounds);
+        let earlier = Earlier(&sides.plain);
+        let question = format_args!("{rounds} rounds along {paths:?} on {earlier:?}");
+        comparison.compare_state(&after, question);
+        altered += usize::from(sides.tree.state() != after.tree.state());
     }
-    assert!(sums >= OFTEN_ENOUGH, "only {sums} sums were not 0");
+    assert!(
+        altered >= OFTEN_ENOUGH,
+        "only {altered} states were altered"
+    );
+    println!("{CHURNS} churns, {altered} of which altered the state");
 }
 
 #[derive(Clone, Debug)]
 enum Call {
-    Push {
-        steps: Vec<u8>,
-        leaf_rank: u32,
-        packet: u32,
-    },
+    Push { path: PlainPath, packet: u32 },
     Pop,
 }
 
-/// One tree on both sides: as Rattle has it in bytes, and as Rust has it.
+/// One tree on both sides: as Rattle has it in plain numbers, and as Rust has
+/// it.
 #[derive(Clone)]
 struct Sides {
-    bytes: Vec<u8>,
+    plain: PlainState,
     tree: QueueTree,
 }
 
 impl Sides {
-    fn read(bytes: Vec<u8>) -> Result<Sides, Refusal> {
-        let state = State::read(&bytes).ok_or(Refusal::IllFormed)?;
+    fn read(plain: PlainState) -> Result<Sides, Refusal> {
+        let state = plain.read().ok_or(Refusal::IllFormed)?;
         let tree = QueueTree::from_state(&state)?;
-        Ok(Sides { bytes, tree })
+        Ok(Sides { plain, tree })
     }
 }
 
-/// The bytes of a state, read only when a difference is printed.
-struct Earlier<'a>(&'a [u8]);
+/// A state in plain numbers, read only when a difference is printed.
+struct Earlier<'a>(&'a PlainState);
 
 impl fmt::Debug for Earlier<'_> {
     fn fmt(&self, to: &mut fmt::Formatter) -> fmt::Result {
-        State::read(self.0).fmt(to)
+        self.0.read().fmt(to)
     }
 }
 
@@ -456,7 +417,7 @@ impl Comparison {
     fn agree<T: PartialEq + fmt::Debug>(
         &self,
         question: fmt::Arguments,
-        before: Option<&[u8]>,
+        before: Option<&PlainState>,
         rattle: T,
         rust: T,
     ) {
@@ -470,31 +431,31 @@ impl Comparison {
         }
     }
 
-    fn meet(&mut self, answer: u64) {
-        self.answers[(answer & 255) as usize] += 1;
+    fn meet(&mut self, answer: u8) {
+        self.answers[usize::from(answer)] += 1;
         self.calls += 1;
     }
 
     fn open(&mut self, topology: &[u8], limit: usize) -> Option<Sides> {
-        let before = vec![self.random.below(256) as u8; STATE_BYTES];
-        let mut bytes = before.clone();
-        let rattle = rattle_queue_tree::open(topology, limit, &mut bytes);
+        let rattle = rattle_queue_tree::open(topology, limit);
         let opened = QueueTree::open(topology, limit);
         let rust = match &opened {
             Ok(_) => 0,
             Err(refusal) => refusal.number(),
         };
         let question = format_args!("opening {topology:?}, limit {limit}");
-        self.agree(question, None, rattle, rust);
-        self.meet(u64::from(rust));
+        self.agree(question, None, rattle.refusal, rust);
+        self.meet(rust);
+        let plain = rattle.state;
         match opened {
             Ok(tree) => {
-                let sides = Sides { bytes, tree };
+                let sides = Sides { plain, tree };
                 self.compare_state(&sides, format_args!("after {question}"));
                 Some(sides)
             }
             Err(_) => {
-                assert!(bytes == before, "{question}: bytes altered");
+                // No call serves what an opening that was refused gave.
+                self.refuses_all(&plain, &PlainPath::write(&[], 0), "a refused opening");
                 None
             }
         }
@@ -507,93 +468,107 @@ impl Comparison {
             return;
         }
         let random = &mut self.random;
-        let (steps, kind, answer) = any_path(sides.tree.topology(), habits, random);
-        let call = Call::Push {
-            steps,
-            leaf_rank: habits.rank(random),
-            packet: habits.packet(random),
-        };
-        if self.call(sides, &call) == answer {
+        let (path, kind, answer) = any_path(sides.tree.topology(), habits, random);
+        let packet = habits.packet(random);
+        if self.call(sides, &Call::Push { path, packet }) == answer {
             self.kinds.meet(kind);
         }
     }
 
     /// Makes one call on both sides and returns 0 or the refusal.
     fn call(&mut self, sides: &mut Sides, call: &Call) -> u8 {
-        let before = sides.bytes.clone();
+        let before = sides.plain;
         let held = sides.tree.held();
         let refused = sides.tree.refusals();
         let limit = sides.tree.limit();
 
         let rattle = match call {
-            Call::Push {
-                steps,
-                leaf_rank,
-                packet,
-            } => rattle_queue_tree::push(&mut sides.bytes, steps, *leaf_rank, *packet),
-            Call::Pop => rattle_queue_tree::pop(&mut sides.bytes),
+            Call::Push { path, packet } => rattle_queue_tree::push(&before, path, *packet),
+            Call::Pop => rattle_queue_tree::pop(&before),
         };
+        let PlainAnswer { number, value, .. } = rattle;
+        sides.plain = rattle.state;
         let rust = make(&mut sides.tree, call);
-        self.agree(format_args!("{call:?}"), Some(&before), rattle, rust);
-        self.meet(rust);
+        self.agree(
+            format_args!("{call:?}"),
+            Some(&before),
+            (number, value),
+            rust,
+        );
+        self.meet(number);
 
-        // A refusal leaves every byte, or every byte but the count.
-        if rust & 255 != 0 {
-            let mut expected = before.clone();
-            let count = &mut expected[REFUSED_AT..OWNERS_AT];
-            count.copy_from_slice(&sides.tree.refusals().to_le_bytes());
-            let same = sides.bytes == expected;
-            let question = format_args!("{call:?}, refused: are the bytes as before");
+        // A refusal leaves every number, or every entry and all but the count.
+        if number != 0 {
+            let mut expected = before;
+            if number == 15 {
+                expected = before.rewritten();
+                expected.refused = value;
+            }
+            let same = sides.plain == expected;
+            let question = format_args!("{call:?}, refused: is the state as before");
             self.agree(question, Some(&before), same, true);
         }
         let earlier = Earlier(&before);
         self.compare_state(sides, format_args!("after {call:?} on {earlier:?}"));
 
-        match rust & 255 {
+        match number {
             13 | 14 if held == limit => self.kinds.meet("path at fault when full"),
             15 if refused == u32::MAX => self.kinds.meet("the count stays at its end"),
             15 if refused == u32::MAX - 1 => self.kinds.meet("the count reaches its end"),
             0 if sides.tree.held() == MOST_PACKETS => self.kinds.meet("a limit of 256 is reached"),
             _ => {}
         }
-        rust as u8
+        number
     }
 
     /// What is held, what was refused, and every queue.
     fn compare_state(&self, sides: &Sides, question: fmt::Arguments) {
-        let bytes = Some(&sides.bytes[..]);
-        let held = (sides.tree.held() as u64) << 8;
-        let rattle = rattle_queue_tree::held(&sides.bytes);
-        self.agree(format_args!("held, {question}"), bytes, rattle, held);
-        let refusals = u64::from(sides.tree.refusals()) << 8;
-        let rattle = rattle_queue_tree::refusals(&sides.bytes);
+        let plain = Some(&sides.plain);
+        let count = |value: u32| PlainAmount { number: 0, value };
+        let held = count(sides.tree.held() as u32);
+        let rattle = rattle_queue_tree::held(&sides.plain);
+        self.agree(format_args!("held, {question}"), plain, rattle, held);
+        let refusals = count(sides.tree.refusals());
+        let rattle = rattle_queue_tree::refusals(&sides.plain);
         self.agree(
             format_args!("refusals, {question}"),
-            bytes,
+            plain,
             rattle,
             refusals,
         );
         let state = Some(sides.tree.state());
-        let rattle = State::read(&sides.bytes);
-        self.agree(format_args!("state, {question}"), bytes, rattle, state);
+        let rattle = sides.plain.read();
+        self.agree(format_args!("state, {question}"), plain, rattle, state);
     }
 
     /// Every call on an ill formed state is answered by 18, whatever else is
-    /// at fault, and alters nothing.
-    fn refuses_all(&mut self, before: &[u8], steps: &[u8], kind: &str) {
-        let mut bytes = before.to_vec();
+    /// at fault, and alters nothing; so do rounds of calls.
+    fn refuses_all(&mut self, before: &PlainState, path: &PlainPath, kind: &str) {
         for (call, rattle) in [
-            ("held", rattle_queue_tree::held(&bytes)),
-            ("refusals", rattle_queue_tree::refusals(&bytes)),
-            ("push", rattle_queue_tree::push(&mut bytes, steps, 0, 0)),
-            ("pop", rattle_queue_tree::pop(&mut bytes)),
+            ("held", rattle_queue_tree::held(before)),
+            ("refusals", rattle_queue_tree::refusals(before)),
         ] {
-            let question = format_args!("{call} on a state with this damage: {kind}");
-            self.agree(question, Some(before), rattle, 18);
+            let question = format_args!("{call} on an ill formed state: {kind}");
+            let eighteen = PlainAmount {
+                number: 18,
+                value: 0,
+            };
+            self.agree(question, Some(before), rattle, eighteen);
             self.meet(18);
         }
-        let question = format_args!("bytes after calls on a state with this damage: {kind}");
-        self.agree(question, Some(before), bytes == before, true);
+        for (call, rattle) in [
+            ("push", rattle_queue_tree::push(before, path, 0)),
+            ("pop", rattle_queue_tree::pop(before)),
+        ] {
+            let question = format_args!("{call} on an ill formed state: {kind}");
+            let same = rattle.state == *before;
+            let answer = (rattle.number, rattle.value, same);
+            self.agree(question, Some(before), answer, (18, 0, true));
+            self.meet(18);
+        }
+        let churned = rattle_queue_tree::churn(before, path, path, 1);
+        let question = format_args!("is it as before after a round on an ill formed state: {kind}");
+        self.agree(question, Some(before), churned == before.rewritten(), true);
     }
 
     fn print(&self) {
@@ -623,22 +598,18 @@ impl Comparison {
     }
 }
 
-/// Makes the call on this side; its answer as one number.
-fn make(tree: &mut QueueTree, call: &Call) -> u64 {
+/// Makes the call on this side; its answer's number and value.
+fn make(tree: &mut QueueTree, call: &Call) -> (u8, u32) {
     let answer = match call {
-        Call::Push {
-            steps,
-            leaf_rank,
-            packet,
-        } => {
-            let pushed = tree.push(&read_steps(steps), *leaf_rank, *packet);
+        Call::Push { path, packet } => {
+            let pushed = tree.push(&path.steps(), path.leaf_rank, *packet);
             pushed.map(|()| 0)
         }
         Call::Pop => tree.pop(),
     };
     match answer {
-        Ok(packet) => u64::from(packet) << 8,
-        Err(Refusal::Full(count)) => 15 | u64::from(count) << 8,
-        Err(refusal) => u64::from(refusal.number()),
+        Ok(packet) => (0, packet),
+        Err(Refusal::Full(count)) => (15, count),
+        Err(refusal) => (refusal.number(), 0),
     }
 }

@@ -4,9 +4,10 @@
 use linduvar_tests::embedding::{self, read_pair};
 use linduvar_tests::generate;
 use linduvar_tests::pairs::{self, damaged_map, Drawn};
-use linduvar_tests::queue_tree::{read_steps, Step};
+use linduvar_tests::plain::MOST_STEPS;
+use linduvar_tests::queue_tree::Step;
 use linduvar_tests::random::{self, Random};
-use linduvar_tests::rattle_translator::{self, Steps, STEPS};
+use linduvar_tests::rattle_translator::{self, Steps};
 use linduvar_tests::states::{any_path, Habits, PATHS};
 use linduvar_tests::topology::{Topology, SOURCE_NODES, TARGET_NODES};
 use linduvar_tests::translator::{self, Path};
@@ -145,7 +146,7 @@ fn buffers() {
     }
     // Behind the ninth place nothing is written.
     let zeros = |mut first: Vec<u32>| {
-        first.resize(STEPS, 0);
+        first.resize(MOST_STEPS, 0);
         first
     };
     let expected = (
@@ -172,7 +173,7 @@ fn long_strings() {
             children: &[],
             ranks: &[],
         };
-        let mut room = ([UNWRITTEN; STEPS], [7; STEPS]);
+        let mut room = ([UNWRITTEN; MOST_STEPS], [7; MOST_STEPS]);
         rattle_translator::carry(source, target, map, &steps, &mut room.0, &mut room.1)
     };
     assert_eq!(call(&ones, &zeros, &zeros), 5);
@@ -328,10 +329,8 @@ impl Comparison {
 /// A path in a tree, mostly a right one, no longer than can cross.
 fn path(source: &[u8], random: &mut Random) -> (&'static str, Vec<Step>) {
     let habits = Habits::any(random);
-    let (steps, kind, _) = any_path(source, &habits, random);
-    let mut steps = read_steps(&steps);
-    steps.truncate(STEPS);
-    (kind, steps)
+    let (path, kind, _) = any_path(source, &habits, random);
+    (kind, path.steps())
 }
 
 fn pairs_of(steps: &[Step]) -> Vec<(u8, u32)> {
@@ -347,7 +346,7 @@ fn by_rattle(source: &[u8], target: &[u8], map: &[u8], steps: &[Step]) -> Answer
         children: &children,
         ranks: &ranks,
     };
-    let mut room = ([UNWRITTEN; STEPS], [7; STEPS]);
+    let mut room = ([UNWRITTEN; MOST_STEPS], [7; MOST_STEPS]);
     let answer = rattle_translator::carry(source, target, map, &steps, &mut room.0, &mut room.1);
     let length = room.0.iter().take_while(|&&child| child != 0).count();
     let rest = room.0[length..].iter().map(|&child| u32::from(child));

@@ -1,7 +1,6 @@
 //! Times the Rattle library beside Rust.
 
 mod embedding;
-#[cfg(feature = "queue_tree")]
 mod queue_tree;
 mod topology;
 #[cfg(feature = "translator")]
@@ -19,7 +18,6 @@ fn main() {
     println!("and in brackets the time of Rattle over that of Rust");
     topology::run(&mut random);
     embedding::run(&mut random);
-    #[cfg(feature = "queue_tree")]
     queue_tree::run(&mut random);
     #[cfg(feature = "translator")]
     translator::run(&mut random);

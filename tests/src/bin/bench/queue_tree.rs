@@ -1,46 +1,53 @@
 //! The queue tree: a pop and a push in turn, with some packets held.
+//!
+//! The rounds are made in one call, so that crossing the boundary, which
+//! rewrites the state, is not counted.
 
-use linduvar_tests::queue_tree::{self, write_steps, Step, MOST_PACKETS};
+use linduvar_tests::plain::{PlainPath, PlainState};
+use linduvar_tests::queue_tree::{self, QueueTree, Step, MOST_PACKETS};
 use linduvar_tests::random::Random;
 use linduvar_tests::rattle_queue_tree;
 use std::hint::black_box;
 
 const CHAINS: usize = 4;
-const CALLS: usize = 4_000;
+const CALLS: u32 = 4_000;
 const ROUNDS: usize = 10;
 
 pub fn run(random: &mut Random) {
-    println!("the queue tree, a push and a pop, the best of {ROUNDS} rounds of {CALLS}:");
+    println!("the queue tree, a pop and a push, the best of {ROUNDS} rounds of {CALLS}:");
     for depth in [1, 4, 8] {
         let chain = [vec![1; depth - 1], vec![0]].concat();
         let topology = [vec![CHAINS as u8], chain.repeat(CHAINS)].concat();
-        let steps: Vec<Step> = (0..CHAINS * depth)
-            .map(|at| Step {
-                child: if at % depth == 0 { at / depth + 1 } else { 1 } as u8,
-                rank: random.below(4) as u32,
-            })
-            .collect();
-        let steps = write_steps(&steps);
+        let path = |chain: usize, random: &mut Random| -> Vec<Step> {
+            (0..depth)
+                .map(|at| Step {
+                    child: if at == 0 { chain + 1 } else { 1 } as u8,
+                    rank: random.below(4) as u32,
+                })
+                .collect()
+        };
+        let (first, second) = (path(0, random), path(CHAINS - 1, random));
+        let plain = [PlainPath::write(&first, 1), PlainPath::write(&second, 2)];
+        let paths = [(&first[..], 1), (&second[..], 2)];
         for packets in [1, 32, MOST_PACKETS] {
-            let sum = |churn: Churn, calls| {
-                churn(
-                    black_box(&topology),
-                    MOST_PACKETS,
-                    &steps,
-                    CHAINS,
-                    packets,
-                    calls,
-                )
+            let mut tree = QueueTree::open(&topology, MOST_PACKETS).expect("a valid tree");
+            for packet in 0..packets {
+                let (rank, packet) = (random.below(7) as u32, packet as u32);
+                let steps = path(packet as usize % CHAINS, random);
+                tree.push(&steps, rank, packet).expect("a right path");
+            }
+            let state = PlainState::write(&tree.state());
+            let in_rattle = |calls: u32| {
+                rattle_queue_tree::churn(black_box(&state), &plain[0], &plain[1], calls)
             };
-            let rust = sum(queue_tree::churn, CALLS);
-            assert_eq!(sum(rattle_queue_tree::churn, CALLS), rust);
-            // The opening and the first pushes are not counted.
-            let time = |churn: Churn| {
-                let all = crate::best_of(ROUNDS, || _ = black_box(sum(churn, CALLS)));
-                let start = crate::best_of(ROUNDS, || _ = black_box(sum(churn, 0)));
-                (all - start) / CALLS as f64
+            let in_rust = |calls: u32| {
+                let mut tree = black_box(&tree).clone();
+                queue_tree::churn(&mut tree, paths, calls);
+                tree
             };
-            let (rattle, rust) = (time(rattle_queue_tree::churn), time(queue_tree::churn));
+            assert_eq!(in_rattle(CALLS).read(), Some(in_rust(CALLS).state()));
+            let rattle = time(|calls| _ = black_box(in_rattle(calls)));
+            let rust = time(|calls| _ = black_box(in_rust(calls)));
             println!(
                 "depth {depth}, {packets:3} held        Rattle {rattle:11.1}   Rust {rust:11.1} ({:.2})",
                 rattle / rust
@@ -49,4 +56,9 @@ pub fn run(random: &mut Random) {
     }
 }
 
-type Churn = fn(&[u8], usize, &[u8], usize, usize, usize) -> u64;
+/// Nanoseconds per round; what a run without rounds takes is not counted.
+fn time(run: impl Fn(u32)) -> f64 {
+    let all = crate::best_of(ROUNDS, || run(CALLS));
+    let start = crate::best_of(ROUNDS, || run(0));
+    (all - start) / f64::from(CALLS)
+}

@@ -1,9 +1,10 @@
 //! The carrying of a path, with the check of its map.
 
 use linduvar_tests::pairs;
+use linduvar_tests::plain::MOST_STEPS;
 use linduvar_tests::queue_tree::Step;
 use linduvar_tests::random::Random;
-use linduvar_tests::rattle_translator::{self, Steps, STEPS};
+use linduvar_tests::rattle_translator::{self, Steps};
 use linduvar_tests::topology::{Topology, SOURCE_NODES, TARGET_NODES};
 use linduvar_tests::translator::{self, Path};
 use std::hint::black_box;
@@ -68,7 +69,7 @@ impl Input {
             children: &self.children,
             ranks: &self.ranks,
         };
-        let mut room = ([0; STEPS], [0; STEPS]);
+        let mut room = ([0; MOST_STEPS], [0; MOST_STEPS]);
         let (source, target, map) = (&self.source, &self.target, &self.map);
         let answer =
             rattle_translator::carry(source, target, map, &steps, &mut room.0, &mut room.1);

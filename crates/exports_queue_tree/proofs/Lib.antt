@@ -1,0 +1,4 @@
+pub mod Filling
+pub mod Crossing
+pub mod Churning
+pub mod Answering

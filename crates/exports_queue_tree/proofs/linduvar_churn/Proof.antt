@@ -1,0 +1,75 @@
+-- After i rounds the state is that of i rounds.
+use borrow.Author.Needs.{needs}
+use Prim.Native.Nat.{_≤_, _-_}
+use native.Mathlib.Omega.{arith}
+use Rattle.exports_queue_tree.specs.Churn.{Churned}
+use Rattle.exports_queue_tree.proofs.Churning.{churn-none, churn-more, churn-same}
+use Rattle.exports_queue_tree.proofs.linduvar_churn.Statement.{statement}
+use Rattle.exports_queue_tree.proofs.linduvar_churn.Tie as tie
+
+abbrev Inv-loop : tie.InvT-loop
+Inv-loop rounds even odd current₀ i₀ current i = (i ≤ rounds) × Churned current₀ even odd i current
+
+abbrev μ-loop : tie.MeasureT-loop
+μ-loop rounds even odd current₀ i₀ current i = rounds - i
+
+path-of-requires : tie.Need-path-of-requires Inv-loop μ-loop
+path-of-requires c κs = search needs
+
+path-of-requires-2 : tie.Need-path-of-requires-2 Inv-loop μ-loop
+path-of-requires-2 c κs = search needs
+
+state-of-requires : tie.Need-state-of-requires Inv-loop μ-loop
+state-of-requires c κs = search needs
+
+loop-holds : tie.Need-loop-holds Inv-loop μ-loop
+loop-holds c = (omega arith, churn-none _ _ _)
+
+in-turn-requires : tie.Need-in-turn-requires Inv-loop μ-loop
+in-turn-requires c κs = search needs
+
+round-requires : tie.Need-round-requires Inv-loop μ-loop
+round-requires c κs = search needs
+
+add-i : tie.Need-add-i Inv-loop μ-loop
+add-i c = search needs
+
+loop-less : tie.Need-loop-less Inv-loop μ-loop
+loop-less c = search needs
+
+loop-again : tie.Need-loop-again Inv-loop μ-loop
+loop-again c =
+    let inside = c .before .before in
+    let loop = inside .before .loop in
+    let taken = inside .loop-test .taken in
+    (omega (arith, taken), churn-more _ _ _ _ _ _ _ (c .before .in-turn .ensures) (loop .inv .1) (c .round .ensures))
+
+plain-requires : tie.Need-plain-requires Inv-loop μ-loop
+plain-requires c κs = search needs
+
+returns : tie.Need-returns Inv-loop μ-loop
+returns c =
+    let loop = c .before .before .loop in
+    let state-of = c .before .before .before .state-of in
+    let path-of2 = c .before .before .before .before .path-of2 in
+    let path-of = c .before .before .before .before .before .path-of in
+    churn-same _ _ _ _ _ _ _ _ _ _ (state-of .ensures) (path-of .ensures) (path-of2 .ensures)
+    (omega (arith, loop .inv .0, c .before .loop-test .left)) (c .plain .ensures) (loop .inv .1)
+
+pub linduvar-churn-spec : {M : Type 1} → statement M
+linduvar-churn-spec =
+    tie.close
+    (tie.spec
+    Inv-loop
+    μ-loop
+    path-of-requires
+    path-of-requires-2
+    state-of-requires
+    loop-holds
+    in-turn-requires
+    round-requires
+    add-i
+    loop-less
+    loop-again
+    plain-requires
+    returns)

@@ -1,0 +1,27 @@
+-- The parts of the entries, put together again, are the entries.
+use borrow.Author.Needs.{needs}
+use Rattle.exports_queue_tree.proofs.Crossing.{state-back}
+use Rattle.exports_queue_tree.proofs.plain.Statement.{statement}
+use Rattle.exports_queue_tree.proofs.plain.Tie as tie
+
+ranks-of-requires : tie.Need-ranks-of-requires
+ranks-of-requires c κs = search needs
+
+tags-of-requires : tie.Need-tags-of-requires
+tags-of-requires c κs = search needs
+
+children-of-requires : tie.Need-children-of-requires
+children-of-requires c κs = search needs
+
+packets-of-requires : tie.Need-packets-of-requires
+packets-of-requires c κs = search needs
+
+returns : tie.Need-returns
+returns c =
+    state-back _ _ _ _ _ (c .before .before .before .ranks-of .ensures) (c .before .before .tags-of .ensures)
+    (c .before .children-of .ensures) (c .packets-of .ensures)
+
+pub plain-spec : {M : Type 1} → statement M
+plain-spec =
+    tie.close
+    (tie.spec ranks-of-requires tags-of-requires children-of-requires packets-of-requires returns)

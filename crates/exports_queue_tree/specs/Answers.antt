@@ -1,0 +1,48 @@
+-- Answers of the queue tree as plain numbers, and what a call on a plain state promises.
+use mathlib.Core.Path.{_≡_}
+use Prim.Native.Nat.{ℕ}
+use Rattle.topology.specs.Reader.{pick}
+use Rattle.pifo.specs.Machine.{Call, Answer, accepted, departed, refused, full, serve}
+use Rattle.queue_tree.specs.State.{machine, wellFormed}
+use Rattle.queue_tree.specs.Calls.{Serves}
+use Rattle.queue_tree.specs.declared.State.{State}
+use Rattle.queue_tree.specs.declared.Opened.{Opened}
+use Rattle.queue_tree.specs.declared.Amount.{Amount}
+use Rattle.queue_tree.specs.declared.Amount.the-variants.{Count, Refused}
+use Rattle.exports_queue_tree.specs.Plain.{stateOf}
+use Rattle.exports_queue_tree.specs.declared.PlainState.{PlainState}
+use Rattle.exports_queue_tree.specs.declared.PlainOpened.{PlainOpened}
+use Rattle.exports_queue_tree.specs.declared.PlainAmount.{PlainAmount}
+use Rattle.exports_queue_tree.specs.declared.PlainAnswer.{PlainAnswer}
+
+abbrev pub opening : PlainOpened → Opened
+opening r = record { state = stateOf (r .state); refusal = r .refusal }
+
+abbrev pub plainAmount : Amount → PlainAmount
+plainAmount (Count n) = record { number = 0; value = n }
+plainAmount (Refused n) = record { number = n; value = 0 }
+
+-- the number of a refusal, 0 where there is none
+abbrev pub numberOf : Answer ℕ → ℕ
+numberOf accepted = 0
+numberOf (departed p) = 0
+numberOf (refused n) = n
+numberOf (full c) = 15
+
+-- the packet that departs, or the new count of refusals, else 0
+abbrev pub valueOf : Answer ℕ → ℕ
+valueOf accepted = 0
+valueOf (departed p) = p
+valueOf (refused n) = 0
+valueOf (full c) = c
+
+-- what a queue tree answers to a call: as the machine does, or 18 where the state is not well formed
+unfoldable pub answered : State → Call ℕ → Answer ℕ
+answered s call = pick (wellFormed s) (serve (machine s) call .0) (refused 18)
+
+-- A call on a plain state: the answer, and the state after it; where the answer is a refusal by its number alone, the numbers that came.
+pub record Served (s : PlainState) (call : Call ℕ) (r : PlainAnswer) : Type 0 where
+  pub number : r .number ≡ numberOf (answered (stateOf s) call)
+  pub value : r .value ≡ valueOf (answered (stateOf s) call)
+  pub serves : Serves (stateOf s) call (answered (stateOf s) call) (stateOf (r .state))
+  pub same : (n : ℕ) → answered (stateOf s) call ≡ refused n → r .state ≡ s

@@ -1,0 +1,37 @@
+-- Rounds of a pop and a push, and the machine after them.
+use mathlib.Core.Path.{_≡_}
+use Prim.Native.Nat.{ℕ, zero, suc, _%_}
+use mathlib.Core.List.{List, [], _∷_}
+use mathlib.Core.Bool.{true, false}
+use lib.Dec.{eqb}
+use Rattle.topology.specs.Reader.{pick}
+use Rattle.pifo.specs.Machine.{Machine, Call, pushing, popping, after}
+use Rattle.queue_tree.specs.Arrivals.{stepsOf}
+use Rattle.queue_tree.specs.State.{machine, wellFormed}
+use Rattle.queue_tree.specs.declared.Path.{Path}
+use Rattle.queue_tree.specs.declared.State.{State}
+
+-- one round: a pop, then the packet k along a path
+abbrev pub roundOf : Path → ℕ → List (Call ℕ)
+roundOf path k = popping ∷ pushing (stepsOf path) (path .«leaf_rank») k ∷ []
+
+-- the path of round k: the first in even rounds, the second in odd ones
+abbrev pub inTurn : Path → Path → ℕ → Path
+inTurn even odd k = pick (eqb (k % 2) 0) even odd
+
+-- the machine after rounds 0 to n - 1
+unfoldable pub churned : Path → Path → Machine ℕ → ℕ → Machine ℕ
+churned even odd m zero = m
+churned even odd m (suc k) = after (churned even odd m k) (roundOf (inTurn even odd k) k)
+
+-- a round of a state: that of its machine; an ill formed state stays
+pub record Rounded (s : State) (path : Path) (k : ℕ) (r : State) : Type 0 where
+  pub machine : wellFormed s ≡ true → machine r ≡ after (machine s) (roundOf path k)
+  pub formed : wellFormed s ≡ true → wellFormed r ≡ true
+  pub ill : wellFormed s ≡ false → r ≡ s
+
+-- all rounds of a state
+pub record Churned (s : State) (even odd : Path) (n : ℕ) (r : State) : Type 0 where
+  pub machine : wellFormed s ≡ true → machine r ≡ churned even odd (machine s) n
+  pub formed : wellFormed s ≡ true → wellFormed r ≡ true
+  pub ill : wellFormed s ≡ false → r ≡ s

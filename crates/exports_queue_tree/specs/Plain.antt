@@ -1,0 +1,73 @@
+-- A state and a path as plain numbers, and what they stand for.
+use Prim.Native.Nat.{ℕ, zero, suc}
+use mathlib.Core.List.{List, [], _∷_}
+use Rattle.queue_tree.specs.declared.Item.{Item}
+use Rattle.queue_tree.specs.declared.Item.the-variants.{Child, Packet}
+use Rattle.queue_tree.specs.declared.Entry.{Entry}
+use Rattle.queue_tree.specs.declared.Step.{Step}
+use Rattle.queue_tree.specs.declared.Path.{Path}
+use Rattle.queue_tree.specs.declared.State.{State}
+use Rattle.exports_queue_tree.specs.declared.PlainState.{PlainState}
+use Rattle.exports_queue_tree.specs.declared.PlainPath.{PlainPath}
+
+-- a tag, a child and a packet as one item: the child where the tag is 0
+abbrev pub itemFrom : ℕ → ℕ → ℕ → Item
+itemFrom zero c p = Child c
+itemFrom (suc t) c p = Packet p
+
+abbrev pub entryFrom : ℕ → ℕ → ℕ → ℕ → Entry
+entryFrom r t c p = record { rank = r; item = itemFrom t c p }
+
+-- the entries, one from each place of the four lists
+abbrev pub entriesFrom : List ℕ → List ℕ → List ℕ → List ℕ → List Entry
+entriesFrom [] ts cs ps = []
+entriesFrom (r ∷ rs) [] cs ps = []
+entriesFrom (r ∷ rs) (t ∷ ts) [] ps = []
+entriesFrom (r ∷ rs) (t ∷ ts) (c ∷ cs) [] = []
+entriesFrom (r ∷ rs) (t ∷ ts) (c ∷ cs) (p ∷ ps) = entryFrom r t c p ∷ entriesFrom rs ts cs ps
+
+unfoldable pub stateOf : PlainState → State
+stateOf s =
+    record {
+      topology = s .topology;
+      nodes = s .nodes;
+      limit = s .limit;
+      refused = s .refused;
+      owners = s .owners;
+      entries = entriesFrom (s .ranks) (s .tags) (s .children) (s .packets);
+      used = s .used;
+    }
+
+-- the parts of an entry
+abbrev pub rankOf : Entry → ℕ
+rankOf e = e .rank
+
+abbrev pub itemTag : Item → ℕ
+itemTag (Child c) = 0
+itemTag (Packet p) = 1
+
+abbrev pub itemChild : Item → ℕ
+itemChild (Child c) = c
+itemChild (Packet p) = 0
+
+abbrev pub itemPacket : Item → ℕ
+itemPacket (Child c) = 0
+itemPacket (Packet p) = p
+
+abbrev pub tagOf : Entry → ℕ
+tagOf e = itemTag (e .item)
+
+abbrev pub childOf : Entry → ℕ
+childOf e = itemChild (e .item)
+
+abbrev pub packetOf : Entry → ℕ
+packetOf e = itemPacket (e .item)
+
+-- the steps, one from each place of the two lists
+abbrev pub stepsFrom : List ℕ → List ℕ → List Step
+stepsFrom [] rs = []
+stepsFrom (c ∷ cs) [] = []
+stepsFrom (c ∷ cs) (r ∷ rs) = record { child = c; rank = r } ∷ stepsFrom cs rs
+
+unfoldable pub pathOf : PlainPath → Path
+pathOf p = record { steps = stepsFrom (p .children) (p .ranks); count = p .count; «leaf_rank» = p .«leaf_rank» }

@@ -1,0 +1,179 @@
+//! A queue tree's states, paths and answers as they cross the boundary to the
+//! Rattle library: plain numbers, laid out as C does.
+
+use crate::queue_tree::{Entry, Item, State, Step, MOST_ENTRIES};
+use crate::topology::TARGET_NODES;
+
+/// A path has room for one step more than the deepest tree takes.
+pub const MOST_STEPS: usize = 9;
+
+/// Entry `i` has the rank `ranks[i]`; where `tags[i]` is 0 it is the child
+/// `children[i]`, else the packet `packets[i]`.
+#[repr(C)]
+#[derive(Clone, Copy, Debug, PartialEq, Eq)]
+pub struct PlainState {
+    pub topology: [u8; TARGET_NODES],
+    pub nodes: usize,
+    pub limit: usize,
+    pub refused: u32,
+    pub owners: [u8; MOST_ENTRIES],
+    pub ranks: [u32; MOST_ENTRIES],
+    pub tags: [u8; MOST_ENTRIES],
+    pub children: [u8; MOST_ENTRIES],
+    pub packets: [u32; MOST_ENTRIES],
+    pub used: usize,
+}
+
+#[repr(C)]
+#[derive(Clone, Copy, Debug)]
+pub struct PlainPath {
+    pub children: [u8; MOST_STEPS],
+    pub ranks: [u32; MOST_STEPS],
+    pub count: usize,
+    pub leaf_rank: u32,
+}
+
+/// 0 and the empty tree, or the refusal and a state that is not well formed.
+#[repr(C)]
+#[derive(Clone, Copy)]
+pub struct PlainOpened {
+    pub state: PlainState,
+    pub refusal: u8,
+}
+
+/// 0 or the refusal, with the packet that departs or the refusals counted.
+#[repr(C)]
+#[derive(Clone, Copy)]
+pub struct PlainAnswer {
+    pub state: PlainState,
+    pub number: u8,
+    pub value: u32,
+}
+
+/// 0 or the refusal, with a count.
+#[repr(C)]
+#[derive(Clone, Copy, Debug, PartialEq, Eq)]
+pub struct PlainAmount {
+    pub number: u8,
+    pub value: u32,
+}
+
+impl PlainState {
+    /// The state, the queue of node 0 first and so on.
+    pub fn write(state: &State) -> PlainState {
+        let mut plain = PlainState {
+            topology: [0; TARGET_NODES],
+            nodes: state.queues.len(),
+            limit: state.limit,
+            refused: state.refused,
+            owners: [0; MOST_ENTRIES],
+            ranks: [0; MOST_ENTRIES],
+            tags: [0; MOST_ENTRIES],
+            children: [0; MOST_ENTRIES],
+            packets: [0; MOST_ENTRIES],
+            used: 0,
+        };
+        plain.topology[..state.topology.len()].copy_from_slice(&state.topology);
+        for (node, queue) in state.queues.iter().enumerate() {
+            for entry in queue {
+                plain
+                    .append(node as u8, entry)
+                    .expect("room for each entry");
+            }
+        }
+        plain
+    }
+
+    /// None if there are more nodes or entries than there can be, or an entry
+    /// at a node that is not there.
+    pub fn read(&self) -> Option<State> {
+        if self.nodes > TARGET_NODES || self.used > MOST_ENTRIES {
+            return None;
+        }
+        let mut queues = vec![Vec::new(); self.nodes];
+        for at in 0..self.used {
+            let queue = queues.get_mut(usize::from(self.owners[at]))?;
+            queue.push(self.entry(at));
+        }
+        Some(State {
+            topology: self.topology[..self.nodes].to_vec(),
+            limit: self.limit,
+            refused: self.refused,
+            queues,
+        })
+    }
+
+    pub fn entry(&self, at: usize) -> Entry {
+        let item = match self.tags[at] {
+            0 => Item::Child(self.children[at]),
+            _ => Item::Packet(self.packets[at]),
+        };
+        Entry {
+            rank: self.ranks[at],
+            item,
+        }
+    }
+
+    pub fn set(&mut self, at: usize, owner: u8, entry: &Entry) {
+        self.owners[at] = owner;
+        self.ranks[at] = entry.rank;
+        (self.tags[at], self.children[at], self.packets[at]) = match entry.item {
+            Item::Child(child) => (0, child, 0),
+            Item::Packet(packet) => (1, 0, packet),
+        };
+    }
+
+    /// Adds an entry behind all others; None if there is no room.
+    pub fn append(&mut self, owner: u8, entry: &Entry) -> Option<()> {
+        if self.used == MOST_ENTRIES {
+            return None;
+        }
+        self.set(self.used, owner, entry);
+        self.used += 1;
+        Some(())
+    }
+
+    /// Takes an entry out.
+    pub fn remove(&mut self, at: usize) {
+        for behind in at + 1..self.used {
+            self.set(behind - 1, self.owners[behind], &self.entry(behind));
+        }
+        self.used -= 1;
+    }
+
+    /// The same with every entry written anew, those behind the last included:
+    /// what the library gives back where a call altered the state.
+    pub fn rewritten(&self) -> PlainState {
+        let mut plain = *self;
+        for at in 0..MOST_ENTRIES {
+            plain.set(at, self.owners[at], &self.entry(at));
+        }
+        plain
+    }
+}
+
+impl PlainPath {
+    /// Only the first nine steps of a longer path.
+    pub fn write(steps: &[Step], leaf_rank: u32) -> PlainPath {
+        let mut path = PlainPath {
+            children: [0; MOST_STEPS],
+            ranks: [0; MOST_STEPS],
+            count: steps.len().min(MOST_STEPS),
+            leaf_rank,
+        };
+        for (at, step) in steps.iter().take(MOST_STEPS).enumerate() {
+            path.children[at] = step.child;
+            path.ranks[at] = step.rank;
+        }
+        path
+    }
+
+    /// A count above nine reads as nine.
+    pub fn steps(&self) -> Vec<Step> {
+        let steps = self.children.iter().zip(&self.ranks);
+        steps
+            .take(self.count)
+            .map(|(&child, &rank)| Step { child, rank })
+            .collect()
+    }
+}
