@@ -29,9 +29,8 @@ fn main() {
         let mut full = false;
         for list in 0..LISTS_A_LIMIT {
             let drawn = pairs::embedded(&mut random, SOURCE_NODES, TARGET_NODES);
-            let map = drawn.map.as_deref().expect("a pair made from a map");
-            shared += usize::from(pairs::shares_a_node(&drawn.target, map));
-            let mut trees = Trees::open(&drawn, limit);
+            let mut trees = Trees::open(drawn, limit);
+            shared += usize::from(pairs::shares_a_node(&trees.target, &trees.map));
             // Every other list fills the trees first.
             let pushes = if list % 2 == 0 { 2 * limit + 10 } else { 0 };
             for answer in trees.calls(pushes, limit + 20, &mut random) {
@@ -58,34 +57,30 @@ fn main() {
 
 /// Two trees of the library and two of the second implementation.
 struct Trees {
-    drawn: Drawn,
+    drawing: Vec<u8>,
+    target: Vec<u8>,
+    map: Vec<u8>,
     source: PlainState,
     chip: PlainState,
     rust: BothTrees,
 }
 
 impl Trees {
-    fn open(drawn: &Drawn, limit: usize) -> Trees {
-        let Drawn {
-            source,
-            target,
-            map,
-        } = drawn;
-        let map = map.as_ref().expect("a pair made from a map");
+    fn open(drawn: Drawn, limit: usize) -> Trees {
+        let map = drawn.map.expect("a pair made from a map");
         let state = |topology: &[u8]| {
             let opened = rattle::open(topology, limit);
             assert_eq!(opened.refusal, 0);
             opened.state
         };
+        let both = BothTrees::open(&drawn.source, &drawn.target, &map, limit);
         let trees = Trees {
-            source: state(source),
-            chip: state(target),
-            rust: BothTrees::open(source, target, map, limit).expect("a right map"),
-            drawn: Drawn {
-                source: source.clone(),
-                target: target.clone(),
-                map: Some(map.clone()),
-            },
+            source: state(&drawn.source),
+            chip: state(&drawn.target),
+            rust: both.expect("a right map"),
+            drawing: drawn.source,
+            target: drawn.target,
+            map,
         };
         trees.compare_counts();
         trees
@@ -111,7 +106,7 @@ impl Trees {
     }
 
     fn push(&mut self, habits: &Habits, random: &mut Random) -> Answer {
-        let (path, _, _) = any_path(&self.drawn.source, habits, random);
+        let (path, _, _) = any_path(&self.drawing, habits, random);
         let (leaf_rank, packet) = (path.leaf_rank, habits.packet(random));
         let source = taken(&mut self.source, |state| rattle::push(state, &path, packet));
         let steps = path.steps();
@@ -150,12 +145,7 @@ impl Trees {
             ranks: &ranks,
         };
         let mut room = ([0; MOST_STEPS], [0; MOST_STEPS]);
-        let Drawn {
-            source,
-            target,
-            map,
-        } = &self.drawn;
-        let map = map.as_deref().unwrap_or_default();
+        let (source, target, map) = (&self.drawing, &self.target, &self.map);
         match rattle_translator::carry(source, target, map, &steps, &mut room.0, &mut room.1) {
             0 => Ok(room
                 .0
@@ -184,15 +174,13 @@ impl Trees {
 
     /// The one answer of all.
     fn compare(&self, what: &str, source: Answer, chip: Answer, rust: Answer) -> Answer {
-        let Drawn {
-            source: drawing,
-            target,
-            map,
-        } = &self.drawn;
         assert!(
             source == rust && chip == rust,
-            "a difference: {what}\n  source {drawing:?}\n  target {target:?}\n  map {map:?}\n  \
-             Rattle, source {source:?}\n  Rattle, chip   {chip:?}\n  Rust           {rust:?}"
+            "a difference: {what}\n  source {:?}\n  target {:?}\n  map {:?}\n  \
+             Rattle, source {source:?}\n  Rattle, chip   {chip:?}\n  Rust           {rust:?}",
+            self.drawing,
+            self.target,
+            self.map
         );
         rust
     }
