@@ -1,15 +1,28 @@
 //! A second implementation of the topology reader, of the search with its map
-//! check and of the queue tree, written from the paper, and what it takes to
-//! compare them with those proved in Rattle.
+//! check, of the queue tree, of the carrying of a path and of gatewalk, written
+//! from the paper, and what it takes to compare them with those proved in
+//! Rattle. The last two wait for the Rattle side: see Cargo.toml.
 
+pub mod both_trees;
+pub mod commands;
 pub mod embedding;
+pub mod gatewalk;
 pub mod generate;
+pub mod laborious;
 pub mod pairs;
+pub mod paper;
 pub mod plain;
 pub mod queue_tree;
 pub mod random;
 pub mod rattle;
 pub mod rattle_embedding;
 pub mod rattle_queue_tree;
+#[cfg(feature = "translator")]
+pub mod rattle_translator;
+pub mod reached;
+pub mod samples;
+pub mod script;
+pub mod scripts;
 pub mod states;
 pub mod topology;
+pub mod translator;

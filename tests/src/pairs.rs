@@ -1,5 +1,6 @@
-//! Random pairs of a source and a target.
+//! Random pairs of a source and a target, and maps that may be damaged.
 
+use crate::embedding::Pair;
 use crate::generate::{self, SHAPES};
 use crate::random::Random;
 use crate::topology::{Topology, MOST_CHILDREN, MOST_STEPS_DOWN, TARGET_NODES};
@@ -66,8 +67,8 @@ pub fn embedded(random: &mut Random, source_nodes: usize, target_nodes: usize) -
 /// A tree around `source`, of `nodes` nodes where there is room for them, and
 /// the map from one into the other.
 ///
-/// New nodes come between a node and its child, or as new children of inner
-/// nodes; in the end the children of every node are shuffled.
+/// New nodes come between a node and one or more of its children, or as new
+/// children of inner nodes; in the end the children of every node are shuffled.
 pub fn grown(random: &mut Random, source: &[u8], nodes: usize) -> (Vec<u8>, Vec<u8>) {
     let source = Topology::read(source, TARGET_NODES).expect("a valid tree");
     let mut tree = Growing {
@@ -94,9 +95,14 @@ pub fn grown(random: &mut Random, source: &[u8], nodes: usize) -> (Vec<u8>, Vec<
             }
         } else if !children.is_empty() {
             let at = random.below(children.len());
-            if depth + 2 + tree.height(children[at]) <= MOST_STEPS_DOWN {
-                tree.children_of[parent][at] = size;
-                tree.children_of.push(vec![children[at]]);
+            let together = random.one_in(2);
+            let (below, beside): (Vec<usize>, Vec<usize>) = children
+                .iter()
+                .partition(|&&child| child == children[at] || together && random.one_in(2));
+            let height = below.iter().map(|&child| tree.height(child)).max();
+            if depth + 2 + height.unwrap_or(0) <= MOST_STEPS_DOWN {
+                tree.children_of[parent] = [beside, vec![size]].concat();
+                tree.children_of.push(below);
             }
         }
     }
@@ -145,4 +151,70 @@ impl Growing {
             self.preorder(child, order);
         }
     }
+}
+
+/// Whether some target node that is no image has images below two of its
+/// children: there the ranks of carried steps decide.
+pub fn shares_a_node(target: &[u8], map: &[u8]) -> bool {
+    let target = Topology::read(target, TARGET_NODES).expect("a valid tree");
+    let has_image = |&&node: &&usize| {
+        let mut images = map.iter();
+        images.any(|&image| target.is_above(node, usize::from(image)))
+    };
+    (0..target.node_count())
+        .filter(|&node| !map.contains(&(node as u8)))
+        .any(|node| target.children(node).iter().filter(has_image).count() > 1)
+}
+
+/// A list that may be a map, made from one that is.
+pub fn damaged_map(right: &[u8], pair: &Pair, random: &mut Random) -> Vec<u8> {
+    let mut map = right.to_vec();
+    let (nodes, places) = (pair.source.node_count(), pair.target.node_count());
+    let any_node = random.below(nodes);
+    let node = random.pick(&[any_node, any_node, any_node, nodes - 1]);
+    let unused: Vec<u8> = (0..places as u8)
+        .filter(|place| !map.contains(place))
+        .collect();
+    let inside: Vec<u8> = unused
+        .iter()
+        .copied()
+        .filter(|&place| pair.target.child_count(usize::from(place)) > 0)
+        .collect();
+    match random.below(9) {
+        0 => map.truncate(node),
+        1 => {
+            for _ in 0..random.within(1..=3) {
+                map.push(random.below(places) as u8);
+            }
+        }
+        2 => {
+            let anything = random.below(256) as u8;
+            map[node] = random.pick(&[places as u8, places as u8 + 1, anything, 255]);
+        }
+        3 => map[node] = map[random.below(nodes)],
+        4 if !unused.is_empty() => map[0] = random.pick(&unused),
+        5 if !inside.is_empty() => {
+            // A leaf sent inside: the first at or after the node.
+            let leaf = (node..nodes).find(|&leaf| pair.source.child_count(leaf) == 0);
+            map[leaf.expect("the last node is a leaf")] = random.pick(&inside);
+        }
+        6 if !unused.is_empty() => {
+            let any = random.pick(&unused);
+            map[node] = random.pick(&[any, any, any, unused[unused.len() - 1]]);
+        }
+        7 if usize::from(map[node]) < places => {
+            // An inner node is moved up, over its siblings if there are any.
+            let image = usize::from(map[node]);
+            let over: Vec<u8> = unused
+                .iter()
+                .copied()
+                .filter(|&place| pair.target.is_above(usize::from(place), image))
+                .collect();
+            if pair.source.child_count(node) > 0 && !over.is_empty() {
+                map[node] = random.pick(&over);
+            }
+        }
+        _ => map.swap(node, random.below(nodes)),
+    }
+    map
 }

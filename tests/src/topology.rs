@@ -80,6 +80,10 @@ impl Topology {
         &self.nodes[node].children
     }
 
+    pub fn parent(&self, node: usize) -> Option<usize> {
+        self.nodes[node].parent
+    }
+
     /// How many steps `node` lies below the root.
     pub fn depth(&self, node: usize) -> usize {
         match self.nodes[node].parent {

@@ -1,8 +1,8 @@
 //! Puts the same pairs and maps to the Rattle library and to the second
 //! implementation. The first difference ends the run.
 
-use linduvar_tests::embedding::{self, read_pair, Pair};
-use linduvar_tests::pairs::{self, Drawn};
+use linduvar_tests::embedding::{self, read_pair};
+use linduvar_tests::pairs::{self, damaged_map, Drawn};
 use linduvar_tests::random::Random;
 use linduvar_tests::topology::{SOURCE_NODES, TARGET_NODES};
 use linduvar_tests::{generate, random, rattle_embedding};
@@ -276,59 +276,6 @@ fn random_pairs(seed: u64) {
     }
     comparison.print("and damaged ones");
     comparison.require_every_answer();
-}
-
-/// A list that may be a map, made from one that is.
-fn damaged_map(right: &[u8], pair: &Pair, random: &mut Random) -> Vec<u8> {
-    let mut map = right.to_vec();
-    let (nodes, places) = (pair.source.node_count(), pair.target.node_count());
-    let any_node = random.below(nodes);
-    let node = random.pick(&[any_node, any_node, any_node, nodes - 1]);
-    let unused: Vec<u8> = (0..places as u8)
-        .filter(|place| !map.contains(place))
-        .collect();
-    let inside: Vec<u8> = unused
-        .iter()
-        .copied()
-        .filter(|&place| pair.target.child_count(usize::from(place)) > 0)
-        .collect();
-    match random.below(9) {
-        0 => map.truncate(node),
-        1 => {
-            for _ in 0..random.within(1..=3) {
-                map.push(random.below(places) as u8);
-            }
-        }
-        2 => {
-            let anything = random.below(256) as u8;
-            map[node] = random.pick(&[places as u8, places as u8 + 1, anything, 255]);
-        }
-        3 => map[node] = map[random.below(nodes)],
-        4 if !unused.is_empty() => map[0] = random.pick(&unused),
-        5 if !inside.is_empty() => {
-            // A leaf sent inside: the first at or after the node.
-            let leaf = (node..nodes).find(|&leaf| pair.source.child_count(leaf) == 0);
-            map[leaf.expect("the last node is a leaf")] = random.pick(&inside);
-        }
-        6 if !unused.is_empty() => {
-            let any = random.pick(&unused);
-            map[node] = random.pick(&[any, any, any, unused[unused.len() - 1]]);
-        }
-        7 if usize::from(map[node]) < places => {
-            // An inner node is moved up, over its siblings if there are any.
-            let image = usize::from(map[node]);
-            let over: Vec<u8> = unused
-                .iter()
-                .copied()
-                .filter(|&place| pair.target.is_above(usize::from(place), image))
-                .collect();
-            if pair.source.child_count(node) > 0 && !over.is_empty() {
-                map[node] = random.pick(&over);
-            }
-        }
-        _ => map.swap(node, random.below(nodes)),
-    }
-    map
 }
 
 /// Asks both sides, and counts how often each answer was met.

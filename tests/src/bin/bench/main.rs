@@ -3,6 +3,10 @@
 mod embedding;
 mod queue_tree;
 mod topology;
+#[cfg(feature = "translator")]
+mod translator;
+#[cfg(feature = "gatewalk")]
+mod whole_scripts;
 
 use linduvar_tests::random::{self, Random};
 use std::time::Instant;
@@ -15,6 +19,10 @@ fn main() {
     topology::run(&mut random);
     embedding::run(&mut random);
     queue_tree::run(&mut random);
+    #[cfg(feature = "translator")]
+    translator::run(&mut random);
+    #[cfg(feature = "gatewalk")]
+    whole_scripts::run();
 }
 
 /// Nanoseconds that the fastest of some rounds took.

@@ -1,0 +1,125 @@
+//! The longest scripts with the most work in them, to be timed.
+
+use crate::commands::{opening, push_along, Command, POP};
+use crate::queue_tree::{Step, MOST_PACKETS};
+use crate::script::SCRIPT_BYTES;
+
+/// The scripts with their names.
+pub fn scripts() -> Vec<(&'static str, Vec<u8>)> {
+    let alone = opening(&[0], &[0], MOST_PACKETS);
+    let lane = opening(&[1, 0], &chain(), MOST_PACKETS);
+    let deep = opening(&chain(), &chain(), MOST_PACKETS);
+    let lanes = opening(&[1, 0], &chains(), MOST_PACKETS);
+    let chip = opening(&[1, 0], &full_chip(), MOST_PACKETS);
+    let pop = |_: u32| vec![POP];
+    vec![
+        ("pops of an empty tree", filled(&alone, 0, &[], pop)),
+        ("pops of empty trees, 2 in 64", filled(&chip, 0, &[], pop)),
+        ("push, pop, one node", filled(&alone, 0, &[], push_pop(&[]))),
+        (
+            "push, pop, one node, full",
+            filled(&alone, 255, &[], push_pop(&[])),
+        ),
+        (
+            "pushes, one node, full",
+            filled(&alone, 256, &[], level(&[])),
+        ),
+        (
+            "push, pop, 8 steps, full",
+            filled(&deep, 255, &[1; 8], push_pop(&[1; 8])),
+        ),
+        (
+            "push, pop, 1 step in 8, full",
+            filled(&lane, 255, &[1], push_pop(&[1])),
+        ),
+        (
+            "the same, 2 nodes in 57",
+            filled(&lanes, 255, &[1], push_pop(&[1])),
+        ),
+        (
+            "pushes, 1 step in 8, full",
+            filled(&lane, 256, &[1], level(&[1])),
+        ),
+        (
+            "filled and emptied, 1 step in 8",
+            filled(&lane, 0, &[1], fill_and_empty),
+        ),
+        (
+            "8 steps to each push",
+            filled(&deep, 0, &[1; 8], level(&[1; 8])),
+        ),
+        (
+            "8 steps to each push, all refused",
+            filled(&lane, 0, &[1], level(&[1; 8])),
+        ),
+        ("a hard search", hard_search()),
+    ]
+}
+
+/// An opening, some packets, and turns of one kind up to the longest script.
+fn filled(
+    opening: &[Command],
+    packets: u32,
+    path: &[u8],
+    turn: impl Fn(u32) -> Vec<u8>,
+) -> Vec<u8> {
+    let mut script = opening.concat();
+    script.extend((0..packets).flat_map(level(path)));
+    for number in 0.. {
+        let next = turn(number);
+        if script.len() + next.len() > SCRIPT_BYTES {
+            break;
+        }
+        script.extend(next);
+    }
+    script
+}
+
+/// A push, all ranks alike.
+fn level(path: &[u8]) -> impl Fn(u32) -> Vec<u8> + '_ {
+    |turn| push(path, turn, 5)
+}
+
+/// A push whose ranks are below all before, and a pop of what it pushed.
+fn push_pop(path: &[u8]) -> impl Fn(u32) -> Vec<u8> + '_ {
+    |turn| [push(path, turn, 0), vec![POP]].concat()
+}
+
+/// 256 pushes, then three pops for each, and again.
+fn fill_and_empty(turn: u32) -> Vec<u8> {
+    match turn % 1024 < 256 {
+        true => push(&[1], turn, turn % 3),
+        false => vec![POP],
+    }
+}
+
+fn push(path: &[u8], packet: u32, rank: u32) -> Vec<u8> {
+    let steps: Vec<Step> = path.iter().map(|&child| Step { child, rank }).collect();
+    push_along(&steps, packet, rank).concat()
+}
+
+/// Eight steps down to one leaf.
+fn chain() -> Vec<u8> {
+    [vec![1; 8], vec![0]].concat()
+}
+
+/// Seven ways of eight steps.
+fn chains() -> Vec<u8> {
+    [vec![7], chain()[1..].repeat(7)].concat()
+}
+
+/// 64 nodes: one way of eight steps, and fans beside it.
+fn full_chip() -> Vec<u8> {
+    [vec![8], chain()[1..].to_vec(), fan(7).repeat(6), fan(6)].concat()
+}
+
+fn fan(children: u8) -> Vec<u8> {
+    [vec![children], vec![0; usize::from(children)]].concat()
+}
+
+/// Eight children a node, 32 nodes into 64, and no map.
+fn hard_search() -> Vec<u8> {
+    let source = [vec![8], fan(8), fan(8), fan(7), vec![0; 5]].concat();
+    let target = [vec![8], fan(7).repeat(6), fan(8), vec![1; 5], vec![0]].concat();
+    opening(&source, &target, 1).concat()
+}

@@ -1,0 +1,150 @@
+//! The paper's own examples as scripts, and some worked by hand from its
+//! words, each with its whole output.
+
+use crate::commands::{limit, opening, push, source_node, step, target_node, OPEN, POP};
+
+pub fn scripts() -> Vec<(Vec<u8>, String)> {
+    let mut scripts = vec![
+        (Vec::new(), String::new()),
+        (EXAMPLE.to_vec(), EXAMPLE_OUTPUT.to_string()),
+        later_first(),
+    ];
+    scripts.extend(pairs());
+    scripts.extend(topologies());
+    scripts.extend(worked_by_hand());
+    scripts
+}
+
+/// The script of 86 bytes.
+pub const EXAMPLE: [u8; 86] = [
+    0x01, 0x03, 0x01, 0x00, 0x01, 0x00, 0x01, 0x00, 0x02, 0x02, 0x02, 0x02, 0x02, 0x00, 0x02, 0x00,
+    0x02, 0x00, 0x03, 0x00, 0x02, 0x04, 0x05, 0x03, 0x00, 0x00, 0x00, 0x05, 0x06, 0x00, 0x00, 0x00,
+    0x0A, 0x00, 0x00, 0x00, 0x00, 0x05, 0x01, 0x00, 0x00, 0x00, 0x05, 0x06, 0x00, 0x00, 0x00, 0x0B,
+    0x00, 0x00, 0x00, 0x00, 0x05, 0x02, 0x00, 0x00, 0x00, 0x03, 0x06, 0x00, 0x00, 0x00, 0x0C, 0x00,
+    0x00, 0x00, 0x00, 0x07, 0x05, 0x02, 0x00, 0x00, 0x00, 0x03, 0x06, 0x00, 0x00, 0x00, 0x0C, 0x00,
+    0x00, 0x00, 0x00, 0x07, 0x07, 0x07,
+];
+
+pub const EXAMPLE_OUTPUT: &str = "\
+map 0 2 3 4
+in 1
+in 2
+no 15 58
+out 0000000A
+in 2
+out 0000000C
+out 0000000B
+no 16 85
+";
+
+/// Two packets down child 1 of 1 0: the later leaves first.
+fn later_first() -> (Vec<u8>, String) {
+    let mut script = opening(&[1, 0], &[1, 0], 2);
+    script.extend([step(1, 1), push(100, 9), step(1, 4), push(200, 2)]);
+    script.extend([vec![POP], vec![POP]]);
+    let printed = "map 0 1\nin 1\nin 2\nout 000000C8\nout 00000064\n";
+    (script.concat(), printed.to_string())
+}
+
+/// The pairs, as openings; 04 stands after 2 bytes for each node and 3 more.
+fn pairs() -> Vec<(Vec<u8>, String)> {
+    let pair = |source: &[u8], target: &[u8], map: &str| {
+        let offset = 2 * (source.len() + target.len()) + 3;
+        let printed = match map {
+            "12" => format!("no 12 {offset}\n"),
+            _ => format!("map {map}\n"),
+        };
+        (opening(source, target, 1).concat(), printed)
+    };
+    vec![
+        pair(&[3, 0, 0, 0], &[2, 2, 0, 0, 0], "0 2 3 4"),
+        pair(&[2, 2, 0, 0, 0], &[3, 0, 0, 0], "12"),
+        pair(&[2, 0, 2, 0, 0], &[2, 2, 0, 0, 2, 0, 0], "0 2 4 5 6"),
+        pair(&[2, 3, 0, 0, 0, 0], &[2, 2, 0, 0, 2, 0, 0], "12"),
+        pair(&[0], &[0], "0"),
+        pair(&[0], &[1, 0], "12"),
+        pair(&[1, 0], &[1, 1, 0], "0 2"),
+        pair(&[1, 1, 0], &[1, 0], "12"),
+    ]
+}
+
+/// The topologies, as sources and as targets.
+fn topologies() -> Vec<(Vec<u8>, String)> {
+    let nine = [vec![1; 8], vec![0]].concat();
+    let ten = [vec![1; 9], vec![0]].concat();
+    let faults: [(&[u8], u8); 5] = [(&[], 1), (&[2, 0], 1), (&[0, 0], 2), (&[9], 4), (&ten, 5)];
+    let mut scripts = vec![(
+        opening(&nine, &nine, 1).concat(),
+        "map 0 1 2 3 4 5 6 7 8\n".to_string(),
+    )];
+    for (bytes, refusal) in faults {
+        let printed = format!("no {refusal} {}\n", 2 * (bytes.len() + 1) + 3);
+        scripts.push((opening(bytes, &[0], 1).concat(), printed.clone()));
+        scripts.push((opening(&[0], bytes, 1).concat(), printed));
+    }
+    scripts
+}
+
+/// What is tested first where two things are wrong, and what a refusal or a
+/// pop leaves.
+fn worked_by_hand() -> Vec<(Vec<u8>, String)> {
+    let cut = |command: &[u8]| command[..command.len() - 1].to_vec();
+    let opened = opening(&[0], &[0], 1).concat();
+    let after = |command: &[u8]| [&opened[..], command].concat();
+    let script = |script: Vec<u8>, printed: &str| (script, printed.to_string());
+    vec![
+        // The source before the target, and both before 12, that before 17.
+        script(opening(&[2, 0], &[0, 0], 0).concat(), "no 1 11\n"),
+        script(opening(&[0], &[0, 0], 0).concat(), "no 2 9\n"),
+        script(opening(&[0], &[1, 0], 0).concat(), "no 12 9\n"),
+        script(opening(&[0], &[0], 0).concat(), "no 17 7\n"),
+        script(opening(&[0], &[0], 257).concat(), "no 17 7\n"),
+        // 21 before 22.
+        script(cut(&push(1, 1)), "no 21 0\n"),
+        script(cut(&step(1, 1)), "no 21 0\n"),
+        script([limit(1), cut(&limit(1))].concat(), "no 21 3\n"),
+        script(after(&cut(&source_node(0))), "map 0\nno 21 8\n"),
+        script(after(&cut(&target_node(0))), "map 0\nno 21 8\n"),
+        script(
+            after(&[step(1, 1).repeat(8), cut(&step(1, 1))].concat()),
+            "map 0\nno 21 56\n",
+        ),
+        // 13 and 14 before 15, and each leaves the tree as it was.
+        script(
+            after(
+                &[
+                    push(7, 0),
+                    step(1, 0),
+                    push(8, 0),
+                    push(9, 0),
+                    vec![POP, POP],
+                ]
+                .concat(),
+            ),
+            "map 0\nin 1\nno 13 23\nno 15 32\nout 00000007\nno 16 42\n",
+        ),
+        script(
+            [
+                opening(&[1, 0], &[1, 0], 1),
+                vec![step(1, 0), push(7, 0), push(8, 0)],
+            ]
+            .concat()
+            .concat(),
+            "map 0 1\nin 1\nno 14 27\n",
+        ),
+        // A pop leaves the steps that were gathered.
+        script(
+            [
+                opening(&[1, 0], &[1, 0], 1),
+                vec![step(1, 0), vec![POP], push(7, 0), vec![POP]],
+            ]
+            .concat()
+            .concat(),
+            "map 0 1\nno 16 18\nin 1\nout 00000007\n",
+        ),
+        // Nothing is read behind a refusal that stops.
+        script(vec![OPEN, 0x01, 0x00], "no 22 0\n"),
+        script(vec![0x00, 0x06], "no 20 0\n"),
+        script(vec![0x08], "no 20 0\n"),
+    ]
+}

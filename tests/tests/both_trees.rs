@@ -1,0 +1,207 @@
+//! Whole lists of calls over both trees, at every limit: the library's source
+//! tree and its chip tree behind carried paths, beside the second
+//! implementation's. The first difference ends the run.
+
+use linduvar_tests::both_trees::BothTrees;
+use linduvar_tests::pairs::{self, Drawn};
+use linduvar_tests::plain::{PlainAmount, PlainAnswer, PlainPath, PlainState, MOST_STEPS};
+use linduvar_tests::queue_tree::{Refusal, Step, MOST_PACKETS};
+use linduvar_tests::random::{self, Random};
+use linduvar_tests::rattle_queue_tree as rattle;
+use linduvar_tests::rattle_translator::{self, Steps};
+use linduvar_tests::states::{any_path, Habits};
+use linduvar_tests::topology::{SOURCE_NODES, TARGET_NODES};
+use linduvar_tests::translator::Path;
+use std::collections::BTreeMap;
+
+const LISTS_A_LIMIT: usize = 2;
+
+/// Each answer must be met this often.
+const OFTEN_ENOUGH: usize = 50;
+
+fn main() {
+    let seed = random::seed();
+    println!("seed {seed} (LINDUVAR_SEED={seed} repeats this run)");
+    let mut random = Random::new(seed);
+    let mut answers = BTreeMap::new();
+    let (mut lists, mut calls, mut shared) = (0, 0, 0);
+    for limit in 1..=MOST_PACKETS {
+        let mut full = false;
+        for list in 0..LISTS_A_LIMIT {
+            let drawn = pairs::embedded(&mut random, SOURCE_NODES, TARGET_NODES);
+            let mut trees = Trees::open(drawn, limit);
+            shared += usize::from(pairs::shares_a_node(&trees.target, &trees.map));
+            // Every other list fills the trees first.
+            let pushes = if list % 2 == 0 { 2 * limit + 10 } else { 0 };
+            for answer in trees.calls(pushes, limit + 20, &mut random) {
+                *answers.entry(answer).or_insert(0) += 1;
+                full |= answer == 15;
+                calls += 1;
+            }
+            lists += 1;
+        }
+        assert!(full, "limit {limit} was not met");
+    }
+    println!("{lists} lists, in {shared} of them branches share a chip node; {calls} calls,");
+    println!("each limit met; how many met each answer:");
+    assert!(shared >= OFTEN_ENOUGH);
+    for (answer, times) in &answers {
+        println!("  {times:7}  {answer}");
+    }
+    for answer in [0, 13, 14, 15, 16] {
+        let met = answers.get(&answer).copied().unwrap_or(0);
+        assert!(met >= OFTEN_ENOUGH, "{answer} was met only {met} times");
+    }
+    println!("no difference");
+}
+
+/// Two trees of the library and two of the second implementation.
+struct Trees {
+    drawing: Vec<u8>,
+    target: Vec<u8>,
+    map: Vec<u8>,
+    source: PlainState,
+    chip: PlainState,
+    rust: BothTrees,
+}
+
+impl Trees {
+    fn open(drawn: Drawn, limit: usize) -> Trees {
+        let map = drawn.map.expect("a pair made from a map");
+        let state = |topology: &[u8]| {
+            let opened = rattle::open(topology, limit);
+            assert_eq!(opened.refusal, 0);
+            opened.state
+        };
+        let both = BothTrees::open(&drawn.source, &drawn.target, &map, limit);
+        let trees = Trees {
+            source: state(&drawn.source),
+            chip: state(&drawn.target),
+            rust: both.expect("a right map"),
+            drawing: drawn.source,
+            target: drawn.target,
+            map,
+        };
+        trees.compare_counts();
+        trees
+    }
+
+    /// A list of calls, those pushes first; the number of each answer.
+    fn calls(&mut self, pushes: usize, others: usize, random: &mut Random) -> Vec<u8> {
+        let habits = Habits::any(random);
+        let mut pushes_in_ten = 10;
+        (0..pushes + others)
+            .map(|call| {
+                if call >= pushes && random.one_in(20) {
+                    pushes_in_ten = random.pick(&[1, 5, 8, 10]);
+                }
+                let answer = match random.below(10) < pushes_in_ten {
+                    true => self.push(&habits, random),
+                    false => self.pop(),
+                };
+                self.compare_counts();
+                answer.0
+            })
+            .collect()
+    }
+
+    fn push(&mut self, habits: &Habits, random: &mut Random) -> Answer {
+        let (path, _, _) = any_path(&self.drawing, habits, random);
+        let (leaf_rank, packet) = (path.leaf_rank, habits.packet(random));
+        let source = taken(&mut self.source, |state| rattle::push(state, &path, packet));
+        let steps = path.steps();
+        let chip = match self.carry(&steps) {
+            Ok(carried) => {
+                let carried = PlainPath::write(&carried, leaf_rank);
+                taken(&mut self.chip, |state| {
+                    rattle::push(state, &carried, packet)
+                })
+            }
+            Err(number) => (number, 0),
+        };
+        let rust = match self.rust.push(&Path { steps, leaf_rank }, packet) {
+            Ok(()) => (0, 0),
+            Err(refusal) => refused(refusal),
+        };
+        self.compare("a push", source, chip, rust)
+    }
+
+    fn pop(&mut self) -> Answer {
+        let source = taken(&mut self.source, rattle::pop);
+        let chip = taken(&mut self.chip, rattle::pop);
+        let rust = match self.rust.pop() {
+            Ok(packet) => (0, packet),
+            Err(refusal) => refused(refusal),
+        };
+        self.compare("a pop", source, chip, rust)
+    }
+
+    /// The path carried over by the library, or its refusal.
+    fn carry(&self, steps: &[Step]) -> Result<Vec<Step>, u8> {
+        let children: Vec<u8> = steps.iter().map(|step| step.child).collect();
+        let ranks: Vec<u32> = steps.iter().map(|step| step.rank).collect();
+        let steps = Steps {
+            children: &children,
+            ranks: &ranks,
+        };
+        let mut room = ([0; MOST_STEPS], [0; MOST_STEPS]);
+        let (source, target, map) = (&self.drawing, &self.target, &self.map);
+        match rattle_translator::carry(source, target, map, &steps, &mut room.0, &mut room.1) {
+            0 => Ok(room
+                .0
+                .into_iter()
+                .zip(room.1)
+                .take_while(|&(child, _)| child != 0)
+                .map(|(child, rank)| Step { child, rank })
+                .collect()),
+            refusal => Err(refusal),
+        }
+    }
+
+    /// Packets held and refusals counted.
+    fn compare_counts(&self) {
+        for (what, count, rust) in [
+            ("held", rattle::held as Count, self.rust.held() as u32),
+            ("refusals", rattle::refusals, self.rust.refusals()),
+        ] {
+            let of = |state| {
+                let amount = count(state);
+                (amount.number, amount.value)
+            };
+            self.compare(what, of(&self.source), of(&self.chip), (0, rust));
+        }
+    }
+
+    /// The one answer of all.
+    fn compare(&self, what: &str, source: Answer, chip: Answer, rust: Answer) -> Answer {
+        assert!(
+            source == rust && chip == rust,
+            "a difference: {what}\n  source {:?}\n  target {:?}\n  map {:?}\n  \
+             Rattle, source {source:?}\n  Rattle, chip   {chip:?}\n  Rust           {rust:?}",
+            self.drawing,
+            self.target,
+            self.map
+        );
+        rust
+    }
+}
+
+/// 0 or the refusal, with the packet, the count that 15 returns, or 0.
+type Answer = (u8, u32);
+
+type Count = fn(&PlainState) -> PlainAmount;
+
+/// Makes a call and keeps the state that it leaves.
+fn taken(state: &mut PlainState, call: impl Fn(&PlainState) -> PlainAnswer) -> Answer {
+    let answer = call(state);
+    *state = answer.state;
+    (answer.number, answer.value)
+}
+
+fn refused(refusal: Refusal) -> Answer {
+    let count = match refusal {
+        Refusal::Full(count) => count,
+        _ => 0,
+    };
+    (refusal.number(), count)
+}

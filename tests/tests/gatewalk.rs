@@ -1,0 +1,186 @@
+//! Runs the program gatewalk and the second implementation on the same
+//! scripts and compares all that they print. The first difference ends the run.
+
+use linduvar_tests::commands::{opening, push, step, POP};
+use linduvar_tests::gatewalk::{walk, walk_slowly};
+use linduvar_tests::random::{self, Random};
+use linduvar_tests::reached::Reached;
+use linduvar_tests::script::{run, SCRIPT_BYTES};
+use linduvar_tests::scripts::{self, LONG_KINDS};
+use linduvar_tests::{laborious, paper, samples};
+use std::panic::resume_unwind;
+use std::path::Path;
+use std::process::Command;
+use std::thread;
+use std::time::{Duration, Instant};
+
+const RANDOM_SCRIPTS: u64 = 6_000;
+const LONG_SCRIPTS: u64 = 60;
+
+/// A script that takes longer fails; what is aimed at is `AIM`.
+const SECONDS: f64 = 20.0;
+const AIM: f64 = 2.0;
+
+fn main() {
+    let seed = random::seed();
+    println!("seed {seed} (LINDUVAR_SEED={seed} repeats this run)");
+    for (script, printed) in paper::scripts() {
+        assert_eq!(text(&script), printed, "{script:02X?}");
+    }
+    println!("the paper's scripts: as it has them");
+    sample_scripts();
+    byte_by_byte();
+    ten_megabytes();
+    crowded_drawings();
+    laborious_scripts();
+    every_limit(seed);
+    random_scripts(seed);
+    println!("no difference");
+}
+
+fn text(script: &[u8]) -> String {
+    String::from_utf8(walk(script)).expect("plain text")
+}
+
+/// Compares, and names the script where they differ.
+fn compare(what: &str, script: &[u8]) {
+    let (rattle, rust) = (walk(script), run(script));
+    if rattle != rust {
+        let lines = |bytes: &[u8]| -> Vec<String> {
+            let text = String::from_utf8_lossy(bytes);
+            text.lines().map(str::to_string).collect()
+        };
+        let (rattle, rust) = (lines(&rattle), lines(&rust));
+        let at = rattle.iter().zip(&rust).take_while(|(a, b)| a == b).count();
+        panic!(
+            "a difference: {what}\n  script {script:02X?}\n  line {at} (from 0)\n  Rattle {:?}\n  Rust   {:?}",
+            rattle.get(at),
+            rust.get(at)
+        );
+    }
+}
+
+/// Each sample prints what its comments say, and `samples/run` gives its bytes.
+fn sample_scripts() {
+    let folder = samples::folder();
+    let garden = folder.join("garden.hex");
+    let sample = samples::read(&garden);
+    assert_eq!(text(&sample.script), sample.promised);
+    assert_eq!(shell(&folder, &garden), sample.script);
+    let refusals = samples::refusals();
+    for (number, path) in &refusals {
+        let sample = samples::read(path);
+        let printed = text(&sample.script);
+        let last = printed.lines().last().expect("a line");
+        let expected = format!("no {number} ");
+        assert!(last.starts_with(&expected), "{}: {last}", path.display());
+        assert_eq!(printed, sample.promised, "{}", path.display());
+        assert_eq!(shell(&folder, path), sample.script);
+    }
+    println!("samples: as they say, {} refusals", refusals.len());
+}
+
+/// The bytes that the shell script makes of a sample.
+fn shell(folder: &Path, sample: &Path) -> Vec<u8> {
+    let output = Command::new(folder.join("run")).arg(sample).output();
+    output.expect("samples/run starts").stdout
+}
+
+/// A pipe that gives one byte at a time.
+fn byte_by_byte() {
+    let printed = walk_slowly(|input| {
+        for byte in paper::EXAMPLE {
+            input.write_all(&[byte])?;
+            input.flush()?;
+            thread::sleep(Duration::from_millis(1));
+        }
+        Ok(())
+    });
+    assert_eq!(printed, paper::EXAMPLE_OUTPUT.as_bytes());
+    println!("byte by byte: as at once");
+}
+
+/// Ten megabytes: of steps and pushes, of pops, of zeros.
+fn ten_megabytes() {
+    const LENGTH: usize = 10_000_000;
+    let opened = opening(&[1, 0], &[1, 1, 0], 3).concat();
+    let turns = [step(1, 1), push(1, 1), vec![POP]].concat();
+    for repeated in [turns, vec![POP], vec![0]] {
+        let mut script = opened.clone();
+        while script.len() < LENGTH {
+            script.extend(&repeated);
+        }
+        compare("ten megabytes", &script);
+    }
+    println!("ten megabytes: the first {SCRIPT_BYTES} bytes count");
+}
+
+fn crowded_drawings() {
+    for script in scripts::crowded() {
+        compare("a crowded drawing", &script);
+    }
+    println!("crowded drawings: no difference");
+}
+
+fn laborious_scripts() {
+    println!("the most laborious scripts (the aim is {AIM} s):");
+    for (name, script) in laborious::scripts() {
+        assert!(script.len() <= SCRIPT_BYTES);
+        let start = Instant::now();
+        let printed = walk(&script);
+        let seconds = start.elapsed().as_secs_f64();
+        assert_eq!(printed, run(&script), "{name}");
+        let note = if seconds > AIM { ", over the aim" } else { "" };
+        println!(
+            "  {name:36} {seconds:6.3} s, {} bytes printed{note}",
+            printed.len()
+        );
+        assert!(seconds < SECONDS, "{name} took {seconds} s");
+    }
+}
+
+/// Whole lists of calls at each limit.
+fn every_limit(seed: u64) {
+    let mut random = Random::new(seed);
+    for limit in 1..=256 {
+        compare("a list of calls", &scripts::at_limit(limit, &mut random));
+    }
+    println!("lists of calls at each limit: no difference");
+}
+
+/// Random scripts, shared among as many threads as there are processors.
+fn random_scripts(seed: u64) {
+    let threads = thread::available_parallelism().map_or(1, |threads| threads.get()) as u64;
+    let start = Instant::now();
+    let mut reached = Reached::new();
+    thread::scope(|scope| {
+        let workers: Vec<_> = (0..threads)
+            .map(|first| scope.spawn(move || some_scripts(seed, first, threads)))
+            .collect();
+        for worker in workers {
+            reached.add(worker.join().unwrap_or_else(|panic| resume_unwind(panic)));
+        }
+    });
+    reached.print();
+    println!("{:.1} s", start.elapsed().as_secs_f64());
+    reached.require_everything();
+}
+
+/// Every `stride`th of the random scripts.
+fn some_scripts(seed: u64, first: u64, stride: u64) -> Reached {
+    let mut reached = Reached::new();
+    for number in (first..RANDOM_SCRIPTS).step_by(stride as usize) {
+        let mut random = Random::new(seed.wrapping_add(number));
+        let (kind, script) = scripts::any(&mut random);
+        compare(kind, &script);
+        reached.script(kind, &script);
+    }
+    for number in (first..LONG_SCRIPTS).step_by(stride as usize) {
+        let mut random = Random::new(seed.wrapping_add(number));
+        let kind = LONG_KINDS[number as usize % LONG_KINDS.len()];
+        let script = scripts::over_long(kind, &mut random);
+        compare(kind, &script);
+        reached.script(kind, &script);
+    }
+    reached
+}
