@@ -1,7 +1,9 @@
 // The libraries' calls for a program in C or Rust, on numbers and byte slices: what `tests/` links and compares.
 use embedding::Checked;
+use queue_tree::Path;
 use topology::Found;
 use topology::Reading;
+use translator::Carried;
 ghost use mathlib.Core.Path.{_≡_};
 ghost use Prim.Native.Nat.{_≤_};
 ghost use mathlib.Core.List.{_++_};
@@ -9,6 +11,7 @@ ghost use lib.ListN.{length, getD, drop};
 ghost use Rattle.topology.specs.Reader.{fault};
 ghost use Rattle.topology.specs.Branch.{branchEnd, childAt, isAbove, branchFault, branchPart};
 ghost use Rattle.embedding_laws.specs.Check.{mapFault};
+ghost use Rattle.translator.specs.Carry.{Carries};
 ghost use Rattle.exports.specs.Numbers.{nodeOr0, bit};
 ghost use Rattle.exports.specs.Search.{searchNumber, searchOut};
 
@@ -109,4 +112,12 @@ pub extern "C" fn linduvar_search(source: &[u8], target: &[u8], out: &mut [u8]) 
     let map = found.map;
     put_map(map, out);
     found.number
+}
+
+// A path carried over from the source to the target along a map, and 0; or the path as it came and the refusal.
+#[no_mangle]
+pub extern "C" fn linduvar_carry(source: &[u8], target: &[u8], map: &[u8], path: Path) -> Carried
+    ensures { λ r. ⌜ Carries (now (source .entry)) (now (target .entry)) (now (map .entry)) path r ⌝ }
+{
+    translator::carry(source, target, map, path)
 }

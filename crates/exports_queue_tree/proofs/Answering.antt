@@ -4,19 +4,16 @@ use Prim.Native.Nat.{ℕ}
 use mathlib.Core.Bool.{Bool, true, false}
 use mathlib.Core.List.{List}
 use Rattle.topology.specs.Reader.{pick}
-use Rattle.pifo.specs.Machine.{Call, Answer, pushing, refused, serve}
+use Rattle.pifo.specs.Machine.{Call, Answer, refused, serve}
 use Rattle.pifo.specs.Tree.{held}
-use Rattle.queue_tree.specs.Arrivals.{stepsOf}
 use Rattle.queue_tree.specs.State.{machine, wellFormed, treeOf}
 use Rattle.queue_tree.specs.Calls.{Opens, Serves, amount}
 use Rattle.queue_tree.specs.declared.State.{State}
-use Rattle.queue_tree.specs.declared.Path.{Path}
 use Rattle.queue_tree.specs.declared.Opened.{Opened}
 use Rattle.queue_tree.specs.declared.Amount.{Amount}
-use Rattle.exports_queue_tree.specs.Plain.{stateOf, pathOf}
+use Rattle.exports_queue_tree.specs.Plain.{stateOf}
 use Rattle.exports_queue_tree.specs.Answers.{opening, plainAmount, numberOf, valueOf, answered, Served}
 use Rattle.exports_queue_tree.specs.declared.PlainState.{PlainState}
-use Rattle.exports_queue_tree.specs.declared.PlainPath.{PlainPath}
 use Rattle.exports_queue_tree.specs.declared.PlainOpened.{PlainOpened}
 use Rattle.exports_queue_tree.specs.declared.PlainAnswer.{PlainAnswer}
 
@@ -37,12 +34,6 @@ pub refusals-plain : (s : PlainState) (t : State) (x : Amount) → t ≡ stateOf
     → plainAmount x ≡ plainAmount (amount (wellFormed (stateOf s)) (s .refused))
 unfolding stateOf
 refusals-plain s t x e f = ap plainAmount f ∙ ap (λ (u : State). plainAmount (amount (wellFormed u) (u .refused))) e
-
--- the path that the code made, in place of the plain one
-pub along : (p : PlainPath) (q : Path) (packet : ℕ) (t r : State) (a : Answer ℕ) → q ≡ pathOf p
-    → Serves t (pushing (stepsOf q) (q .«leaf_rank») packet) a r → Serves t (pushing (stepsOf (pathOf p)) (p .«leaf_rank») packet) a r
-unfolding pathOf
-along p q packet t r a e h = subst (λ (x : Path). Serves t (pushing (stepsOf x) (x .«leaf_rank») packet) a r) e h
 
 is-answered : (s r : State) (call : Call ℕ) (a : Answer ℕ) → Serves s call a r → a ≡ answered s call
 unfolding answered

@@ -50,12 +50,9 @@ turn-even even odd k e = ap (λ (b : Bool). pick b even odd) (sym (eq-eqb (k % 2
 pub turn-odd : (even odd : Path) (k : ℕ) → k % 2 ≢ 0 → odd ≡ inTurn even odd k
 turn-odd even odd k e = ap (λ (b : Bool). pick b even odd) (sym (ne-eqb (k % 2) 0 e))
 
--- the rounds of equal states, paths and numbers
-pub churn-same : (s t u r : State) (even odd first second : Path) (i n : ℕ) → s ≡ t → even ≡ first → odd ≡ second → i ≡ n → r ≡ u
-    → Churned s even odd i u → Churned t first second n r
-churn-same s t u r even odd first second i n a b c d e h =
-    subst (λ (x : State). Churned x first second n r) a
-    (subst (λ (x : Path). Churned s x second n r) b
-    (subst (λ (x : Path). Churned s even x n r) c
+-- the rounds of equal states and numbers
+pub churn-same : (s t u r : State) (even odd : Path) (i n : ℕ) → s ≡ t → i ≡ n → r ≡ u → Churned s even odd i u → Churned t even odd n r
+churn-same s t u r even odd i n a d e h =
+    subst (λ (x : State). Churned x even odd n r) a
     (subst (λ (x : ℕ). Churned s even odd x r) d
-    (subst (λ (x : State). Churned s even odd i x) (sym e) h))))
+    (subst (λ (x : State). Churned s even odd i x) (sym e) h))

@@ -1,5 +1,5 @@
--- Entries and steps from lists of their parts: how many there are, and the one at each place. Taken apart and put together again, entries
--- are what they were.
+-- Entries from lists of their parts: how many there are, and the one at each place. Taken apart and put together again, they are what they
+-- were.
 use mathlib.Core.Path.{_≡_, refl, sym, ap}
 use mathlib.Core.Logic.{_≢_}
 use Prim.Native.Nat.{ℕ, zero, suc, _<_}
@@ -10,11 +10,9 @@ use lib.ListN.{length, getD}
 use Rattle.queue_tree.specs.declared.Item.{Item}
 use Rattle.queue_tree.specs.declared.Item.the-variants.{Child, Packet}
 use Rattle.queue_tree.specs.declared.Entry.{Entry}
-use Rattle.queue_tree.specs.declared.Step.{Step}
 use Rattle.queue_tree.specs.declared.State.{State}
 use Rattle.exports_queue_tree.specs.declared.PlainState.{PlainState}
-use Rattle.exports_queue_tree.specs.declared.PlainPath.{PlainPath}
-use Rattle.exports_queue_tree.specs.Plain.{stateOf, pathOf, itemFrom, entryFrom, entriesFrom, stepsFrom, rankOf, tagOf, childOf, packetOf, itemTag, itemChild, itemPacket}
+use Rattle.exports_queue_tree.specs.Plain.{stateOf, itemFrom, entryFrom, entriesFrom, rankOf, tagOf, childOf, packetOf, itemTag, itemChild, itemPacket}
 
 pub item-child : (t c p : ℕ) → t ≡ 0 → Child c ≡ itemFrom t c p
 item-child t c p e = ap (λ (u : ℕ). itemFrom u c p) (sym e)
@@ -43,22 +41,6 @@ entries-at (r ∷ rs) (t ∷ ts) (k ∷ cs) (p ∷ ps) zero d a b c e = refl
 entries-at (r ∷ rs) (t ∷ ts) (k ∷ cs) (p ∷ ps) (suc i) d a b c e =
     entries-at rs ts cs ps i d (le-of-suc-le-suc a) (le-of-suc-le-suc b) (le-of-suc-le-suc c) (le-of-suc-le-suc e)
 
-abbrev pub noStep : Step
-noStep = record { child = 0; rank = 0 }
-
-pub steps-length : (cs rs : List ℕ) (n : ℕ) → length cs ≡ n → length rs ≡ n → length (stepsFrom cs rs) ≡ n
-steps-length [] rs n a b = a
-steps-length (c ∷ cs) [] n a b = b
-steps-length (c ∷ cs) (r ∷ rs) zero a b = absurd (omega (arith, a))
-steps-length (c ∷ cs) (r ∷ rs) (suc n) a b = ap suc (steps-length cs rs n (omega (arith, a)) (omega (arith, b)))
-
-pub steps-at : (cs rs : List ℕ) (i : ℕ) (d : Step) → i < length cs → i < length rs
-    → record { child = getD cs i 0; rank = getD rs i 0 } ≡ getD (stepsFrom cs rs) i d
-steps-at [] rs i d a b = absurd (not-suc-le-zero a)
-steps-at (c ∷ cs) [] i d a b = absurd (not-suc-le-zero b)
-steps-at (c ∷ cs) (r ∷ rs) zero d a b = refl
-steps-at (c ∷ cs) (r ∷ rs) (suc i) d a b = steps-at cs rs i d (le-of-suc-le-suc a) (le-of-suc-le-suc b)
-
 item-back : (x : Item) → itemFrom (itemTag x) (itemChild x) (itemPacket x) ≡ x
 item-back (Child c) = refl
 item-back (Packet p) = refl
@@ -70,18 +52,11 @@ entries-back (e ∷ es) =
     let r = entries-back es in
     cc
 
--- ---- states and paths
-
 pub state-from : (p : PlainState) (es : List Entry) → es ≡ entriesFrom (p .ranks) (p .tags) (p .children) (p .packets)
     → record { topology = p .topology; nodes = p .nodes; limit = p .limit; refused = p .refused; owners = p .owners; entries = es; used = p .used } ≡ stateOf p
 unfolding stateOf
 state-from p es e =
     ap (λ (l : List Entry). record { topology = p .topology; nodes = p .nodes; limit = p .limit; refused = p .refused; owners = p .owners; entries = l; used = p .used }) e
-
-pub path-from : (p : PlainPath) (ss : List Step) → ss ≡ stepsFrom (p .children) (p .ranks)
-    → record { steps = ss; count = p .count; «leaf_rank» = p .«leaf_rank» } ≡ pathOf p
-unfolding pathOf
-path-from p ss e = ap (λ (l : List Step). record { steps = l; count = p .count; «leaf_rank» = p .«leaf_rank» }) e
 
 pub state-back : (s : State) (rs ts cs ps : List ℕ) → rs ≡ map rankOf (s .entries) → ts ≡ map tagOf (s .entries)
     → cs ≡ map childOf (s .entries) → ps ≡ map packetOf (s .entries)

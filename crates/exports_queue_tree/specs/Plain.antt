@@ -1,14 +1,11 @@
--- A state and a path as plain numbers, and what they stand for.
+-- A state as plain numbers, and what they stand for.
 use Prim.Native.Nat.{ℕ, zero, suc}
 use mathlib.Core.List.{List, [], _∷_}
 use Rattle.queue_tree.specs.declared.Item.{Item}
 use Rattle.queue_tree.specs.declared.Item.the-variants.{Child, Packet}
 use Rattle.queue_tree.specs.declared.Entry.{Entry}
-use Rattle.queue_tree.specs.declared.Step.{Step}
-use Rattle.queue_tree.specs.declared.Path.{Path}
 use Rattle.queue_tree.specs.declared.State.{State}
 use Rattle.exports_queue_tree.specs.declared.PlainState.{PlainState}
-use Rattle.exports_queue_tree.specs.declared.PlainPath.{PlainPath}
 
 -- a tag, a child and a packet as one item: the child where the tag is 0
 abbrev pub itemFrom : ℕ → ℕ → ℕ → Item
@@ -62,12 +59,3 @@ childOf e = itemChild (e .item)
 
 abbrev pub packetOf : Entry → ℕ
 packetOf e = itemPacket (e .item)
-
--- the steps, one from each place of the two lists
-abbrev pub stepsFrom : List ℕ → List ℕ → List Step
-stepsFrom [] rs = []
-stepsFrom (c ∷ cs) [] = []
-stepsFrom (c ∷ cs) (r ∷ rs) = record { child = c; rank = r } ∷ stepsFrom cs rs
-
-unfoldable pub pathOf : PlainPath → Path
-pathOf p = record { steps = stepsFrom (p .children) (p .ranks); count = p .count; «leaf_rank» = p .«leaf_rank» }

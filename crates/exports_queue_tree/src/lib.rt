@@ -7,7 +7,6 @@ use queue_tree::Path;
 use queue_tree::PopAnswer;
 use queue_tree::PushAnswer;
 use queue_tree::State;
-use queue_tree::Step;
 ghost use mathlib.Core.Path.{_≡_};
 ghost use mathlib.Core.List.{map};
 ghost use Rattle.pifo.specs.Machine.{pushing, popping};
@@ -15,7 +14,7 @@ ghost use Rattle.pifo.specs.Tree.{held};
 ghost use Rattle.queue_tree.specs.Arrivals.{stepsOf};
 ghost use Rattle.queue_tree.specs.Calls.{Opens, amount, pushAnswer, popAnswer};
 ghost use Rattle.queue_tree.specs.State.{wellFormed, treeOf};
-ghost use Rattle.exports_queue_tree.specs.Plain.{itemFrom, entriesFrom, stepsFrom, pathOf, stateOf, tagOf, childOf, packetOf, rankOf};
+ghost use Rattle.exports_queue_tree.specs.Plain.{itemFrom, entriesFrom, stateOf, tagOf, childOf, packetOf, rankOf};
 ghost use Rattle.exports_queue_tree.specs.Answers.{opening, plainAmount, numberOf, valueOf, Served};
 ghost use Rattle.exports_queue_tree.specs.Churn.{inTurn, Rounded, Churned};
 
@@ -33,15 +32,6 @@ pub struct PlainState {
     pub children: [u8; 2304],
     pub packets: [u32; 2304],
     pub used: usize,
-}
-
-// A path as plain numbers: step i has the child `children[i]` and the rank `ranks[i]`.
-#[repr(C)]
-pub struct PlainPath {
-    pub children: [u8; 9],
-    pub ranks: [u32; 9],
-    pub count: usize,
-    pub leaf_rank: u32,
 }
 
 // The answer to an opening: 0 and the empty tree, or a refusal's number and a state that every call refuses by 18.
@@ -116,34 +106,6 @@ fn state_of(plain: PlainState) -> State
         owners,
         entries,
         used: plain.used,
-    }
-}
-
-fn steps_of(children: [u8; 9], ranks: [u32; 9]) -> [Step; 9]
-    ensures { λ r. ⌜ r ≡ stepsFrom children ranks ⌝ }
-{
-    let mut steps = [Step { child: 0, rank: 0 }; 9];
-    let mut i = 0;
-    while i < 9 {
-        steps[i] = Step {
-            child: children[i],
-            rank: ranks[i],
-        };
-        i += 1;
-    }
-    steps
-}
-
-fn path_of(plain: PlainPath) -> Path
-    ensures { λ r. ⌜ r ≡ pathOf plain ⌝ }
-{
-    let children = plain.children;
-    let ranks = plain.ranks;
-    let steps = steps_of(children, ranks);
-    Path {
-        steps,
-        count: plain.count,
-        leaf_rank: plain.leaf_rank,
     }
 }
 
@@ -308,10 +270,10 @@ fn push_value(answer: PushAnswer) -> u32
 
 // Pushes a packet along a path.
 #[no_mangle]
-pub extern "C" fn linduvar_push(state: PlainState, path: PlainPath, packet: u32) -> PlainAnswer
-    ensures { λ r. ⌜ Served state (pushing (stepsOf (pathOf path)) (path .«leaf_rank») packet) r ⌝ }
+pub extern "C" fn linduvar_push(state: PlainState, path: Path, packet: u32) -> PlainAnswer
+    ensures { λ r. ⌜ Served state (pushing (stepsOf path) (path .«leaf_rank») packet) r ⌝ }
 {
-    let pushed = queue_tree::push(state_of(state), path_of(path), packet);
+    let pushed = queue_tree::push(state_of(state), path, packet);
     let answer = pushed.answer;
     PlainAnswer {
         state: plain(pushed.state),
@@ -375,18 +337,16 @@ fn round(state: State, path: Path, number: u32) -> State
 #[no_mangle]
 pub extern "C" fn linduvar_churn(
     state: PlainState,
-    first: PlainPath,
-    second: PlainPath,
+    first: Path,
+    second: Path,
     rounds: u32,
 ) -> PlainState
-    ensures { λ r. ⌜ Churned (stateOf state) (pathOf first) (pathOf second) rounds (stateOf r) ⌝ }
+    ensures { λ r. ⌜ Churned (stateOf state) first second rounds (stateOf r) ⌝ }
 {
-    let even = path_of(first);
-    let odd = path_of(second);
     let mut current = state_of(state);
     let mut i = 0;
     while i < rounds {
-        let path = in_turn(even, odd, i);
+        let path = in_turn(first, second, i);
         current = round(current, path, i);
         i += 1;
     }

@@ -37,12 +37,14 @@ pub struct State {
     pub used: usize,
 }
 
+#[repr(C)]
 pub struct Step {
     pub child: u8,
     pub rank: u32,
 }
 
 // A path: its first `count` steps, of which no tree takes a ninth, and the rank at the leaf.
+#[repr(C)]
 pub struct Path {
     pub steps: [Step; 9],
     pub count: usize,

@@ -20,6 +20,7 @@ use queue_tree::Step;
 use topology::Found;
 
 // The carried path and 0, or the path as it came and the refusal's number.
+#[repr(C)]
 pub struct Carried {
     pub path: Path,
     pub refusal: u8,

@@ -8,16 +8,10 @@ use Rattle.exports_queue_tree.proofs.linduvar_churn.Statement.{statemen
 use Rattle.exports_queue_tree.proofs.linduvar_churn.Tie as tie
 
 abbrev Inv-loop : tie.InvT-loop
-Inv-loop rounds even odd current₀ i₀ current i = (i ≤ rounds) × Churned current₀ even odd i current
+Inv-loop first second rounds current₀ i₀ current i = (i ≤ rounds) × Churned current₀ first second i current
 
 abbrev μ-loop : tie.MeasureT-loop
-μ-loop rounds even odd current₀ i₀ current i = rounds - i
-
-path-of-requires : tie.Need-path-of-requires Inv-loop μ-loop
-path-of-requires c κs = search needs
-
-path-of-requires-2 : tie.Need-path-of-requires-2 Inv-loop μ-loop
-path-of-requires-2 c κs = search needs
+μ-loop first second rounds current₀ i₀ current i = rounds - i
 
 state-of-requires : tie.Need-state-of-requires Inv-loop μ-loop
 state-of-requires c κs = search needs
@@ -51,9 +45,7 @@ returns : tie.Need-returns Inv-loop μ-loop
 returns c =
     let loop = c .before .before .loop in
     let state-of = c .before .before .before .state-of in
-    let path-of2 = c .before .before .before .before .path-of2 in
-    let path-of = c .before .before .before .before .before .path-of in
-    churn-same _ _ _ _ _ _ _ _ _ _ (state-of .ensures) (path-of .ensures) (path-of2 .ensures)
+    churn-same _ _ _ _ _ _ _ _ (state-of .ensures)
     (omega (arith, loop .inv .0, c .before .loop-test .left)) (c .plain .ensures) (loop .inv .1)
 
 pub linduvar-churn-spec : {M : Type 1} → statement M
@@ -62,8 +54,6 @@ linduvar-churn-spec =
     (tie.spec
     Inv-loop
     μ-loop
-    path-of-requires
-    path-of-requires-2
     state-of-requires
     loop-holds
     in-turn-requires

@@ -1,14 +1,11 @@
 -- The queue tree's promise, of plain numbers.
 use borrow.Author.Needs.{needs}
-use Rattle.exports_queue_tree.proofs.Answering.{along, served-plain}
+use Rattle.exports_queue_tree.proofs.Answering.{served-plain}
 use Rattle.exports_queue_tree.proofs.linduvar_push.Statement.{statement}
 use Rattle.exports_queue_tree.proofs.linduvar_push.Tie as tie
 
 state-of-requires : tie.Need-state-of-requires
 state-of-requires c κs = search needs
-
-path-of-requires : tie.Need-path-of-requires
-path-of-requires c κs = search needs
 
 push-requires : tie.Need-push-requires
 push-requires c κs = search needs
@@ -25,8 +22,7 @@ push-value-requires c κs = search needs
 returns : tie.Need-returns
 returns c =
     let call = c .before .before .before in
-    served-plain _ _ _ _ _ _ (call .before .before .state-of .ensures)
-    (along _ _ _ _ _ _ (call .before .path-of .ensures) (call .push .ensures)) (c .before .before .plain .ensures)
+    served-plain _ _ _ _ _ _ (call .before .state-of .ensures) (call .push .ensures) (c .before .before .plain .ensures)
     (c .before .push-number .ensures) (c .push-value .ensures)
 
 pub linduvar-push-spec : {M : Type 1} → statement M
@@ -34,7 +30,6 @@ linduvar-push-spec =
     tie.close
     (tie.spec
     state-of-requires
-    path-of-requires
     push-requires
     plain-requires
     push-number-requires
