@@ -1,6 +1,6 @@
 -- Entries and steps from lists of their parts: how many there are, and the one at each place. Taken apart and put together again, entries
 -- are what they were.
-use mathlib.Core.Path.{_≡_, refl, sym, ap}
+use mathlib.Core.Path.{_≡_, refl, sym, ap, _∙_}
 use mathlib.Core.Logic.{_≢_}
 use Prim.Native.Nat.{ℕ, zero, suc, _<_}
 use native.Mathlib.Nat.{not-suc-le-zero, le-of-suc-le-suc}
@@ -14,7 +14,7 @@ use Rattle.queue_tree.specs.declared.Step.{Step}
 use Rattle.queue_tree.specs.declared.State.{State}
 use Rattle.exports_queue_tree.specs.declared.PlainState.{PlainState}
 use Rattle.exports_queue_tree.specs.declared.PlainPath.{PlainPath}
-use Rattle.exports_queue_tree.specs.Plain.{stateOf, pathOf, itemFrom, entryFrom, entriesFrom, stepsFrom, rankOf, tagOf, childOf, packetOf, itemTag, itemChild, itemPacket}
+use Rattle.exports_queue_tree.specs.Plain.{stateOf, pathOf, plainOf, Written, itemFrom, entryFrom, entriesFrom, stepsFrom, rankOf, tagOf, childOf, packetOf, itemTag, itemChild, itemPacket}
 
 pub item-child : (t c p : ℕ) → t ≡ 0 → Child c ≡ itemFrom t c p
 item-child t c p e = ap (λ (u : ℕ). itemFrom u c p) (sym e)
@@ -42,6 +42,9 @@ entries-at (r ∷ rs) (t ∷ ts) (k ∷ cs) [] i d a b c e = absurd (not-suc-le-
 entries-at (r ∷ rs) (t ∷ ts) (k ∷ cs) (p ∷ ps) zero d a b c e = refl
 entries-at (r ∷ rs) (t ∷ ts) (k ∷ cs) (p ∷ ps) (suc i) d a b c e =
     entries-at rs ts cs ps i d (le-of-suc-le-suc a) (le-of-suc-le-suc b) (le-of-suc-le-suc c) (le-of-suc-le-suc e)
+
+abbrev pub noEntry : Entry
+noEntry = record { rank = 0; item = Child 0 }
 
 abbrev pub noStep : Step
 noStep = record { child = 0; rank = 0 }
@@ -83,10 +86,18 @@ pub path-from : (p : PlainPath) (ss : List Step) → ss ≡ stepsFrom (p .childr
 unfolding pathOf
 path-from p ss e = ap (λ (l : List Step). record { steps = l; count = p .count; «leaf_rank» = p .«leaf_rank» }) e
 
-pub state-back : (s : State) (rs ts cs ps : List ℕ) → rs ≡ map rankOf (s .entries) → ts ≡ map tagOf (s .entries)
+pub plain-from : (s : State) (rs ts cs ps : List ℕ) → rs ≡ map rankOf (s .entries) → ts ≡ map tagOf (s .entries)
     → cs ≡ map childOf (s .entries) → ps ≡ map packetOf (s .entries)
-    → stateOf (record { topology = s .topology; nodes = s .nodes; limit = s .limit; refused = s .refused; owners = s .owners; ranks = rs; tags = ts; children = cs; packets = ps; used = s .used }) ≡ s
-unfolding stateOf
-state-back s rs ts cs ps a b c d =
-    let e : entriesFrom rs ts cs ps ≡ s .entries = rw (a, b, c, d) (entries-back (s .entries)) in
-    ap (λ (l : List Entry). record { topology = s .topology; nodes = s .nodes; limit = s .limit; refused = s .refused; owners = s .owners; entries = l; used = s .used }) e
+    → record { topology = s .topology; nodes = s .nodes; limit = s .limit; refused = s .refused; owners = s .owners; ranks = rs; tags = ts; children = cs; packets = ps; used = s .used } ≡ plainOf s
+unfolding plainOf
+plain-from s rs ts cs ps a b c d = rw (a, b, c, d) refl
+
+-- the state that written numbers stand for
+pub state-back : (p : PlainState) (s : State) → p ≡ plainOf s → stateOf p ≡ s
+unfolding stateOf plainOf
+state-back p s e =
+    ap stateOf e
+    ∙ ap (λ (l : List Entry). record { topology = s .topology; nodes = s .nodes; limit = s .limit; refused = s .refused; owners = s .owners; entries = l; used = s .used }) (entries-back (s .entries))
+
+pub is-written : (p : PlainState) (s : State) → p ≡ plainOf s → Written p
+is-written p s e = e ∙ ap plainOf (sym (state-back p s e))

@@ -3,6 +3,7 @@ use borrow.Author.Needs.{needs}
 use Prim.Native.Nat.{_≤_, _-_}
 use native.Mathlib.Omega.{arith}
 use Rattle.exports_queue_tree.specs.Churn.{Churned}
+use Rattle.exports_queue_tree.proofs.Crossing.{state-back, is-written}
 use Rattle.exports_queue_tree.proofs.Churning.{churn-none, churn-more, churn-same}
 use Rattle.exports_queue_tree.proofs.linduvar_churn.Statement.{statement}
 use Rattle.exports_queue_tree.proofs.linduvar_churn.Tie as tie
@@ -53,8 +54,11 @@ returns c =
     let state-of = c .before .before .before .state-of in
     let path-of2 = c .before .before .before .before .path-of2 in
     let path-of = c .before .before .before .before .before .path-of in
-    churn-same _ _ _ _ _ _ _ _ _ _ (state-of .ensures) (path-of .ensures) (path-of2 .ensures)
-    (omega (arith, loop .inv .0, c .before .loop-test .left)) (c .plain .ensures) (loop .inv .1)
+    let back = state-back _ _ (c .plain .ensures) in (
+      churn-same _ _ _ _ _ _ _ _ _ _ (state-of .ensures) (path-of .ensures) (path-of2 .ensures)
+          (omega (arith, loop .inv .0, c .before .loop-test .left)) back (loop .inv .1),
+      is-written _ _ (c .plain .ensures),
+    )
 
 pub linduvar-churn-spec : {M : Type 1} → statement M
 linduvar-churn-spec =
