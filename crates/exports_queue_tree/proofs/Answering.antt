@@ -11,20 +11,21 @@ use Rattle.queue_tree.specs.Calls.{Opens, Serves, amount}
 use Rattle.queue_tree.specs.declared.State.{State}
 use Rattle.queue_tree.specs.declared.Opened.{Opened}
 use Rattle.queue_tree.specs.declared.Amount.{Amount}
-use Rattle.exports_queue_tree.specs.Plain.{stateOf}
+use Rattle.exports_queue_tree.specs.Plain.{stateOf, plainOf, Written}
 use Rattle.exports_queue_tree.specs.Answers.{opening, plainAmount, numberOf, valueOf, answered, Served}
 use Rattle.exports_queue_tree.specs.declared.PlainState.{PlainState}
 use Rattle.exports_queue_tree.specs.declared.PlainOpened.{PlainOpened}
 use Rattle.exports_queue_tree.specs.declared.PlainAnswer.{PlainAnswer}
+use Rattle.exports_queue_tree.proofs.Crossing.{state-back, is-written}
 
-pub opens-plain : (bytes : List ℕ) (limit : ℕ) (o : Opened) (q : PlainOpened) → Opens bytes limit o → stateOf (q .state) ≡ o .state
-    → q .refusal ≡ o .refusal → Opens bytes limit (opening q)
+pub opens-plain : (bytes : List ℕ) (limit : ℕ) (o : Opened) (q : PlainOpened) → Opens bytes limit o → q .state ≡ plainOf (o .state)
+    → q .refusal ≡ o .refusal → Opens bytes limit (opening q) × Written (q .state)
 opens-plain bytes limit o q h e f =
     let same : o ≡ opening q =
-    ap (λ (s : State). record { state = s; refusal = o .refusal }) (sym e)
+    ap (λ (s : State). record { state = s; refusal = o .refusal }) (sym (state-back (q .state) (o .state) e))
     ∙ ap (λ (n : ℕ). record { state = stateOf (q .state); refusal = n }) (sym f)
     in
-    subst (Opens bytes limit) same h
+    (subst (Opens bytes limit) same h, is-written (q .state) (o .state) e)
 
 pub held-plain : (s : PlainState) (t : State) (x : Amount) → t ≡ stateOf s → x ≡ amount (wellFormed t) (held (treeOf t))
     → plainAmount x ≡ plainAmount (amount (wellFormed (stateOf s)) (held (treeOf (stateOf s))))
@@ -44,13 +45,14 @@ is-answered s r call a h = by-test (wellFormed s) refl
     by-test false e = h .ill e
 
 pub served-plain : (s : PlainState) (call : Call ℕ) (t r : State) (a : Answer ℕ) (q : PlainAnswer) → t ≡ stateOf s → Serves t call a r
-    → stateOf (q .state) ≡ r → q .number ≡ numberOf a → q .value ≡ valueOf a → Served s call q
+    → q .state ≡ plainOf r → q .number ≡ numberOf a → q .value ≡ valueOf a → Served s call q
 served-plain s call t r a q is h e n v =
     let g = subst (λ (u : State). Serves u call a r) is h in
-    let f = subst (Serves (stateOf s) call a) (sym e) g in
+    let f = subst (Serves (stateOf s) call a) (sym (state-back (q .state) r e)) g in
     let x = is-answered (stateOf s) r call a g in
     record {
       number = n ∙ ap numberOf x;
       value = v ∙ ap valueOf x;
       serves = subst (λ (z : Answer ℕ). Serves (stateOf s) call z (stateOf (q .state))) x f;
+      written = is-written (q .state) r e;
     }

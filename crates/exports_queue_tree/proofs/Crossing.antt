@@ -1,6 +1,6 @@
 -- Entries from lists of their parts: how many there are, and the one at each place. Taken apart and put together again, they are what they
 -- were.
-use mathlib.Core.Path.{_≡_, refl, sym, ap}
+use mathlib.Core.Path.{_≡_, refl, sym, ap, _∙_}
 use mathlib.Core.Logic.{_≢_}
 use Prim.Native.Nat.{ℕ, zero, suc, _<_}
 use native.Mathlib.Nat.{not-suc-le-zero, le-of-suc-le-suc}
@@ -12,7 +12,7 @@ use Rattle.queue_tree.specs.declared.Item.the-variants.{Child, Packet}
 use Rattle.queue_tree.specs.declared.Entry.{Entry}
 use Rattle.queue_tree.specs.declared.State.{State}
 use Rattle.exports_queue_tree.specs.declared.PlainState.{PlainState}
-use Rattle.exports_queue_tree.specs.Plain.{stateOf, itemFrom, entryFrom, entriesFrom, rankOf, tagOf, childOf, packetOf, itemTag, itemChild, itemPacket}
+use Rattle.exports_queue_tree.specs.Plain.{stateOf, plainOf, Written, itemFrom, entryFrom, entriesFrom, rankOf, tagOf, childOf, packetOf, itemTag, itemChild, itemPacket}
 
 pub item-child : (t c p : ℕ) → t ≡ 0 → Child c ≡ itemFrom t c p
 item-child t c p e = ap (λ (u : ℕ). itemFrom u c p) (sym e)
@@ -41,6 +41,9 @@ entries-at (r ∷ rs) (t ∷ ts) (k ∷ cs) (p ∷ ps) zero d a b c e = refl
 entries-at (r ∷ rs) (t ∷ ts) (k ∷ cs) (p ∷ ps) (suc i) d a b c e =
     entries-at rs ts cs ps i d (le-of-suc-le-suc a) (le-of-suc-le-suc b) (le-of-suc-le-suc c) (le-of-suc-le-suc e)
 
+abbrev pub noEntry : Entry
+noEntry = record { rank = 0; item = Child 0 }
+
 item-back : (x : Item) → itemFrom (itemTag x) (itemChild x) (itemPacket x) ≡ x
 item-back (Child c) = refl
 item-back (Packet p) = refl
@@ -58,10 +61,18 @@ unfolding stateOf
 state-from p es e =
     ap (λ (l : List Entry). record { topology = p .topology; nodes = p .nodes; limit = p .limit; refused = p .refused; owners = p .owners; entries = l; used = p .used }) e
 
-pub state-back : (s : State) (rs ts cs ps : List ℕ) → rs ≡ map rankOf (s .entries) → ts ≡ map tagOf (s .entries)
+pub plain-from : (s : State) (rs ts cs ps : List ℕ) → rs ≡ map rankOf (s .entries) → ts ≡ map tagOf (s .entries)
     → cs ≡ map childOf (s .entries) → ps ≡ map packetOf (s .entries)
-    → stateOf (record { topology = s .topology; nodes = s .nodes; limit = s .limit; refused = s .refused; owners = s .owners; ranks = rs; tags = ts; children = cs; packets = ps; used = s .used }) ≡ s
-unfolding stateOf
-state-back s rs ts cs ps a b c d =
-    let e : entriesFrom rs ts cs ps ≡ s .entries = rw (a, b, c, d) (entries-back (s .entries)) in
-    ap (λ (l : List Entry). record { topology = s .topology; nodes = s .nodes; limit = s .limit; refused = s .refused; owners = s .owners; entries = l; used = s .used }) e
+    → record { topology = s .topology; nodes = s .nodes; limit = s .limit; refused = s .refused; owners = s .owners; ranks = rs; tags = ts; children = cs; packets = ps; used = s .used } ≡ plainOf s
+unfolding plainOf
+plain-from s rs ts cs ps a b c d = rw (a, b, c, d) refl
+
+-- the state that written numbers stand for
+pub state-back : (p : PlainState) (s : State) → p ≡ plainOf s → stateOf p ≡ s
+unfolding stateOf plainOf
+state-back p s e =
+    ap stateOf e
+    ∙ ap (λ (l : List Entry). record { topology = s .topology; nodes = s .nodes; limit = s .limit; refused = s .refused; owners = s .owners; entries = l; used = s .used }) (entries-back (s .entries))
+
+pub is-written : (p : PlainState) (s : State) → p ≡ plainOf s → Written p
+is-written p s e = e ∙ ap plainOf (sym (state-back p s e))

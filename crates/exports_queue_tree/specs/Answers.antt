@@ -9,7 +9,7 @@ use Rattle.queue_tree.specs.declared.State.{State}
 use Rattle.queue_tree.specs.declared.Opened.{Opened}
 use Rattle.queue_tree.specs.declared.Amount.{Amount}
 use Rattle.queue_tree.specs.declared.Amount.the-variants.{Count, Refused}
-use Rattle.exports_queue_tree.specs.Plain.{stateOf}
+use Rattle.exports_queue_tree.specs.Plain.{stateOf, Written}
 use Rattle.exports_queue_tree.specs.declared.PlainState.{PlainState}
 use Rattle.exports_queue_tree.specs.declared.PlainOpened.{PlainOpened}
 use Rattle.exports_queue_tree.specs.declared.PlainAmount.{PlainAmount}
@@ -40,8 +40,9 @@ valueOf (full c) = c
 unfoldable pub answered : State → Call ℕ → Answer ℕ
 answered s call = pick (wellFormed s) (serve (machine s) call .0) (refused 18)
 
--- A call on a plain state: the answer, and the state after it.
+-- A call on a plain state: the answer, and the state after it, as it is written.
 pub record Served (s : PlainState) (call : Call ℕ) (r : PlainAnswer) : Type 0 where
   pub number : r .number ≡ numberOf (answered (stateOf s) call)
   pub value : r .value ≡ valueOf (answered (stateOf s) call)
   pub serves : Serves (stateOf s) call (answered (stateOf s) call) (stateOf (r .state))
+  pub written : Written (r .state)

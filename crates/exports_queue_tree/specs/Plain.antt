@@ -1,6 +1,7 @@
 -- A state as plain numbers, and what they stand for.
+use mathlib.Core.Path.{_≡_}
 use Prim.Native.Nat.{ℕ, zero, suc}
-use mathlib.Core.List.{List, [], _∷_}
+use mathlib.Core.List.{List, [], _∷_, map}
 use Rattle.queue_tree.specs.declared.Item.{Item}
 use Rattle.queue_tree.specs.declared.Item.the-variants.{Child, Packet}
 use Rattle.queue_tree.specs.declared.Entry.{Entry}
@@ -59,3 +60,23 @@ childOf e = itemChild (e .item)
 
 abbrev pub packetOf : Entry → ℕ
 packetOf e = itemPacket (e .item)
+
+-- the numbers of a state, as they are written
+unfoldable pub plainOf : State → PlainState
+plainOf s =
+    record {
+      topology = s .topology;
+      nodes = s .nodes;
+      limit = s .limit;
+      refused = s .refused;
+      owners = s .owners;
+      ranks = map rankOf (s .entries);
+      tags = map tagOf (s .entries);
+      children = map childOf (s .entries);
+      packets = map packetOf (s .entries);
+      used = s .used;
+    }
+
+-- numbers that are as they are written
+abbrev pub Written : PlainState → Type 0
+Written p = p ≡ plainOf (stateOf p)

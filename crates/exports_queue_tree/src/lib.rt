@@ -14,7 +14,7 @@ ghost use Rattle.pifo.specs.Tree.{held};
 ghost use Rattle.queue_tree.specs.Arrivals.{stepsOf};
 ghost use Rattle.queue_tree.specs.Calls.{Opens, amount, pushAnswer, popAnswer};
 ghost use Rattle.queue_tree.specs.State.{wellFormed, treeOf};
-ghost use Rattle.exports_queue_tree.specs.Plain.{itemFrom, entriesFrom, stateOf, tagOf, childOf, packetOf, rankOf};
+ghost use Rattle.exports_queue_tree.specs.Plain.{itemFrom, entriesFrom, stateOf, plainOf, Written, tagOf, childOf, packetOf, rankOf};
 ghost use Rattle.exports_queue_tree.specs.Answers.{opening, plainAmount, numberOf, valueOf, Served};
 ghost use Rattle.exports_queue_tree.specs.Churn.{inTurn, Rounded, Churned};
 
@@ -188,7 +188,7 @@ fn packets_of(entries: [Entry; 2304]) -> [u32; 2304]
 }
 
 fn plain(state: State) -> PlainState
-    ensures { λ r. ⌜ stateOf r ≡ state ⌝ }
+    ensures { λ r. ⌜ r ≡ plainOf state ⌝ }
 {
     let topology = state.topology;
     let owners = state.owners;
@@ -223,7 +223,7 @@ fn amount_of(amount: Amount) -> PlainAmount
 // Opens an empty tree with a packet limit.
 #[no_mangle]
 pub extern "C" fn linduvar_open(bytes: &[u8], limit: usize) -> PlainOpened
-    ensures { λ r. ⌜ Opens (now (bytes .entry)) limit (opening r) ⌝ }
+    ensures { λ r. ⌜ Opens (now (bytes .entry)) limit (opening r) × Written (r .state) ⌝ }
 {
     let opened = queue_tree::open(bytes, limit);
     PlainOpened {
@@ -341,7 +341,7 @@ pub extern "C" fn linduvar_churn(
     second: Path,
     rounds: u32,
 ) -> PlainState
-    ensures { λ r. ⌜ Churned (stateOf state) first second rounds (stateOf r) ⌝ }
+    ensures { λ r. ⌜ Churned (stateOf state) first second rounds (stateOf r) × Written r ⌝ }
 {
     let mut current = state_of(state);
     let mut i = 0;

@@ -5,10 +5,9 @@ use native.Mathlib.Omega.{arith}
 use lib.ListN.{getD}
 use borrow.Author.Needs.{needs}
 use Rattle.queue_tree.specs.declared.Item.{Item}
-use Rattle.queue_tree.specs.Sound.{noEntry}
 use Rattle.exports_queue_tree.specs.Plain.{entriesFrom}
 use Rattle.exports_queue_tree.proofs.Filling.{Filled, fill-none, fill-more, fill-all}
-use Rattle.exports_queue_tree.proofs.Crossing.{entries-length, entries-at}
+use Rattle.exports_queue_tree.proofs.Crossing.{noEntry, entries-length, entries-at}
 use Rattle.exports_queue_tree.proofs.entries_of.Statement.{statement}
 use Rattle.exports_queue_tree.proofs.entries_of.Tie as tie
 

@@ -3,6 +3,7 @@ use borrow.Author.Needs.{needs}
 use Prim.Native.Nat.{_≤_, _-_}
 use native.Mathlib.Omega.{arith}
 use Rattle.exports_queue_tree.specs.Churn.{Churned}
+use Rattle.exports_queue_tree.proofs.Crossing.{state-back, is-written}
 use Rattle.exports_queue_tree.proofs.Churning.{churn-none, churn-more, churn-same}
 use Rattle.exports_queue_tree.proofs.linduvar_churn.Statement.{statement}
 use Rattle.exports_queue_tree.proofs.linduvar_churn.Tie as tie
@@ -45,8 +46,11 @@ returns : tie.Need-returns Inv-loop μ-loop
 returns c =
     let loop = c .before .before .loop in
     let state-of = c .before .before .before .state-of in
-    churn-same _ _ _ _ _ _ _ _ (state-of .ensures)
-    (omega (arith, loop .inv .0, c .before .loop-test .left)) (c .plain .ensures) (loop .inv .1)
+    let back = state-back _ _ (c .plain .ensures) in (
+      churn-same _ _ _ _ _ _ _ _ (state-of .ensures)
+          (omega (arith, loop .inv .0, c .before .loop-test .left)) back (loop .inv .1),
+      is-written _ _ (c .plain .ensures),
+    )
 
 pub linduvar-churn-spec : {M : Type 1} → statement M
 linduvar-churn-spec =

@@ -1,6 +1,6 @@
--- The parts of the entries, put together again, are the entries.
+-- Field by field; the parts of the entries are those of the loops.
 use borrow.Author.Needs.{needs}
-use Rattle.exports_queue_tree.proofs.Crossing.{state-back}
+use Rattle.exports_queue_tree.proofs.Crossing.{plain-from}
 use Rattle.exports_queue_tree.proofs.plain.Statement.{statement}
 use Rattle.exports_queue_tree.proofs.plain.Tie as tie
 
@@ -18,7 +18,7 @@ packets-of-requires c κs = search needs
 
 returns : tie.Need-returns
 returns c =
-    state-back _ _ _ _ _ (c .before .before .before .ranks-of .ensures) (c .before .before .tags-of .ensures)
+    plain-from _ _ _ _ _ (c .before .before .before .ranks-of .ensures) (c .before .before .tags-of .ensures)
     (c .before .children-of .ensures) (c .packets-of .ensures)
 
 pub plain-spec : {M : Type 1} → statement M
