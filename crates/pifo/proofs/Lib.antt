@@ -6,7 +6,6 @@ pub mod Pop
 pub mod Runs
 pub mod Examples
 pub mod Queues
-pub mod Build
 pub mod Answers
 pub mod Append
 pub mod Numbered

@@ -6,6 +6,5 @@ pub mod Carried
 pub mod Mirrored
 pub mod Chip
 pub mod Simulation
-pub mod Runs
 pub mod Nodes
 pub mod Examples

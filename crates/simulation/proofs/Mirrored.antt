@@ -16,7 +16,6 @@ use Rattle.pifo.specs.Addressed.{queueAt, along, put, atop}
 use Rattle.pifo.proofs.Queues.{push-queue, Trail, Trails, pop-trail, Heads, trail-pop, queue-empty, queue-rises, root-held, root-own}
 use Rattle.pifo.proofs.Order.{both}
 use Rattle.pifo.proofs.Pop.{child-own}
-use Rattle.pifo.proofs.Build.{same-queues}
 use Rattle.simulation.specs.Mirror.{Owns, turn, turned, Mirrors}
 use Rattle.simulation.specs.Carrying.{carryFrom}
 use Rattle.simulation.proofs.Images.{Keeps}
@@ -51,16 +50,6 @@ module _ {S T : Topo} {F : Addr → Addr} (K : Keeps S T F) where
     mirrors-held s t w v hs M =
         let own : every (allowed (width S)) (queueAt s []) ≡ true = rw hs at (root-own s w) in
         omega (arith, root-held t v, root-held s w, ap length (M .queues [] [] tt tt (root-owns K)), turned-all (queueAt s []) own)
-
-    -- A source tree has one mirror at most: the queue at each target address is the owner's, turned.
-    pub mirrors-unique : (s t u : PTree P) → shape t ≡ T → shape u ≡ T → Mirrors S T F s t → Mirrors S T F s u → t ≡ u
-    mirrors-unique s t u ht hu M N = same-queues t u (ht ∙ sym hu) same
-      where
-        same : (a : Addr) → In (shape t) a → queueAt t a ≡ queueAt u a
-        same a i =
-            let o = owner K a in
-            let there : In T a = rw ht at i in
-            M .queues (o .node) a (o .there) there (o .owns) ∙ sym (N .queues (o .node) a (o .there) there (o .owns))
 
     module _ (s t : PTree P) (w : well s ≡ true) (hs : shape s ≡ S) (ht : shape t ≡ T) (M : Mirrors S T F s t) where
       pub mirrors-push : (ss : List Step) (l : ℕ) (p : P) → pathFault S ss ≡ 0 → Mirrors S T F (push s ss l p) (push t (carryFrom F [] ss) l p)

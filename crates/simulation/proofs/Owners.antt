@@ -1,4 +1,4 @@
--- Every target node has exactly one owner. It is found from the root down: where the image of some child still is the target node or lies
+-- Every target node has an owner. It is found from the root down: where the image of some child still is the target node or lies
 -- above it, that child takes over. This ends because images of children lie strictly lower.
 use mathlib.Core.Path.{_≡_, refl, sym, ap, _∙_, subst}
 use mathlib.Core.Logic.{_⊎_, inl, inr}
@@ -12,7 +12,7 @@ use Rattle.topology.specs.Tree.{Topo, width}
 use Rattle.topology.specs.Address.{Addr, In, sub, Above}
 use Rattle.topology.proofs.Ancestry.{in-front, in-below, in-join}
 use Rattle.simulation.specs.Mirror.{Owns}
-use Rattle.simulation.proofs.Prefixes.{above-trans, above-strict, above-antisym, above-either, above-dec}
+use Rattle.simulation.proofs.Prefixes.{above-trans, above-strict, above-either, above-dec}
 use Rattle.simulation.proofs.Images.{Keeps}
 
 module _ {S T : Topo} {F : Addr → Addr} (K : Keeps S T F) where
@@ -55,9 +55,6 @@ module _ {S T : Topo} {F : Addr → Addr} (K : Keeps S T F) where
           let mid = in-front S (b ++ (x ∷ [])) d (subst (In S) way j) in
           absurd (o .lowest x mid (above-trans (F (b ++ (x ∷ []))) (F c) a (K .down (b ++ (x ∷ [])) c mid j (d, way)) u))
       by-meet (apart k x y d e n g h) = absurd (parted k x y d e n g h (by-order (above-either (F b) (F c) a (o .covers) u)))
-
-  pub owner-unique : (b c a : Addr) → In S b → In S c → Owns S F b a → Owns S F c a → b ≡ c
-  owner-unique b c a i j o u = above-antisym b c (owner-low c b a j i u (o .covers)) (owner-low b c a i j o (u .covers))
 
   pub record Owner (a : Addr) : Type 0 where
     pub node : Addr
