@@ -11,8 +11,9 @@ use linduvar_tests::rattle_queue_tree;
 use std::hint::black_box;
 
 const CHAINS: usize = 4;
-const CALLS: u32 = 4_000;
-const ROUNDS: usize = 10;
+// A round is short, so that the best one was not interrupted.
+const CALLS: u32 = 100;
+const ROUNDS: usize = 300;
 const SINGLES: usize = 2_000;
 
 pub fn run(random: &mut Random) {
