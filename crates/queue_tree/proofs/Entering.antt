@@ -247,11 +247,11 @@ module _ (os : List ℕ) (es : List CodeEntry) (used k₀ : ℕ) (a : Added) (r 
           )
 
       pub behind : getD pending node 0 ≢ 0 → getD entries i noEntry .rank ≤ getD (a .entries) node noEntry .rank
-          → Entering os es used k₀ a (set pending node 0) (left - 1) (set owners (i + 1 + (left - 1)) (getD owners i 0)) (set entries (i + 1 + (left - 1)) (getD (a .entries) node noEntry)) at
+          → Entering os es used k₀ a (set pending node 0) (left - 1) (set owners (i + left) (getD owners i 0)) (set entries (i + left) (getD (a .entries) node noEntry)) at
       behind n q =
           let f : Entry ℕ = entryOf (getD (a .entries) node noEntry) in
           let ord = ordered in
-          place node (i + 1 + (left - 1)) (getD owners i 0) (omega (arith, on, owner-low)) (sym on) (omega arith) n
+          place node (i + left) (getD owners i 0) (omega (arith, on, owner-low)) (sym on) (omega arith) n
           (subst (λ (c : ℕ). insert f (queueIn os es c node) ≡ queueIn os es c node ++ (f ∷ [])) (sym m)
           (insert-last 0 f (queueIn os es (suc i) node) (ord .0) (omega (arith, ord .1))))
 

@@ -63,6 +63,12 @@ array-copy-out-fresh c =
     let r = ready-parts _ _ _ _ _ (s .pre) in
     omega (arith, at .loop .inv .nodes, owner-low _ _ _ _ _ r (search needs) (search needs) _ _ _ _ _ (at .loop .inv) (c .before .before .before .loop-test .taken) (at .loop .at - s .args .nodes - 1) (search needs), c .wide .ensures .0)
 
+add-to : tie.Need-add-to Inv-loop μ-loop
+add-to c = search needs
+
+array-write-owners : tie.Need-array-write-owners Inv-loop μ-loop
+array-write-owners c = search needs
+
 array-read-goes-behind : tie.Need-array-read-goes-behind Inv-loop μ-loop
 array-read-goes-behind c =
     let at = c .before .before .before .before .before in
@@ -83,21 +89,6 @@ array-write-pending c =
     let r = ready-parts _ _ _ _ _ (s .pre) in
     omega (arith, at .loop .inv .nodes, owner-low _ _ _ _ _ r (search needs) (search needs) _ _ _ _ _ (at .loop .inv) (c .before .before .before .before .before .before .loop-test .taken) (at .loop .at - s .args .nodes - 1) (search needs), c .before .before .before .wide .ensures .0)
 
-add-owners : tie.Need-add-owners Inv-loop μ-loop
-add-owners c = search needs
-
-add-owners-2 : tie.Need-add-owners-2 Inv-loop μ-loop
-add-owners-2 c = search needs
-
-array-write-owners : tie.Need-array-write-owners Inv-loop μ-loop
-array-write-owners c = search needs
-
-add-entries : tie.Need-add-entries Inv-loop μ-loop
-add-entries c = search needs
-
-add-entries-2 : tie.Need-add-entries-2 Inv-loop μ-loop
-add-entries-2 c = search needs
-
 mul-entries : tie.Need-mul-entries Inv-loop μ-loop
 mul-entries c = search needs
 
@@ -117,15 +108,6 @@ loop-again c =
 
 sub-at : tie.Need-sub-at Inv-loop μ-loop
 sub-at c = search needs
-
-add-owners-3 : tie.Need-add-owners-3 Inv-loop μ-loop
-add-owners-3 c = search needs
-
-array-write-owners-2 : tie.Need-array-write-owners-2 Inv-loop μ-loop
-array-write-owners-2 c = search needs
-
-add-entries-3 : tie.Need-add-entries-3 Inv-loop μ-loop
-add-entries-3 c = search needs
 
 mul-entries-2 : tie.Need-mul-entries-2 Inv-loop μ-loop
 mul-entries-2 c = search needs
@@ -167,8 +149,8 @@ cast-owners c =
     let r = ready-parts _ _ _ _ _ (s .pre) in
     omega (arith, at .loop .inv .nodes)
 
-array-write-owners-3 : tie.Need-array-write-owners-3 Inv-loop μ-loop
-array-write-owners-3 c = search needs
+array-write-owners-2 : tie.Need-array-write-owners-2 Inv-loop μ-loop
+array-write-owners-2 c = search needs
 
 mul-entries-3 : tie.Need-mul-entries-3 Inv-loop μ-loop
 mul-entries-3 c = search needs
@@ -237,23 +219,17 @@ enter-spec =
     wide-requires
     mul-fresh
     array-copy-out-fresh
+    add-to
+    array-write-owners
     array-read-goes-behind
     goes-behind-requires
     sub-left
     array-write-pending
-    add-owners
-    add-owners-2
-    array-write-owners
-    add-entries
-    add-entries-2
     mul-entries
     array-set-from-entries
     loop-less
     loop-again
     sub-at
-    add-owners-3
-    array-write-owners-2
-    add-entries-3
     mul-entries-2
     array-set-from-entries-2
     loop-less-2
@@ -263,7 +239,7 @@ enter-spec =
     sub-left-2
     array-write-pending-2
     cast-owners
-    array-write-owners-3
+    array-write-owners-2
     mul-entries-3
     array-copy-out-entries
     mul-entries-4
