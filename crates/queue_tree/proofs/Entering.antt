@@ -40,6 +40,9 @@ module _ (os : List ℕ) (es : List CodeEntry) (used k₀ : ℕ) (a : Added) whe
       ≡ insertSome (addedAt a n) (queueIn os es used n)
 
   pub record Entering (pending : List ℕ) (left : ℕ) (owners : List ℕ) (entries : List CodeEntry) (at : ℕ) : Type 0 where
+    pub ready : Ready os es used k₀ a
+    pub old-owners : length os ≡ 2304
+    pub old-entries : length es ≡ 2304
     pub owners-long : length owners ≡ 2304
     pub entries-long : length entries ≡ 2304
     pub marks : length pending ≡ 64
@@ -97,6 +100,9 @@ pub begin : (os : List ℕ) (es : List CodeEntry) (used k₀ : ℕ) (a : Added) 
 begin os es used k₀ a r ho he =
     let m : used + k₀ - k₀ ≡ used = omega arith in
     record {
+      ready = r;
+      old-owners = ho;
+      old-entries = he;
       owners-long = ho;
       entries-long = he;
       marks = r .marks;
@@ -136,7 +142,7 @@ coming-before pending new n e q c = ⊎-elim (λ z. at-zero z) (λ l. by-mark (g
     by-mark zero l = refl
     by-mark (suc k) l = insert-before (entryOf (getD new n noEntry)) (entryOf e) q l
 
-module _ (os : List ℕ) (es : List CodeEntry) (used k₀ : ℕ) (a : Added) (r : Ready os es used k₀ a) (ho : length os ≡ 2304) (he : length es ≡ 2304)
+module _ (os : List ℕ) (es : List CodeEntry) (used k₀ : ℕ) (a : Added)
     (pending : List ℕ) (left : ℕ) (owners : List ℕ) (entries : List CodeEntry) (at : ℕ) (w : Entering os es used k₀ a pending left owners entries at)
     (hl : 0 < left) where
   -- the new entry of node n
@@ -202,6 +208,9 @@ module _ (os : List ℕ) (es : List CodeEntry) (used k₀ : ℕ) (a : Added) (r 
     pub place : Entering os es used k₀ a (set pending node 0) (left - 1) (set owners k o) (set entries k (fresh node)) at
     place =
         record {
+          ready = w .ready;
+          old-owners = w .old-owners;
+          old-entries = w .old-entries;
           owners-long = length-set owners k o ∙ w .owners-long;
           entries-long = length-set entries k (fresh node) ∙ w .entries-long;
           marks = length-set pending node 0 ∙ w .marks;
@@ -254,7 +263,7 @@ module _ (os : List ℕ) (es : List CodeEntry) (used k₀ : ℕ) (a : Added) (r 
       same-owner,
       getD-take used os i 0 lives,
       below-at k₀ (take used os) i
-          (omega (arith, length-take-le used os (omega (arith, r .room)))) (r .owned),
+          (omega (arith, length-take-le used os (omega (arith, w .ready .room)))) (w .ready .owned),
     )
 
     now-queues : (n : ℕ) → n < k₀ → Joins os es used k₀ a pending owners entries (suc i) (suc i + left) n
@@ -263,16 +272,16 @@ module _ (os : List ℕ) (es : List CodeEntry) (used k₀ : ℕ) (a : Added) (r 
     module _ (node : ℕ) (on : node ≡ getD owners i 0) where
       own : queueIn os es (suc i) node ≡ queueIn os es i node ++ (entryOf (getD entries i noEntry) ∷ [])
       own =
-          queue-own os es noEntry i node (omega (arith, lives, r .room)) (omega (arith, lives, r .room)) (sym (on ∙ same-owner))
+          queue-own os es noEntry i node (omega (arith, lives, w .ready .room)) (omega (arith, lives, w .ready .room)) (sym (on ∙ same-owner))
           ∙ ap (λ (e : CodeEntry). queueIn os es i node ++ (entryOf e ∷ [])) (sym same-entry)
 
       other : (n : ℕ) → node ≢ n → queueIn os es (suc i) n ≡ queueIn os es i n
-      other n d = queue-other os es noEntry i n (omega (arith, lives, r .room)) (omega (arith, lives, r .room)) (λ e. d (on ∙ same-owner ∙ e))
+      other n d = queue-other os es noEntry i n (omega (arith, lives, w .ready .room)) (omega (arith, lives, w .ready .room)) (λ e. d (on ∙ same-owner ∙ e))
 
       ordered : (risesFrom 0 (queueIn os es (suc i) node) ≡ true) × (lastFrom 0 (queueIn os es (suc i) node) ≡ getD entries i noEntry .rank)
       ordered = (
-        rises-front os es used (suc i) node (omega (arith, lives)) (omega (arith, r .room)) (omega (arith, r .room))
-            (r .rises node (omega (arith, on, owner-low))),
+        rises-front os es used (suc i) node (omega (arith, lives)) (omega (arith, w .ready .room)) (omega (arith, w .ready .room))
+            (w .ready .rises node (omega (arith, on, owner-low))),
         ap (lastFrom 0) own ∙ last-append 0 (queueIn os es i node) (entryOf (getD entries i noEntry)),
       )
 
@@ -294,6 +303,9 @@ module _ (os : List ℕ) (es : List CodeEntry) (used k₀ : ℕ) (a : Added) (r 
           let up : suc (i + left) ≡ suc i + left = omega arith in
           let b : i + left < used + a .count = omega (arith, w .few, lives) in
           record {
+            ready = w .ready;
+            old-owners = w .old-owners;
+            old-entries = w .old-entries;
             owners-long = length-set owners (i + left) (getD owners i 0) ∙ w .owners-long;
             entries-long = length-set entries (i + left) (getD entries i noEntry) ∙ w .entries-long;
             marks = w .marks;
@@ -383,6 +395,9 @@ module _ (os : List ℕ) (es : List CodeEntry) (used k₀ : ℕ) (a : Added) (r 
       skipped z =
           let m : at - 1 - k₀ ≡ at - k₀ = omega arith in
           record {
+            ready = w .ready;
+            old-owners = w .old-owners;
+            old-entries = w .old-entries;
             owners-long = w .owners-long;
             entries-long = w .entries-long;
             marks = w .marks;
@@ -406,11 +421,11 @@ module _ (os : List ℕ) (es : List CodeEntry) (used k₀ : ℕ) (a : Added) (r 
           by-last n h (yes e) g = ap (λ (k : ℕ). getD pending k 0) (sym e) ∙ z
           by-last n h (no d) g = w .done n (omega arith) h
 
-pub finish : (os : List ℕ) (es : List CodeEntry) (used k₀ : ℕ) (a : Added) (r : Ready os es used k₀ a) (ho : length os ≡ 2304) (he : length es ≡ 2304)
+pub finish : (os : List ℕ) (es : List CodeEntry) (used k₀ : ℕ) (a : Added)
     (pending : List ℕ) (left : ℕ) (owners : List ℕ) (entries : List CodeEntry) (at : ℕ) → Entering os es used k₀ a pending left owners entries at
     → left ≤ 0
     → Entered os es used k₀ a (record { owners = owners; entries = entries })
-finish os es used k₀ a r ho he pending left owners entries at w z =
+finish os es used k₀ a pending left owners entries at w z =
     record {
       owners-long = w .owners-long;
       entries-long = w .entries-long;
@@ -420,7 +435,7 @@ finish os es used k₀ a r ho he pending left owners entries at w z =
           ap (allBelow k₀) (take-slice (at - k₀) (used + a .count) owners (omega (arith, w .start)))
           ∙ below-append k₀ (take (at - k₀) owners) (slice (at - k₀) (used + a .count) owners)
           ∙ join
-          (ap (allBelow k₀) (w .front) ∙ below-front k₀ os (at - k₀) used (omega (arith, w .start)) (r .owned))
+          (ap (allBelow k₀) (w .front) ∙ below-front k₀ os (at - k₀) used (omega (arith, w .start)) (w .ready .owned))
           (subst (λ (c : ℕ). allBelow k₀ (slice c (used + a .count) owners) ≡ true) m (w .low));
       queues = λ n h.
           let zero-left : left ≡ 0 = omega arith in

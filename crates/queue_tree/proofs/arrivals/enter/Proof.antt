@@ -28,23 +28,17 @@ sub-i-2 c = search needs
 array-read-owner : tie.Need-array-read-owner Inv-loop μ-loop
 array-read-owner c =
     let at = c .before .before in
-    let s = at .before .before .before in
-    let r = ready-parts _ _ _ _ _ (s .pre) in
-    omega (arith, at .loop .inv .start, r .room)
+    omega (arith, at .loop .inv .start, at .loop .inv .room)
 
 mul-entry : tie.Need-mul-entry Inv-loop μ-loop
 mul-entry c =
     let at = c .before .before in
-    let s = at .before .before .before in
-    let r = ready-parts _ _ _ _ _ (s .pre) in
-    omega (arith, at .loop .inv .start, r .room)
+    omega (arith, at .loop .inv .start, at .loop .inv .room)
 
 array-copy-out-entry : tie.Need-array-copy-out-entry Inv-loop μ-loop
 array-copy-out-entry c =
     let at = c .before .before in
-    let s = at .before .before .before in
-    let r = ready-parts _ _ _ _ _ (s .pre) in
-    omega (arith, at .loop .inv .start, r .room)
+    omega (arith, at .loop .inv .start, at .loop .inv .room)
 
 wide-requires : tie.Need-wide-requires Inv-loop μ-loop
 wide-requires c κs = search needs
@@ -53,15 +47,13 @@ mul-fresh : tie.Need-mul-fresh Inv-loop μ-loop
 mul-fresh c =
     let at = c .before .before .before .before in
     let s = at .before .before .before in
-    let r = ready-parts _ _ _ _ _ (s .pre) in
-    omega (arith, at .loop .inv .nodes, owner-low _ _ _ _ _ r (search needs) (search needs) _ _ _ _ _ (at .loop .inv) (c .before .before .before .loop-test .taken) (at .loop .at - s .args .nodes - 1) (search needs), c .wide .ensures .0)
+    omega (arith, at .loop .inv .nodes, owner-low _ _ _ _ _ _ _ _ _ _ (at .loop .inv) (c .before .before .before .loop-test .taken) (at .loop .at - s .args .nodes - 1) (search needs), c .wide .ensures .0)
 
 array-copy-out-fresh : tie.Need-array-copy-out-fresh Inv-loop μ-loop
 array-copy-out-fresh c =
     let at = c .before .before .before .before in
     let s = at .before .before .before in
-    let r = ready-parts _ _ _ _ _ (s .pre) in
-    omega (arith, at .loop .inv .nodes, owner-low _ _ _ _ _ r (search needs) (search needs) _ _ _ _ _ (at .loop .inv) (c .before .before .before .loop-test .taken) (at .loop .at - s .args .nodes - 1) (search needs), c .wide .ensures .0)
+    omega (arith, at .loop .inv .nodes, owner-low _ _ _ _ _ _ _ _ _ _ (at .loop .inv) (c .before .before .before .loop-test .taken) (at .loop .at - s .args .nodes - 1) (search needs), c .wide .ensures .0)
 
 add-to : tie.Need-add-to Inv-loop μ-loop
 add-to c = search needs
@@ -73,8 +65,7 @@ array-read-goes-behind : tie.Need-array-read-goes-behind Inv-loop μ-loop
 array-read-goes-behind c =
     let at = c .before .before .before .before .before in
     let s = at .before .before .before in
-    let r = ready-parts _ _ _ _ _ (s .pre) in
-    omega (arith, at .loop .inv .nodes, owner-low _ _ _ _ _ r (search needs) (search needs) _ _ _ _ _ (at .loop .inv) (c .before .before .before .before .loop-test .taken) (at .loop .at - s .args .nodes - 1) (search needs), c .before .wide .ensures .0)
+    omega (arith, at .loop .inv .nodes, owner-low _ _ _ _ _ _ _ _ _ _ (at .loop .inv) (c .before .before .before .before .loop-test .taken) (at .loop .at - s .args .nodes - 1) (search needs), c .before .wide .ensures .0)
 
 goes-behind-requires : tie.Need-goes-behind-requires Inv-loop μ-loop
 goes-behind-requires c κs = search needs
@@ -86,8 +77,7 @@ array-write-pending : tie.Need-array-write-pending Inv-loop μ-loop
 array-write-pending c =
     let at = c .before .before .before .before .before .before .before in
     let s = at .before .before .before in
-    let r = ready-parts _ _ _ _ _ (s .pre) in
-    omega (arith, at .loop .inv .nodes, owner-low _ _ _ _ _ r (search needs) (search needs) _ _ _ _ _ (at .loop .inv) (c .before .before .before .before .before .before .loop-test .taken) (at .loop .at - s .args .nodes - 1) (search needs), c .before .before .before .wide .ensures .0)
+    omega (arith, at .loop .inv .nodes, owner-low _ _ _ _ _ _ _ _ _ _ (at .loop .inv) (c .before .before .before .before .before .before .loop-test .taken) (at .loop .at - s .args .nodes - 1) (search needs), c .before .before .before .wide .ensures .0)
 
 mul-entries : tie.Need-mul-entries Inv-loop μ-loop
 mul-entries c = search needs
@@ -102,8 +92,7 @@ loop-again : tie.Need-loop-again Inv-loop μ-loop
 loop-again c =
     let at = c .before .before .before .before .before .before .before in
     let s = at .before .before .before in
-    let r = ready-parts _ _ _ _ _ (s .pre) in
-    behind _ _ _ _ _ r (search needs) (search needs) _ _ _ _ _ (at .loop .inv) (c .before .before .before .before .before .before .loop-test .taken) (at .loop .at - s .args .nodes - 1) (search needs) _ (c .before .before .before .wide .ensures .0)
+    behind _ _ _ _ _ _ _ _ _ _ (at .loop .inv) (c .before .before .before .before .before .before .loop-test .taken) (at .loop .at - s .args .nodes - 1) (search needs) _ (c .before .before .before .wide .ensures .0)
     (c .before .goes-behind .ensures .if-true (c .if2 .taken) .0) (c .before .goes-behind .ensures .if-true (c .if2 .taken) .1)
 
 sub-at : tie.Need-sub-at Inv-loop μ-loop
@@ -122,16 +111,13 @@ loop-again-2 : tie.Need-loop-again-2 Inv-loop μ-loop
 loop-again-2 c =
     let at = c .before .before .before .before .before .before .before in
     let s = at .before .before .before in
-    let r = ready-parts _ _ _ _ _ (s .pre) in
-    moved _ _ _ _ _ r (search needs) (search needs) _ _ _ _ _ (at .loop .inv) (c .before .before .before .before .before .before .loop-test .taken) (at .loop .at - s .args .nodes - 1) (search needs) _ (c .before .before .before .wide .ensures .0)
+    moved _ _ _ _ _ _ _ _ _ _ (at .loop .inv) (c .before .before .before .before .before .before .loop-test .taken) (at .loop .at - s .args .nodes - 1) (search needs) _ (c .before .before .before .wide .ensures .0)
     (c .before .goes-behind .ensures .if-false (c .if2 .left))
 
 sub-node : tie.Need-sub-node Inv-loop μ-loop
 sub-node c =
     let at = c .before .before in
-    let s = at .before .before .before in
-    let r = ready-parts _ _ _ _ _ (s .pre) in
-    at-pos _ _ _ _ _ r (search needs) (search needs) _ _ _ _ _ (at .loop .inv) (c .before .loop-test .taken) (c .if1 .left)
+    at-pos _ _ _ _ _ _ _ _ _ _ (at .loop .inv) (c .before .loop-test .taken) (c .if1 .left)
 
 array-read-if3 : tie.Need-array-read-if3 Inv-loop μ-loop
 array-read-if3 c = search needs
@@ -145,8 +131,6 @@ array-write-pending-2 c = search needs
 cast-owners : tie.Need-cast-owners Inv-loop μ-loop
 cast-owners c =
     let at = c .before .before .before in
-    let s = at .before .before .before in
-    let r = ready-parts _ _ _ _ _ (s .pre) in
     omega (arith, at .loop .inv .nodes)
 
 array-write-owners-2 : tie.Need-array-write-owners-2 Inv-loop μ-loop
@@ -170,38 +154,28 @@ loop-less-3 c = search needs
 loop-again-3 : tie.Need-loop-again-3 Inv-loop μ-loop
 loop-again-3 c =
     let at = c .before .before .before .before in
-    let s = at .before .before .before in
-    let r = ready-parts _ _ _ _ _ (s .pre) in
-    first _ _ _ _ _ r (search needs) (search needs) _ _ _ _ _ (at .loop .inv) (c .before .before .before .loop-test .taken) (c .before .before .if1 .left) _ refl (c .before .if3 .taken)
+    first _ _ _ _ _ _ _ _ _ _ (at .loop .inv) (c .before .before .before .loop-test .taken) (c .before .before .if1 .left) _ refl (c .before .if3 .taken)
 
 sub-at-2 : tie.Need-sub-at-2 Inv-loop μ-loop
 sub-at-2 c =
     let at = c .before .before .before in
-    let s = at .before .before .before in
-    let r = ready-parts _ _ _ _ _ (s .pre) in
-    let p = at-pos _ _ _ _ _ r (search needs) (search needs) _ _ _ _ _ (at .loop .inv) (c .before .before .loop-test .taken) (c .before .if1 .left) in
-    p
+    at-pos _ _ _ _ _ _ _ _ _ _ (at .loop .inv) (c .before .before .loop-test .taken) (c .before .if1 .left)
 
 loop-less-4 : tie.Need-loop-less-4 Inv-loop μ-loop
 loop-less-4 c =
     let at = c .before .before .before in
-    let s = at .before .before .before in
-    let r = ready-parts _ _ _ _ _ (s .pre) in
-    let p = at-pos _ _ _ _ _ r (search needs) (search needs) _ _ _ _ _ (at .loop .inv) (c .before .before .loop-test .taken) (c .before .if1 .left) in
+    let p = at-pos _ _ _ _ _ _ _ _ _ _ (at .loop .inv) (c .before .before .loop-test .taken) (c .before .if1 .left) in
     omega arith
 
 loop-again-4 : tie.Need-loop-again-4 Inv-loop μ-loop
 loop-again-4 c =
     let at = c .before .before .before in
-    let s = at .before .before .before in
-    let r = ready-parts _ _ _ _ _ (s .pre) in
-    skipped _ _ _ _ _ r (search needs) (search needs) _ _ _ _ _ (at .loop .inv) (c .before .before .loop-test .taken) (c .before .if1 .left) _ refl (c .if3 .left)
+    skipped _ _ _ _ _ _ _ _ _ _ (at .loop .inv) (c .before .before .loop-test .taken) (c .before .if1 .left) _ refl (c .if3 .left)
 
 returns : tie.Need-returns Inv-loop μ-loop
 returns c =
     let at = c .before in
-    let s = at .before .before .before in
-    parts-entered _ _ _ _ _ _ (finish _ _ _ _ _ (ready-parts _ _ _ _ _ (s .pre)) (search needs) (search needs) _ _ _ _ _ (at .loop .inv) (c .loop-test .left))
+    parts-entered _ _ _ _ _ _ (finish _ _ _ _ _ _ _ _ _ _ (at .loop .inv) (c .loop-test .left))
 
 pub enter-spec : {M : Type 1} → statement M
 enter-spec =
