@@ -67,6 +67,7 @@ fn tally(bytes: &[u8], owners: [u8; 2304], entries: [Entry; 2304], used: usize) 
 {
     let mut lengths = [0u16; 64];
     let mut counts = [0u16; 576];
+    // a place for each byte: it is read before the owner is known to be a node
     let mut last = [0u32; 256];
     let mut i = 0;
     while i < used {
