@@ -55,31 +55,41 @@ more-marks : (marks : List ℕ) (ns : List ℕ) (node : ℕ) → node < length m
 more-marks marks ns node h f m = by-node (ℕ-discrete node m)
   where
     by-node : Dec (node ≡ m) → getD (set marks node 1) m 0 ≡ pick (eqb node m || isIn m ns) 1 0
-    by-node (yes e) = ap (λ (k : ℕ). getD (set marks node 1) k 0) (sym e) ∙ getD-set-same marks node 1 0 h ∙ sym (ap (λ (b : Bool). pick (b || isIn m ns) 1 0) (eq-eqb node m e))
+    by-node (yes e) =
+        ap (λ (k : ℕ). getD (set marks node 1) k 0) (sym e) ∙ getD-set-same marks node 1 0 h
+        ∙ sym (ap (λ (b : Bool). pick (b || isIn m ns) 1 0) (eq-eqb node m e))
     by-node (no d) = getD-set-other marks node m 1 0 (λ y. d (sym y)) ∙ f m ∙ sym (ap (λ (b : Bool). pick (b || isIn m ns) 1 0) (ne-eqb node m d))
 
 module _ (bytes : List ℕ) (v : fault 64 bytes ≡ 0) (heads : Heads) (node : ℕ) (h : node < length bytes) where
+  -- the way down from child i of the node, and by the node's queue, with k steps left
+  abbrev at-child : ℕ → Queues ℕ → ℕ → Option (ℕ × List ℕ)
+  at-child k q i = descent k (nth (kids (subtree (tree bytes) node)) i) (kidAt (subtree (tree bytes) node) node i) q
+
+  abbrev by-queue : ℕ → Queues ℕ → List (Entry ℕ) → Option (ℕ × List ℕ)
+  by-queue k q l = descentBy l (width (subtree (tree bytes) node)) node (λ i. at-child k q i)
+
   low : node < 64
   low = omega (arith, valid-length 64 bytes v)
 
-  pub out-of-steps : (left : ℕ) → left ≡ 0 → (r : Trail) → r .found ≡ false → (q : Queues ℕ) → Heading heads q → Down (descent left (subtree (tree bytes) node) node q) r
+  pub out-of-steps : (left : ℕ) → left ≡ 0 → (r : Trail) → r .found ≡ false → (q : Queues ℕ) → Heading heads q
+      → Down (descent left (subtree (tree bytes) node) node q) r
   out-of-steps left z r f q g = subst (λ (k : ℕ). Down (descent k (subtree (tree bytes) node) node q) r) (sym z) f
 
   -- by the head of the node's queue, with steps left
   step : (left : ℕ) → left ≢ 0 → (r : Trail) (q : Queues ℕ)
-      → Down (descentBy (q node) (width (subtree (tree bytes) node)) node (λ i. descent (left - 1) (nth (kids (subtree (tree bytes) node)) i) (kidAt (subtree (tree bytes) node) node i) q)) r
+      → Down (by-queue (left - 1) q (q node)) r
       → Down (descent left (subtree (tree bytes) node) node q) r
   step zero z r q d = absurd (z refl)
   step (suc k) z r q d =
       let e : suc k - 1 ≡ k = omega arith in
-      subst (λ (j : ℕ). Down (descentBy (q node) (width (subtree (tree bytes) node)) node (λ i. descent j (nth (kids (subtree (tree bytes) node)) i) (kidAt (subtree (tree bytes) node) node i) q)) r) e d
+      subst (λ (j : ℕ). Down (by-queue j q (q node)) r) e d
 
   pub empty-queue : (left : ℕ) → left ≢ 0 → getD (heads .filled) node 0 ≡ 0 → (r : Trail) → r .found ≡ false → (q : Queues ℕ) → Heading heads q
       → Down (descent left (subtree (tree bytes) node) node q) r
   empty-queue left z e r f q g =
       let n = no-head (q node) (g .head node low ∙ ap (λ (k : ℕ). marked k (entryOf (getD (heads .entries) node noEntry)) none) e) in
       step left z r q
-      (subst (λ (l : List (Entry ℕ)). Down (descentBy l (width (subtree (tree bytes) node)) node (λ i. descent (left - 1) (nth (kids (subtree (tree bytes) node)) i) (kidAt (subtree (tree bytes) node) node i) q)) r) (sym n) f)
+      (subst (λ (l : List (Entry ℕ)). Down (by-queue (left - 1) q l) r) (sym n) f)
 
   module _ (left : ℕ) (z : left ≢ 0) (filled : getD (heads .filled) node 0 ≢ 0) where
     -- the head is there, and the definition goes by it
@@ -89,39 +99,45 @@ module _ (bytes : List ℕ) (v : fault 64 bytes ≡ 0) (heads : Heads) (node : �
         (g .head node low ∙ set-mark (getD (heads .filled) node 0) (entryOf (getD (heads .entries) node noEntry)) filled)
 
     by-item : (x : CodeItem) → getD (heads .entries) node noEntry .item ≡ x → (r : Trail) (q : Queues ℕ) → Heading heads q
-        → ((back : List (Entry ℕ)) → Down (descentBy (entry (getD (heads .entries) node noEntry .rank) (itemOf x) ∷ back) (width (subtree (tree bytes) node)) node (λ i. descent (left - 1) (nth (kids (subtree (tree bytes) node)) i) (kidAt (subtree (tree bytes) node) node i) q)) r)
+        → ((back : List (Entry ℕ)) → Down (by-queue (left - 1) q (entry (getD (heads .entries) node noEntry .rank) (itemOf x) ∷ back)) r)
         → Down (descent left (subtree (tree bytes) node) node q) r
     by-item x e r q g d =
         let hd = by-head q g in
         step left z r q
         (subst
-        (λ (l : List (Entry ℕ)). Down (descentBy l (width (subtree (tree bytes) node)) node (λ i. descent (left - 1) (nth (kids (subtree (tree bytes) node)) i) (kidAt (subtree (tree bytes) node) node i) q)) r)
+        (λ (l : List (Entry ℕ)). Down (by-queue (left - 1) q l) r)
         (sym (hd .1 ∙ ap (λ (y : CodeItem). entry (getD (heads .entries) node noEntry .rank) (itemOf y) ∷ hd .0) e))
         (d (hd .0)))
 
-    pub a-packet : (p : ℕ) → getD (heads .entries) node noEntry .item ≡ Packet p → (r : Trail) → r .found ≡ true → r .packet ≡ p → r .marks ≡ set (replicate 64 0) node 1
-        → (q : Queues ℕ) → Heading heads q → Down (descent left (subtree (tree bytes) node) node q) r
+    pub a-packet : (p : ℕ) → getD (heads .entries) node noEntry .item ≡ Packet p → (r : Trail) → r .found ≡ true → r .packet ≡ p
+        → r .marks ≡ set (replicate 64 0) node 1 → (q : Queues ℕ) → Heading heads q → Down (descent left (subtree (tree bytes) node) node q) r
     a-packet p e r f x m q g =
         by-item (Packet p) e r q g
         (λ _. (
           f,
           x,
           ap length m ∙ length-set (replicate 64 0) node 1 ∙ length-replicate {A = ℕ} 64 0,
-          λ k. ap (λ (l : List ℕ). getD l k 0) m ∙ more-marks (replicate 64 0) [] node (omega (arith, low, length-replicate {A = ℕ} 64 0)) (λ j. zeros-at 64 j) k,
+          λ k. ap (λ (l : List ℕ). getD l k 0) m
+              ∙ more-marks (replicate 64 0) [] node (omega (arith, low, length-replicate {A = ℕ} 64 0)) (λ j. zeros-at 64 j) k,
         ))
 
     module _ (c : ℕ) (e : getD (heads .entries) node noEntry .item ≡ Child c) where
-      pub no-child : (f : Found) → f ≡ childAt bytes node c → f ≡ Missing → (r : Trail) → r .found ≡ false → (q : Queues ℕ) → Heading heads q → Down (descent left (subtree (tree bytes) node) node q) r
+      pub no-child : (f : Found) → f ≡ childAt bytes node c → f ≡ Missing → (r : Trail) → r .found ≡ false → (q : Queues ℕ) → Heading heads q
+          → Down (descent left (subtree (tree bytes) node) node q) r
       no-child f o m r n q g = by-item (Child c) e r q g (λ back. by-child c refl back)
         where
-          by-test : (i : ℕ) (k : Bool) → ltb i (width (subtree (tree bytes) node)) ≡ k → c ≡ suc i → (d : Option (ℕ × List ℕ)) → Down (pick k (through node d) none) r
-          by-test i true t y d = absurd (valid-missing 64 bytes v node c (sym o ∙ m) (omega (arith, h, valid-size 64 bytes v), omega arith, omega (arith, ltb-true i (width (subtree (tree bytes) node)) t)))
+          by-test : (i : ℕ) (k : Bool) → ltb i (width (subtree (tree bytes) node)) ≡ k → c ≡ suc i → (d : Option (ℕ × List ℕ))
+              → Down (pick k (through node d) none) r
+          by-test i true t y d =
+              absurd
+              (valid-missing 64 bytes v node c (sym o ∙ m)
+              (omega (arith, h, valid-size 64 bytes v), omega arith, omega (arith, ltb-true i (width (subtree (tree bytes) node)) t)))
           by-test i false t y d = n
 
           by-child : (k : ℕ) → c ≡ k → (back : List (Entry ℕ))
-              → Down (descentBy (entry (getD (heads .entries) node noEntry .rank) (child k) ∷ back) (width (subtree (tree bytes) node)) node (λ i. descent (left - 1) (nth (kids (subtree (tree bytes) node)) i) (kidAt (subtree (tree bytes) node) node i) q)) r
+              → Down (by-queue (left - 1) q (entry (getD (heads .entries) node noEntry .rank) (child k) ∷ back)) r
           by-child zero y back = n
-          by-child (suc i) y back = by-test i (ltb i (width (subtree (tree bytes) node))) refl y (descent (left - 1) (nth (kids (subtree (tree bytes) node)) i) (kidAt (subtree (tree bytes) node) node i) q)
+          by-child (suc i) y back = by-test i (ltb i (width (subtree (tree bytes) node))) refl y (at-child (left - 1) q i)
 
       module _ (f : Found) (next : ℕ) (o : f ≡ childAt bytes node c) (m : f ≡ Node next) where
         has : HasChild (tree bytes) node c × (next ≡ childOf (tree bytes) node c)
@@ -132,38 +148,45 @@ module _ (bytes : List ℕ) (v : fault 64 bytes ≡ 0) (heads : Heads) (node : �
 
         -- the definition goes on at the same child
         same-way : (q : Queues ℕ) (back : List (Entry ℕ))
-            → descentBy (entry (getD (heads .entries) node noEntry .rank) (child c) ∷ back) (width (subtree (tree bytes) node)) node (λ i. descent (left - 1) (nth (kids (subtree (tree bytes) node)) i) (kidAt (subtree (tree bytes) node) node i) q)
+            → by-queue (left - 1) q (entry (getD (heads .entries) node noEntry .rank) (child c) ∷ back)
             ≡ through node (descent (left - 1) (subtree (tree bytes) next) next q)
         same-way q back = by-child c refl
           where
             by-child : (k : ℕ) → c ≡ k
-                → descentBy (entry (getD (heads .entries) node noEntry .rank) (child k) ∷ back) (width (subtree (tree bytes) node)) node (λ i. descent (left - 1) (nth (kids (subtree (tree bytes) node)) i) (kidAt (subtree (tree bytes) node) node i) q)
+                → by-queue (left - 1) q (entry (getD (heads .entries) node noEntry .rank) (child k) ∷ back)
                 ≡ through node (descent (left - 1) (subtree (tree bytes) next) next q)
             by-child zero y = absurd (omega (arith, has .0 .1))
             by-child (suc i) y =
                 let tr : nth (kids (subtree (tree bytes) node)) i ≡ subtree (tree bytes) next =
-                sym (ap (subtree (tree bytes)) (has .1) ∙ subtree-childOf (tree bytes) node c (has .0) ∙ ap (childTree (subtree (tree bytes) node)) y) in
-                let kd : kidAt (subtree (tree bytes) node) node i ≡ next = sym (has .1 ∙ ap (childOf (tree bytes) node) y ∙ childOf-ahead (tree bytes) node i (has .0 .0)) in
-                ap (λ (k : Bool). pick k (through node (descent (left - 1) (nth (kids (subtree (tree bytes) node)) i) (kidAt (subtree (tree bytes) node) node i) q)) none)
+                sym (ap (subtree (tree bytes)) (has .1) ∙ subtree-childOf (tree bytes) node c (has .0)
+                ∙ ap (childTree (subtree (tree bytes) node)) y) in
+                let kd : kidAt (subtree (tree bytes) node) node i ≡ next =
+                sym (has .1 ∙ ap (childOf (tree bytes) node) y ∙ childOf-ahead (tree bytes) node i (has .0 .0)) in
+                ap (λ (k : Bool). pick k (through node (at-child (left - 1) q i)) none)
                 (lt-ltb i (width (subtree (tree bytes) node)) (omega (arith, has .0 .2)))
                 ∙ ap (λ (x : Topo). through node (descent (left - 1) x (kidAt (subtree (tree bytes) node) node i) q)) tr
                 ∙ ap (λ (k : ℕ). through node (descent (left - 1) (subtree (tree bytes) next) k q)) kd
 
         module _ (b : Trail) (below : (q : Queues ℕ) → Heading heads q → Down (descent (left - 1) (subtree (tree bytes) next) next q) b) where
-          pub none-below : b .found ≡ false → (r : Trail) → r .found ≡ false → (q : Queues ℕ) → Heading heads q → Down (descent left (subtree (tree bytes) node) node q) r
+          pub none-below : b .found ≡ false → (r : Trail) → r .found ≡ false → (q : Queues ℕ) → Heading heads q
+              → Down (descent left (subtree (tree bytes) node) node q) r
           none-below n r x q g =
               by-item (Child c) e r q g
-              (λ back. subst (λ (d : Option (ℕ × List ℕ)). Down d r) (sym (same-way q back)) (by-way (descent (left - 1) (subtree (tree bytes) next) next q) (below q g)))
+              (λ back.
+              subst (λ (d : Option (ℕ × List ℕ)). Down d r) (sym (same-way q back))
+              (by-way (descent (left - 1) (subtree (tree bytes) next) next q) (below q g)))
             where
               by-way : (d : Option (ℕ × List ℕ)) → Down d b → Down (through node d) r
               by-way none y = x
               by-way (some (p, ns)) y = absurd (off (sym n ∙ y .0))
 
-          pub found-below : b .found ≡ true → (r : Trail) → r .found ≡ true → r .packet ≡ b .packet → r .marks ≡ set (b .marks) node 1 → (q : Queues ℕ) → Heading heads q
-              → Down (descent left (subtree (tree bytes) node) node q) r
+          pub found-below : b .found ≡ true → (r : Trail) → r .found ≡ true → r .packet ≡ b .packet → r .marks ≡ set (b .marks) node 1
+              → (q : Queues ℕ) → Heading heads q → Down (descent left (subtree (tree bytes) node) node q) r
           found-below y r x w k q g =
               by-item (Child c) e r q g
-              (λ back. subst (λ (d : Option (ℕ × List ℕ)). Down d r) (sym (same-way q back)) (by-way (descent (left - 1) (subtree (tree bytes) next) next q) (below q g)))
+              (λ back.
+              subst (λ (d : Option (ℕ × List ℕ)). Down d r) (sym (same-way q back))
+              (by-way (descent (left - 1) (subtree (tree bytes) next) next q) (below q g)))
             where
               by-way : (d : Option (ℕ × List ℕ)) → Down d b → Down (through node d) r
               by-way none n = absurd (off (sym n ∙ y))

@@ -33,7 +33,16 @@ abbrev pub coming : List ℕ → List CodeEntry → ℕ → List (Entry ℕ) →
 coming pending new n q = insertSome (marked (getD pending n 0) (entryOf (getD new n noEntry)) none) q
 
 module _ (os : List ℕ) (es : List CodeEntry) (used k₀ : ℕ) (a : Added) where
+  -- node n's first m entries, with its new one if that is still to come, and its entries from place k on are its new queue
+  abbrev pub Joins : List ℕ → List ℕ → List CodeEntry → ℕ → ℕ → ℕ → Type 0
+  Joins pending owners entries m k n =
+      coming pending (a .entries) n (queueIn os es m n) ++ range owners entries k (used + a .count) n
+      ≡ insertSome (addedAt a n) (queueIn os es used n)
+
   pub record Entering (pending : List ℕ) (left : ℕ) (owners : List ℕ) (entries : List CodeEntry) (at : ℕ) : Type 0 where
+    pub ready : Ready os es used k₀ a
+    pub old-owners : length os ≡ 2304
+    pub old-entries : length es ≡ 2304
     pub owners-long : length owners ≡ 2304
     pub entries-long : length entries ≡ 2304
     pub marks : length pending ≡ 64
@@ -49,8 +58,7 @@ module _ (os : List ℕ) (es : List CodeEntry) (used k₀ : ℕ) (a : Added) whe
     pub count : sum pending ≡ left
     pub ones : (n : ℕ) → getD pending n 0 ≤ 1
     pub queues : (n : ℕ) → n < k₀
-        → coming pending (a .entries) n (queueIn os es (at - k₀) n) ++ range owners entries (at - k₀ + left) (used + a .count) n
-        ≡ insertSome (addedAt a n) (queueIn os es used n)
+        → Joins pending owners entries (at - k₀) (at - k₀ + left) n
     pub done : (n : ℕ) → at ≤ n → n < k₀ → getD pending n 0 ≡ 0
 
 -- ---- marks
@@ -73,6 +81,18 @@ below-front k l m n h e =
     both (allBelow k (take m l)) (allBelow k (slice m n l))
     (sym (ap (allBelow k) (take-slice m n l h) ∙ below-append k (take m l) (slice m n l)) ∙ e) .0
 
+-- the front of a queue that rises
+rises-front : (os : List ℕ) (es : List CodeEntry) (used m n : ℕ) → m ≤ used → used ≤ length os → used ≤ length es
+    → risesFrom 0 (queueIn os es used n) ≡ true → risesFrom 0 (queueIn os es m n) ≡ true
+rises-front os es used m n h ho he up = parted (queue-front os es noEntry (used - m) m n (omega arith) (omega arith))
+  where
+    parted : (back : List (Entry ℕ)) × (queueIn os es (m + (used - m)) n ≡ queueIn os es m n ++ back) → risesFrom 0 (queueIn os es m n) ≡ true
+    parted (back, e) =
+        let k : m + (used - m) ≡ used = omega arith in
+        both (risesFrom 0 (queueIn os es m n)) (risesFrom (lastFrom 0 (queueIn os es m n)) back)
+        (sym (rises-append 0 (queueIn os es m n) back) ∙ sym (ap (risesFrom 0) e) ∙ ap (λ (j : ℕ). risesFrom 0 (queueIn os es j n)) k ∙ up)
+        .0
+
 -- ---- begin
 
 pub begin : (os : List ℕ) (es : List CodeEntry) (used k₀ : ℕ) (a : Added) → Ready os es used k₀ a → length os ≡ 2304 → length es ≡ 2304
@@ -80,6 +100,9 @@ pub begin : (os : List ℕ) (es : List CodeEntry) (used k₀ : ℕ) (a : Added) 
 begin os es used k₀ a r ho he =
     let m : used + k₀ - k₀ ≡ used = omega arith in
     record {
+      ready = r;
+      old-owners = ho;
+      old-entries = he;
       owners-long = ho;
       entries-long = he;
       marks = r .marks;
@@ -114,12 +137,18 @@ coming-before pending new n e q c = ⊎-elim (λ z. at-zero z) (λ l. by-mark (g
     at-zero z = rw z
 
     by-mark : (k : ℕ) → getD new n noEntry .rank < e .rank
-        → insertSome (marked k (entryOf (getD new n noEntry)) none) (q ++ (entryOf e ∷ [])) ≡ insertSome (marked k (entryOf (getD new n noEntry)) none) q ++ (entryOf e ∷ [])
+        → insertSome (marked k (entryOf (getD new n noEntry)) none) (q ++ (entryOf e ∷ []))
+        ≡ insertSome (marked k (entryOf (getD new n noEntry)) none) q ++ (entryOf e ∷ [])
     by-mark zero l = refl
     by-mark (suc k) l = insert-before (entryOf (getD new n noEntry)) (entryOf e) q l
 
-module _ (os : List ℕ) (es : List CodeEntry) (used k₀ : ℕ) (a : Added) (r : Ready os es used k₀ a) (ho : length os ≡ 2304) (he : length es ≡ 2304)
-    (pending : List ℕ) (left : ℕ) (owners : List ℕ) (entries : List CodeEntry) (at : ℕ) (w : Entering os es used k₀ a pending left owners entries at) (hl : 0 < left) where
+module _ (os : List ℕ) (es : List CodeEntry) (used k₀ : ℕ) (a : Added)
+    (pending : List ℕ) (left : ℕ) (owners : List ℕ) (entries : List CodeEntry) (at : ℕ) (w : Entering os es used k₀ a pending left owners entries at)
+    (hl : 0 < left) where
+  -- the new entry of node n
+  abbrev fresh : ℕ → CodeEntry
+  fresh n = getD (a .entries) n noEntry
+
   clear : (node n : ℕ) → node < k₀ → node ≢ n → getD (set pending node 0) n 0 ≡ getD pending n 0
   clear node n h d = getD-set-other pending node n 0 0 (λ e. d (sym e))
 
@@ -139,20 +168,22 @@ module _ (os : List ℕ) (es : List CodeEntry) (used k₀ : ℕ) (a : Added) (r 
   -- ---- a new entry put in place k, which is the last of its queue so far
 
   module _ (node k o : ℕ) (low : node < k₀) (on : o ≡ node) (at-k : k ≡ at - k₀ + (left - 1)) (pn : getD pending node 0 ≢ 0)
-      (last : insert (entryOf (getD (a .entries) node noEntry)) (queueIn os es (at - k₀) node) ≡ queueIn os es (at - k₀) node ++ (entryOf (getD (a .entries) node noEntry) ∷ [])) where
+      (last : insert (entryOf (fresh node)) (queueIn os es (at - k₀) node) ≡ queueIn os es (at - k₀) node ++ (entryOf (fresh node) ∷ [])) where
     in-range : k < used + a .count
     in-range = omega (arith, w .few, w .start)
 
-    place-own : coming (set pending node 0) (a .entries) node (queueIn os es (at - k₀) node) ++ range (set owners k o) (set entries k (getD (a .entries) node noEntry)) (at - k₀ + (left - 1)) (used + a .count) node
-        ≡ insertSome (addedAt a node) (queueIn os es used node)
+    place-own : Joins os es used k₀ a (set pending node 0) (set owners k o) (set entries k (fresh node)) (at - k₀) (at - k₀ + (left - 1)) node
     place-own =
         let q = queueIn os es (at - k₀) node in
-        let x = entryOf (getD (a .entries) node noEntry) in
+        let x = entryOf (fresh node) in
         let b = used + a .count in
         let s : suc k ≡ at - k₀ + left = omega arith in
-        ap (λ (c : ℕ). insertSome (marked c x none) q ++ range (set owners k o) (set entries k (getD (a .entries) node noEntry)) (at - k₀ + (left - 1)) b node) (cleared node low)
-        ∙ ap (λ (c : ℕ). q ++ range (set owners k o) (set entries k (getD (a .entries) node noEntry)) c b node) (sym at-k)
-        ∙ ap (λ (c : List (Entry ℕ)). q ++ c) (stored-own owners entries k b o (getD (a .entries) node noEntry) in-range (omega (arith, w .room, w .owners-long)) (omega (arith, w .room, w .entries-long)) node on)
+        ap (λ (c : ℕ). insertSome (marked c x none) q ++ range (set owners k o) (set entries k (fresh node)) (at - k₀ + (left - 1)) b node)
+        (cleared node low)
+        ∙ ap (λ (c : ℕ). q ++ range (set owners k o) (set entries k (fresh node)) c b node) (sym at-k)
+        ∙ ap (λ (c : List (Entry ℕ)). q ++ c)
+        (stored-own owners entries k b o (fresh node) in-range (omega (arith, w .room, w .owners-long))
+        (omega (arith, w .room, w .entries-long)) node on)
         ∙ sym (append-snoc q x (range owners entries (suc k) b node))
         ∙ ap (λ (c : List (Entry ℕ)). c ++ range owners entries (suc k) b node) (sym last)
         ∙ ap (λ (c : ℕ). insert x q ++ range owners entries c b node) s
@@ -160,24 +191,28 @@ module _ (os : List ℕ) (es : List CodeEntry) (used k₀ : ℕ) (a : Added) (r 
         ∙ w .queues node low
 
     place-other : (n : ℕ) → n < k₀ → node ≢ n
-        → coming (set pending node 0) (a .entries) n (queueIn os es (at - k₀) n) ++ range (set owners k o) (set entries k (getD (a .entries) node noEntry)) (at - k₀ + (left - 1)) (used + a .count) n
-        ≡ insertSome (addedAt a n) (queueIn os es used n)
+        → Joins os es used k₀ a (set pending node 0) (set owners k o) (set entries k (fresh node)) (at - k₀) (at - k₀ + (left - 1)) n
     place-other n h d =
         let q = queueIn os es (at - k₀) n in
         let b = used + a .count in
         let s : suc k ≡ at - k₀ + left = omega arith in
-        ap (λ (c : ℕ). insertSome (marked c (entryOf (getD (a .entries) n noEntry)) none) q ++ range (set owners k o) (set entries k (getD (a .entries) node noEntry)) (at - k₀ + (left - 1)) b n) (clear node n low d)
-        ∙ ap (λ (c : ℕ). coming pending (a .entries) n q ++ range (set owners k o) (set entries k (getD (a .entries) node noEntry)) c b n) (sym at-k)
+        ap (λ (c : ℕ). insertSome (marked c (entryOf (fresh n)) none) q ++ range (set owners k o) (set entries k (fresh node))
+        (at - k₀ + (left - 1)) b n) (clear node n low d)
+        ∙ ap (λ (c : ℕ). coming pending (a .entries) n q ++ range (set owners k o) (set entries k (fresh node)) c b n) (sym at-k)
         ∙ ap (λ (c : List (Entry ℕ)). coming pending (a .entries) n q ++ c)
-        (stored-other owners entries k b o (getD (a .entries) node noEntry) in-range (omega (arith, w .room, w .owners-long)) (omega (arith, w .room, w .entries-long)) n (λ e. d (sym on ∙ e)))
+        (stored-other owners entries k b o (fresh node) in-range (omega (arith, w .room, w .owners-long)) (omega (arith, w .room, w .entries-long)) n
+        (λ e. d (sym on ∙ e)))
         ∙ ap (λ (c : ℕ). coming pending (a .entries) n q ++ range owners entries c b n) s
         ∙ w .queues n h
 
-    pub place : Entering os es used k₀ a (set pending node 0) (left - 1) (set owners k o) (set entries k (getD (a .entries) node noEntry)) at
+    pub place : Entering os es used k₀ a (set pending node 0) (left - 1) (set owners k o) (set entries k (fresh node)) at
     place =
         record {
+          ready = w .ready;
+          old-owners = w .old-owners;
+          old-entries = w .old-entries;
           owners-long = length-set owners k o ∙ w .owners-long;
-          entries-long = length-set entries k (getD (a .entries) node noEntry) ∙ w .entries-long;
+          entries-long = length-set entries k (fresh node) ∙ w .entries-long;
           marks = length-set pending node 0 ∙ w .marks;
           places = w .places;
           start = w .start;
@@ -191,7 +226,7 @@ module _ (os : List ℕ) (es : List CodeEntry) (used k₀ : ℕ) (a : Added) (r 
           within = λ n h. clear node n low (omega arith) ∙ w .within n h;
           few = omega (arith, w .few);
           front = take-set-le (at - k₀) owners k o (omega arith) ∙ w .front;
-          front-entries = take-set-le (at - k₀) entries k (getD (a .entries) node noEntry) (omega arith) ∙ w .front-entries;
+          front-entries = take-set-le (at - k₀) entries k (fresh node) (omega arith) ∙ w .front-entries;
           count = one-less node low pn;
           ones = still-ones node low;
           queues = λ n h. by-node n h (ℕ-discrete node n);
@@ -199,12 +234,10 @@ module _ (os : List ℕ) (es : List CodeEntry) (used k₀ : ℕ) (a : Added) (r 
         }
       where
         by-node : (n : ℕ) → n < k₀ → Dec (node ≡ n)
-            → coming (set pending node 0) (a .entries) n (queueIn os es (at - k₀) n) ++ range (set owners k o) (set entries k (getD (a .entries) node noEntry)) (at - k₀ + (left - 1)) (used + a .count) n
-            ≡ insertSome (addedAt a n) (queueIn os es used n)
+            → Joins os es used k₀ a (set pending node 0) (set owners k o) (set entries k (fresh node)) (at - k₀) (at - k₀ + (left - 1)) n
         by-node n h (yes e) =
             subst
-            (λ (x : ℕ). coming (set pending node 0) (a .entries) x (queueIn os es (at - k₀) x) ++ range (set owners k o) (set entries k (getD (a .entries) node noEntry)) (at - k₀ + (left - 1)) (used + a .count) x
-            ≡ insertSome (addedAt a x) (queueIn os es used x))
+            (λ (x : ℕ). Joins os es used k₀ a (set pending node 0) (set owners k o) (set entries k (fresh node)) (at - k₀) (at - k₀ + (left - 1)) x)
             e
             place-own
         by-node n h (no d) = place-other n h d
@@ -216,46 +249,53 @@ module _ (os : List ℕ) (es : List CodeEntry) (used k₀ : ℕ) (a : Added) (r 
     lives = omega (arith, w .start)
 
     same-owner : getD owners i 0 ≡ getD os i 0
-    same-owner = sym (getD-take (suc i) owners i 0 (omega arith)) ∙ ap (λ (l : List ℕ). getD l i 0) (subst (λ (k : ℕ). take k owners ≡ take k os) m (w .front)) ∙ getD-take (suc i) os i 0 (omega arith)
+    same-owner = sym (getD-take (suc i) owners i 0 (omega arith))
+        ∙ ap (λ (l : List ℕ). getD l i 0) (subst (λ (k : ℕ). take k owners ≡ take k os) m (w .front)) ∙ getD-take (suc i) os i 0 (omega arith)
 
     same-entry : getD entries i noEntry ≡ getD es i noEntry
-    same-entry = sym (getD-take (suc i) entries i noEntry (omega arith)) ∙ ap (λ (l : List CodeEntry). getD l i noEntry) (subst (λ (k : ℕ). take k entries ≡ take k es) m (w .front-entries)) ∙ getD-take (suc i) es i noEntry (omega arith)
+    same-entry = sym (getD-take (suc i) entries i noEntry (omega arith))
+        ∙ ap (λ (l : List CodeEntry). getD l i noEntry) (subst (λ (k : ℕ). take k entries ≡ take k es) m (w .front-entries))
+        ∙ getD-take (suc i) es i noEntry (omega arith)
 
     pub owner-low : getD owners i 0 < k₀
-    owner-low = omega (arith, same-owner, getD-take used os i 0 lives, below-at k₀ (take used os) i (omega (arith, length-take-le used os (omega (arith, r .room)))) (r .owned))
+    owner-low = omega (
+      arith,
+      same-owner,
+      getD-take used os i 0 lives,
+      below-at k₀ (take used os) i
+          (omega (arith, length-take-le used os (omega (arith, w .ready .room)))) (w .ready .owned),
+    )
 
-    now-queues : (n : ℕ) → n < k₀ → coming pending (a .entries) n (queueIn os es (suc i) n) ++ range owners entries (suc i + left) (used + a .count) n ≡ insertSome (addedAt a n) (queueIn os es used n)
-    now-queues n h = subst (λ (k : ℕ). coming pending (a .entries) n (queueIn os es k n) ++ range owners entries (k + left) (used + a .count) n ≡ insertSome (addedAt a n) (queueIn os es used n)) m (w .queues n h)
+    now-queues : (n : ℕ) → n < k₀ → Joins os es used k₀ a pending owners entries (suc i) (suc i + left) n
+    now-queues n h = subst (λ (k : ℕ). Joins os es used k₀ a pending owners entries k (k + left) n) m (w .queues n h)
 
     module _ (node : ℕ) (on : node ≡ getD owners i 0) where
       own : queueIn os es (suc i) node ≡ queueIn os es i node ++ (entryOf (getD entries i noEntry) ∷ [])
       own =
-          queue-own os es noEntry i node (omega (arith, lives, r .room)) (omega (arith, lives, r .room)) (sym (on ∙ same-owner))
+          queue-own os es noEntry i node (omega (arith, lives, w .ready .room)) (omega (arith, lives, w .ready .room)) (sym (on ∙ same-owner))
           ∙ ap (λ (e : CodeEntry). queueIn os es i node ++ (entryOf e ∷ [])) (sym same-entry)
 
       other : (n : ℕ) → node ≢ n → queueIn os es (suc i) n ≡ queueIn os es i n
-      other n d = queue-other os es noEntry i n (omega (arith, lives, r .room)) (omega (arith, lives, r .room)) (λ e. d (on ∙ same-owner ∙ e))
+      other n d = queue-other os es noEntry i n (omega (arith, lives, w .ready .room)) (omega (arith, lives, w .ready .room)) (λ e. d (on ∙ same-owner ∙ e))
 
       ordered : (risesFrom 0 (queueIn os es (suc i) node) ≡ true) × (lastFrom 0 (queueIn os es (suc i) node) ≡ getD entries i noEntry .rank)
-      ordered =
-          let k : suc i + (used - suc i) ≡ used = omega (arith, lives) in
-          let b = queue-front os es noEntry (used - suc i) (suc i) node (omega (arith, r .room, lives)) (omega (arith, r .room, lives)) in
-          let whole : queueIn os es used node ≡ queueIn os es (suc i) node ++ b .0 = ap (λ (j : ℕ). queueIn os es j node) (sym k) ∙ b .1 in
-          let up : risesFrom 0 (queueIn os es (suc i) node ++ b .0) ≡ true = sym (ap (risesFrom 0) whole) ∙ r .rises node (omega (arith, on, owner-low)) in (
-            both (risesFrom 0 (queueIn os es (suc i) node)) (risesFrom (lastFrom 0 (queueIn os es (suc i) node)) (b .0)) (sym (rises-append 0 (queueIn os es (suc i) node) (b .0)) ∙ up) .0,
-            ap (lastFrom 0) own ∙ last-append 0 (queueIn os es i node) (entryOf (getD entries i noEntry)),
-          )
+      ordered = (
+        rises-front os es used (suc i) node (omega (arith, lives)) (omega (arith, w .ready .room)) (omega (arith, w .ready .room))
+            (w .ready .rises node (omega (arith, on, owner-low))),
+        ap (lastFrom 0) own ∙ last-append 0 (queueIn os es i node) (entryOf (getD entries i noEntry)),
+      )
 
-      pub behind : getD pending node 0 ≢ 0 → getD entries i noEntry .rank ≤ getD (a .entries) node noEntry .rank
-          → Entering os es used k₀ a (set pending node 0) (left - 1) (set owners (i + 1 + (left - 1)) (getD owners i 0)) (set entries (i + 1 + (left - 1)) (getD (a .entries) node noEntry)) at
+      pub behind : getD pending node 0 ≢ 0 → getD entries i noEntry .rank ≤ fresh node .rank
+          → Entering os es used k₀ a (set pending node 0) (left - 1) (set owners (i + left) (getD owners i 0))
+          (set entries (i + left) (fresh node)) at
       behind n q =
-          let f : Entry ℕ = entryOf (getD (a .entries) node noEntry) in
+          let f : Entry ℕ = entryOf (fresh node) in
           let ord = ordered in
-          place node (i + 1 + (left - 1)) (getD owners i 0) (omega (arith, on, owner-low)) (sym on) (omega arith) n
+          place node (i + left) (getD owners i 0) (omega (arith, on, owner-low)) (sym on) (omega arith) n
           (subst (λ (c : ℕ). insert f (queueIn os es c node) ≡ queueIn os es c node ++ (f ∷ [])) (sym m)
           (insert-last 0 f (queueIn os es (suc i) node) (ord .0) (omega (arith, ord .1))))
 
-      pub moved : (getD pending node 0 ≡ 0) ⊎ (getD (a .entries) node noEntry .rank < getD entries i noEntry .rank)
+      pub moved : (getD pending node 0 ≡ 0) ⊎ (fresh node .rank < getD entries i noEntry .rank)
           → Entering os es used k₀ a pending left (set owners (i + left) (getD owners i 0)) (set entries (i + left) (getD entries i noEntry)) (at - 1)
       moved c =
           let e : CodeEntry = getD entries i noEntry in
@@ -263,6 +303,9 @@ module _ (os : List ℕ) (es : List CodeEntry) (used k₀ : ℕ) (a : Added) (r 
           let up : suc (i + left) ≡ suc i + left = omega arith in
           let b : i + left < used + a .count = omega (arith, w .few, lives) in
           record {
+            ready = w .ready;
+            old-owners = w .old-owners;
+            old-entries = w .old-entries;
             owners-long = length-set owners (i + left) (getD owners i 0) ∙ w .owners-long;
             entries-long = length-set entries (i + left) (getD entries i noEntry) ∙ w .entries-long;
             marks = w .marks;
@@ -279,42 +322,49 @@ module _ (os : List ℕ) (es : List CodeEntry) (used k₀ : ℕ) (a : Added) (r 
             few = w .few;
             front =
                 subst (λ (k : ℕ). take k (set owners (i + left) (getD owners i 0)) ≡ take k os) (sym m′)
-                (take-set-le i owners (i + left) (getD owners i 0) (omega arith) ∙ take-less i owners os (subst (λ (k : ℕ). take k owners ≡ take k os) m (w .front)));
+                (take-set-le i owners (i + left) (getD owners i 0) (omega arith)
+                ∙ take-less i owners os (subst (λ (k : ℕ). take k owners ≡ take k os) m (w .front)));
             front-entries =
                 subst (λ (k : ℕ). take k (set entries (i + left) (getD entries i noEntry)) ≡ take k es) (sym m′)
-                (take-set-le i entries (i + left) (getD entries i noEntry) (omega arith) ∙ take-less i entries es (subst (λ (k : ℕ). take k entries ≡ take k es) m (w .front-entries)));
+                (take-set-le i entries (i + left) (getD entries i noEntry) (omega arith)
+                ∙ take-less i entries es (subst (λ (k : ℕ). take k entries ≡ take k es) m (w .front-entries)));
             count = w .count;
             ones = w .ones;
             queues = λ n h.
                 subst
-                (λ (k : ℕ). coming pending (a .entries) n (queueIn os es k n) ++ range (set owners (i + left) (getD owners i 0)) (set entries (i + left) (getD entries i noEntry)) (k + left) (used + a .count) n
-                ≡ insertSome (addedAt a n) (queueIn os es used n))
+                (λ (k : ℕ). Joins os es used k₀ a pending (set owners (i + left) (getD owners i 0))
+                (set entries (i + left) (getD entries i noEntry)) k (k + left) n)
                 (sym m′)
                 (by-node n h b up (ℕ-discrete node n));
             done = λ n g h. w .done n (omega arith) h;
           }
         where
           by-node : (n : ℕ) → n < k₀ → i + left < used + a .count → suc (i + left) ≡ suc i + left → Dec (node ≡ n)
-              → coming pending (a .entries) n (queueIn os es i n) ++ range (set owners (i + left) (getD owners i 0)) (set entries (i + left) (getD entries i noEntry)) (i + left) (used + a .count) n
-              ≡ insertSome (addedAt a n) (queueIn os es used n)
+              → Joins os es used k₀ a pending (set owners (i + left) (getD owners i 0)) (set entries (i + left) (getD entries i noEntry)) i
+              (i + left) n
           by-node n h b up (yes y) =
               subst
-              (λ (x : ℕ). coming pending (a .entries) x (queueIn os es i x) ++ range (set owners (i + left) (getD owners i 0)) (set entries (i + left) (getD entries i noEntry)) (i + left) (used + a .count) x
-              ≡ insertSome (addedAt a x) (queueIn os es used x))
+              (λ (x : ℕ). Joins os es used k₀ a pending (set owners (i + left) (getD owners i 0)) (set entries (i + left) (getD entries i noEntry)) i
+              (i + left) x)
               y
               (let q = queueIn os es i node in
               let x = entryOf (getD entries i noEntry) in
               ap (λ (l : List (Entry ℕ)). coming pending (a .entries) node q ++ l)
-              (stored-own owners entries (i + left) (used + a .count) (getD owners i 0) (getD entries i noEntry) b (omega (arith, w .room, w .owners-long)) (omega (arith, w .room, w .entries-long)) node (sym on))
+              (stored-own owners entries (i + left) (used + a .count) (getD owners i 0) (getD entries i noEntry) b
+              (omega (arith, w .room, w .owners-long)) (omega (arith, w .room, w .entries-long)) node (sym on))
               ∙ sym (append-snoc (coming pending (a .entries) node q) x (range owners entries (suc (i + left)) (used + a .count) node))
-              ∙ ap (λ (l : List (Entry ℕ)). l ++ range owners entries (suc (i + left)) (used + a .count) node) (sym (coming-before pending (a .entries) node (getD entries i noEntry) q c))
-              ∙ ap (λ (l : List (Entry ℕ)). coming pending (a .entries) node l ++ range owners entries (suc (i + left)) (used + a .count) node) (sym own)
+              ∙ ap (λ (l : List (Entry ℕ)). l ++ range owners entries (suc (i + left)) (used + a .count) node)
+              (sym (coming-before pending (a .entries) node (getD entries i noEntry) q c))
+              ∙ ap (λ (l : List (Entry ℕ)). coming pending (a .entries) node l ++ range owners entries (suc (i + left)) (used + a .count) node)
+              (sym own)
               ∙ ap (λ (k : ℕ). coming pending (a .entries) node (queueIn os es (suc i) node) ++ range owners entries k (used + a .count) node) up
               ∙ now-queues node (omega (arith, on, owner-low)))
           by-node n h b up (no d) =
               ap (λ (l : List (Entry ℕ)). coming pending (a .entries) n (queueIn os es i n) ++ l)
-              (stored-other owners entries (i + left) (used + a .count) (getD owners i 0) (getD entries i noEntry) b (omega (arith, w .room, w .owners-long)) (omega (arith, w .room, w .entries-long)) n (λ y. d (on ∙ y)))
-              ∙ ap (λ (l : List (Entry ℕ)). coming pending (a .entries) n l ++ range owners entries (suc (i + left)) (used + a .count) n) (sym (other n d))
+              (stored-other owners entries (i + left) (used + a .count) (getD owners i 0) (getD entries i noEntry) b
+              (omega (arith, w .room, w .owners-long)) (omega (arith, w .room, w .entries-long)) n (λ y. d (on ∙ y)))
+              ∙ ap (λ (l : List (Entry ℕ)). coming pending (a .entries) n l ++ range owners entries (suc (i + left)) (used + a .count) n)
+              (sym (other n d))
               ∙ ap (λ (k : ℕ). coming pending (a .entries) n (queueIn os es (suc i) n) ++ range owners entries k (used + a .count) n) up
               ∙ now-queues n h
 
@@ -334,10 +384,10 @@ module _ (os : List ℕ) (es : List CodeEntry) (used k₀ : ℕ) (a : Added) (r 
 
     module _ (node : ℕ) (on : node ≡ at - 1) where
       pub first : getD pending node 0 ≢ 0
-          → Entering os es used k₀ a (set pending node 0) (left - 1) (set owners (left - 1) node) (set entries (left - 1) (getD (a .entries) node noEntry)) at
+          → Entering os es used k₀ a (set pending node 0) (left - 1) (set owners (left - 1) node) (set entries (left - 1) (fresh node)) at
       first n =
           let z : at - k₀ ≡ 0 = omega arith in
-          let f : Entry ℕ = entryOf (getD (a .entries) node noEntry) in
+          let f : Entry ℕ = entryOf (fresh node) in
           place node (left - 1) node (omega (arith, at-pos)) refl (omega arith) n
           (subst (λ (c : ℕ). insert f (queueIn os es c node) ≡ queueIn os es c node ++ (f ∷ [])) (sym z) refl)
 
@@ -345,6 +395,9 @@ module _ (os : List ℕ) (es : List CodeEntry) (used k₀ : ℕ) (a : Added) (r 
       skipped z =
           let m : at - 1 - k₀ ≡ at - k₀ = omega arith in
           record {
+            ready = w .ready;
+            old-owners = w .old-owners;
+            old-entries = w .old-entries;
             owners-long = w .owners-long;
             entries-long = w .entries-long;
             marks = w .marks;
@@ -360,7 +413,7 @@ module _ (os : List ℕ) (es : List CodeEntry) (used k₀ : ℕ) (a : Added) (r 
             count = w .count;
             ones = w .ones;
             queues = λ n h.
-                subst (λ (k : ℕ). coming pending (a .entries) n (queueIn os es k n) ++ range owners entries (k + left) (used + a .count) n ≡ insertSome (addedAt a n) (queueIn os es used n)) (sym m) (w .queues n h);
+                subst (λ (k : ℕ). Joins os es used k₀ a pending owners entries k (k + left) n) (sym m) (w .queues n h);
             done = λ n g h. by-last n h (ℕ-discrete node n) g;
           }
         where
@@ -368,10 +421,11 @@ module _ (os : List ℕ) (es : List CodeEntry) (used k₀ : ℕ) (a : Added) (r 
           by-last n h (yes e) g = ap (λ (k : ℕ). getD pending k 0) (sym e) ∙ z
           by-last n h (no d) g = w .done n (omega arith) h
 
-pub finish : (os : List ℕ) (es : List CodeEntry) (used k₀ : ℕ) (a : Added) (r : Ready os es used k₀ a) (ho : length os ≡ 2304) (he : length es ≡ 2304)
-    (pending : List ℕ) (left : ℕ) (owners : List ℕ) (entries : List CodeEntry) (at : ℕ) → Entering os es used k₀ a pending left owners entries at → left ≤ 0
+pub finish : (os : List ℕ) (es : List CodeEntry) (used k₀ : ℕ) (a : Added)
+    (pending : List ℕ) (left : ℕ) (owners : List ℕ) (entries : List CodeEntry) (at : ℕ) → Entering os es used k₀ a pending left owners entries at
+    → left ≤ 0
     → Entered os es used k₀ a (record { owners = owners; entries = entries })
-finish os es used k₀ a r ho he pending left owners entries at w z =
+finish os es used k₀ a pending left owners entries at w z =
     record {
       owners-long = w .owners-long;
       entries-long = w .entries-long;
@@ -381,17 +435,20 @@ finish os es used k₀ a r ho he pending left owners entries at w z =
           ap (allBelow k₀) (take-slice (at - k₀) (used + a .count) owners (omega (arith, w .start)))
           ∙ below-append k₀ (take (at - k₀) owners) (slice (at - k₀) (used + a .count) owners)
           ∙ join
-          (ap (allBelow k₀) (w .front) ∙ below-front k₀ os (at - k₀) used (omega (arith, w .start)) (r .owned))
+          (ap (allBelow k₀) (w .front) ∙ below-front k₀ os (at - k₀) used (omega (arith, w .start)) (w .ready .owned))
           (subst (λ (c : ℕ). allBelow k₀ (slice c (used + a .count) owners) ≡ true) m (w .low));
       queues = λ n h.
           let zero-left : left ≡ 0 = omega arith in
           let m : at - k₀ + left ≡ at - k₀ = omega arith in
           let q = queueIn os es (at - k₀) n in
-          queue-split owners entries (at - k₀) (used + a .count) n (omega (arith, w .start)) (omega (arith, w .room, w .owners-long)) (omega (arith, w .room, w .entries-long))
+          queue-split owners entries (at - k₀) (used + a .count) n (omega (arith, w .start)) (omega (arith, w .room, w .owners-long))
+          (omega (arith, w .room, w .entries-long))
           ∙ ap (λ (l : List ℕ). map entryOf (owned n l (take (at - k₀) entries)) ++ range owners entries (at - k₀) (used + a .count) n) (w .front)
-          ∙ ap (λ (l : List CodeEntry). map entryOf (owned n (take (at - k₀) os) l) ++ range owners entries (at - k₀) (used + a .count) n) (w .front-entries)
+          ∙ ap (λ (l : List CodeEntry). map entryOf (owned n (take (at - k₀) os) l) ++ range owners entries (at - k₀) (used + a .count) n)
+          (w .front-entries)
           ∙ ap (λ (k : ℕ). q ++ range owners entries k (used + a .count) n) (sym m)
-          ∙ ap (λ (k : ℕ). insertSome (marked k (entryOf (getD (a .entries) n noEntry)) none) q ++ range owners entries (at - k₀ + left) (used + a .count) n) (sym (none-sum pending n (w .count ∙ zero-left)))
+          ∙ ap (λ (k : ℕ). insertSome (marked k (entryOf (getD (a .entries) n noEntry)) none) q ++ range owners entries (at - k₀ + left)
+          (used + a .count) n) (sym (none-sum pending n (w .count ∙ zero-left)))
           ∙ w .queues n h;
     }
 
@@ -399,9 +456,21 @@ finish os es used k₀ a r ho he pending left owners entries at w z =
 abbrev pub parts : List ℕ → List CodeEntry → ℕ → Added
 parts pending new count = record { fault = 0; pending = pending; entries = new; count = count }
 
-pub ready-parts : (os : List ℕ) (es : List CodeEntry) (used k₀ : ℕ) (a : Added) → Ready os es used k₀ a → Ready os es used k₀ (parts (a .pending) (a .entries) (a .count))
+pub ready-parts : (os : List ℕ) (es : List CodeEntry) (used k₀ : ℕ) (a : Added) → Ready os es used k₀ a
+    → Ready os es used k₀ (parts (a .pending) (a .entries) (a .count))
 ready-parts os es used k₀ a r =
-    record { marks = r .marks; places = r .places; count = r .count; ones = r .ones; room = r .room; few = r .few; own = r .own; owned = r .owned; rises = r .rises }
+    record {
+      marks = r .marks;
+      places = r .places;
+      count = r .count;
+      ones = r .ones;
+      room = r .room;
+      few = r .few;
+      own = r .own;
+      owned = r .owned;
+      rises = r .rises;
+    }
 
-pub parts-entered : (os : List ℕ) (es : List CodeEntry) (used k₀ : ℕ) (a : Added) (r : Lists) → Entered os es used k₀ (parts (a .pending) (a .entries) (a .count)) r → Entered os es used k₀ a r
+pub parts-entered : (os : List ℕ) (es : List CodeEntry) (used k₀ : ℕ) (a : Added) (r : Lists)
+    → Entered os es used k₀ (parts (a .pending) (a .entries) (a .count)) r → Entered os es used k₀ a r
 parts-entered os es used k₀ a r e = record { owners-long = e .owners-long; entries-long = e .entries-long; owned = e .owned; queues = e .queues }

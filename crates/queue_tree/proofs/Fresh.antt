@@ -76,6 +76,17 @@ no-fault bs limit e = by-fault (fault 64 bs) e
     by-fault zero y = (refl, y)
     by-fault (suc k) y = absurd (omega arith)
 
+-- an opening is not refused exactly where the topology is valid and the limit is 1 to 256
+pub refused-none : (bs : List ℕ) (limit : ℕ) → openFault bs limit ≡ 0 → (fault 64 bs ≡ 0) × (1 ≤ limit) × (limit ≤ 256)
+refused-none bs limit e =
+    let n = no-fault bs limit e in
+    let l = limit-range limit (n .1) in
+    (n .0, l .0, l .1)
+
+pub none-refused : (bs : List ℕ) (limit : ℕ) → fault 64 bs ≡ 0 → 1 ≤ limit → limit ≤ 256 → openFault bs limit ≡ 0
+unfolding openFault
+none-refused bs limit v h g = ap (λ (k : ℕ). orElse k (limitFault limit)) v ∙ sym (limit-good limit (omega arith) g)
+
 pub short : (bs : List ℕ) (limit : ℕ) → openFault bs limit ≡ 0 → length bs ≤ 64
 short bs limit e = valid-length 64 bs (no-fault bs limit e .0)
 

@@ -1,7 +1,7 @@
 -- The pass over the entries: what holds when the first i entries have been read without fault, how one more entry keeps it, and what a
 -- fault says of the whole.
 use mathlib.Core.Path.{_≡_, refl, sym, ap, _∙_, subst}
-use mathlib.Core.Logic.{_≢_, _⊎_}
+use mathlib.Core.Logic.{_≢_, _⊎_, inl, inr, ⊎-elim}
 use Prim.Native.Nat.{ℕ, zero, suc, _+_, _-_, _*_, _≤_, _<_}
 use native.Mathlib.Nat.{not-suc-le-zero, le-of-suc-le-suc}
 use native.Mathlib.Decide.{ℕ-discrete, decLt}
@@ -16,7 +16,7 @@ use Rattle.topology.specs.Reader.{pick}
 use Rattle.pifo.specs.Queue.{Entry, risesFrom, every, allowed, isOf, occurs}
 use Rattle.pifo.proofs.Append.{lastFrom, last-append, rises-append, every-append, occurs-append}
 use Rattle.queue_tree.specs.State.{entryOf, itemOf, queueIn, allBelow}
-use Rattle.queue_tree.specs.Sound.{Slot, Counts, fine, noEntry, Tallied}
+use Rattle.queue_tree.specs.Sound.{Slot, Placed, Counts, fine, noEntry, Tallied}
 use Rattle.queue_tree.specs.declared.soundness.Counted.{Counted}
 use Rattle.queue_tree.specs.declared.Entry.{Entry as CodeEntry}
 use Rattle.queue_tree.proofs.Owned.{queue-own, queue-other, queue-front, queue-length}
@@ -98,7 +98,7 @@ module _ (w : ℕ) (q : List (Entry ℕ)) (e : CodeEntry) where
 pub record Pass (bytes owners : List ℕ) (entries : List CodeEntry) (i : ℕ) (lengths counts last : List ℕ) : Type 0 where
   pub lengths-long : length lengths ≡ 64
   pub counts-long : length counts ≡ 576
-  pub last-long : length last ≡ 64
+  pub last-long : length last ≡ 256
   pub owned : allBelow (length bytes) (take i owners) ≡ true
   pub may : (n : ℕ) → n < length bytes → fine (getD bytes n 0) (queueIn owners entries i n) ≡ true
   pub counted : (n : ℕ) → n < length bytes → Counts lengths counts n (queueIn owners entries i n)
@@ -106,17 +106,17 @@ pub record Pass (bytes owners : List ℕ) (entries : List CodeEntry) (i : ℕ) (
   pub ends : (n : ℕ) → n < length bytes → getD last n 0 ≡ lastFrom 0 (queueIn owners entries i n)
 
 pub begin : (bytes owners : List ℕ) (entries : List CodeEntry) → length bytes ≤ 64
-    → Pass bytes owners entries 0 (replicate 64 0) (replicate 576 0) (replicate 64 0)
+    → Pass bytes owners entries 0 (replicate 64 0) (replicate 576 0) (replicate 256 0)
 begin bytes owners entries h =
     record {
       lengths-long = length-replicate {A = ℕ} 64 0;
       counts-long = length-replicate {A = ℕ} 576 0;
-      last-long = length-replicate {A = ℕ} 64 0;
+      last-long = length-replicate {A = ℕ} 256 0;
       owned = refl;
       may = λ n l. refl;
       counted = λ n l. record { all = getD-replicate 64 n 0 0 (omega arith); children = λ i p b. getD-replicate 576 (n * 9 + i) 0 0 (omega arith) };
       small = λ k. zeros 576 k;
-      ends = λ n l. getD-replicate 64 n 0 0 (omega arith);
+      ends = λ n l. getD-replicate 256 n 0 0 (omega arith);
     }
   where
     zeros : (m k : ℕ) → getD (replicate m 0) k 0 ≤ 0
@@ -144,13 +144,21 @@ module _ (bytes owners : List ℕ) (entries : List CodeEntry) (i : ℕ) (lengths
         false-of (fine w (queueIn owners entries used n))
         (λ t. off (sym f ∙ fine-front w (queueIn owners entries i n ++ (entryOf (getD entries i noEntry) ∷ [])) (b .0) (sym (ap (fine w) whole) ∙ t)))
 
-    pub falls : (n : ℕ) → getD owners i 0 ≡ n → n < length bytes → getD entries i noEntry .rank < getD last n 0
+    falls : (n : ℕ) → getD owners i 0 ≡ n → n < length bytes → getD entries i noEntry .rank < getD last n 0
         → fine (getD bytes n 0) (queueIn owners entries used n) ≡ false
     falls n o l r = unfit n (getD bytes n 0) o (fine-falls (getD bytes n 0) (queueIn owners entries i n) (getD entries i noEntry) (omega (arith, p .ends n l)))
 
-    pub barred : (n : ℕ) → getD owners i 0 ≡ n → allowed (getD bytes n 0) (itemOf (getD entries i noEntry .item)) ≡ false
+    barred : (n : ℕ) → getD owners i 0 ≡ n → allowed (getD bytes n 0) (itemOf (getD entries i noEntry .item)) ≡ false
         → fine (getD bytes n 0) (queueIn owners entries used n) ≡ false
     barred n o a = unfit n (getD bytes n 0) o (fine-barred (getD bytes n 0) (queueIn owners entries i n) (getD entries i noEntry) a)
+
+    pub faulted : (n r : ℕ) → getD owners i 0 ≡ n → Placed bytes n (getD entries i noEntry) (getD last n 0) r → 8 < r
+        → (allBelow (length bytes) (take used owners) ≡ false) ⊎ ((m : ℕ) × (m < length bytes) × (fine (getD bytes m 0) (queueIn owners entries used m) ≡ false))
+    faulted n r o pl h =
+        ⊎-elim
+        (λ x. inl (owner-out (length bytes) owners i used hu ou (omega arith)))
+        (λ x. inr (n, x .0, ⊎-elim (λ f. falls n o (x .0) f) (λ b. barred n o b) (x .1)))
+        (pl .fault h)
 
   -- one more entry that is not at fault
   module _ (node at : ℕ) (o : getD owners i 0 ≡ node) (ob : node < length bytes) (hl : getD last node 0 ≤ getD entries i noEntry .rank)

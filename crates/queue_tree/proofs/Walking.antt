@@ -59,7 +59,8 @@ zeros-at (suc n) (suc k) = zeros-at n k
 entered-here : (t : Topo) (k i r : ℕ) (ss : List Step) (l p : ℕ) → entered t k (step (suc i) r ∷ ss) l p k ≡ some (entry r (childItem (suc i)))
 entered-here t k i r ss l p = rw (eq-eqb k k refl)
 
-entered-on : (t : Topo) (k i r : ℕ) (ss : List Step) (l p m : ℕ) → k ≢ m → entered t k (step (suc i) r ∷ ss) l p m ≡ entered (nth (kids t) i) (kidAt t k i) ss l p m
+entered-on : (t : Topo) (k i r : ℕ) (ss : List Step) (l p m : ℕ) → k ≢ m → entered t k (step (suc i) r ∷ ss) l p m
+    ≡ entered (nth (kids t) i) (kidAt t k i) ss l p m
 entered-on t k i r ss l p m d = rw (ne-eqb k m d)
 
 -- ---- the walk
@@ -70,7 +71,8 @@ pub record Walking (t : Topo) (ss : List Step) (l p at i : ℕ) (pending : List 
   pub there : at < size t
   pub deep : depth t at ≡ i
   pub same : pathFault t ss ≡ pathFault (subtree t at) (drop i ss)
-  pub added : (m : ℕ) → marked (getD pending m 0) (entryOf (getD entries m noEntry)) (entered (subtree t at) at (drop i ss) l p m) ≡ entered t 0 ss l p m
+  pub added : (m : ℕ) → marked (getD pending m 0) (entryOf (getD entries m noEntry)) (entered (subtree t at) at (drop i ss) l p m)
+      ≡ entered t 0 ss l p m
   pub count : sum pending ≡ i
   pub ones : (m : ℕ) → getD pending m 0 ≤ 1
   pub later : (m : ℕ) → at ≤ m → getD pending m 0 ≡ 0
@@ -84,7 +86,8 @@ begin t ss l p entries e =
       there = size-pos t;
       deep = ap length (addr-root t);
       same = ap (λ (u : Topo). pathFault u ss) (sym r);
-      added = λ m. ap (λ (k : ℕ). marked k (entryOf (getD entries m noEntry)) (entered (subtree t 0) 0 ss l p m)) (zeros-at 64 m) ∙ ap (λ (u : Topo). entered u 0 ss l p m) r;
+      added = λ m. ap (λ (k : ℕ). marked k (entryOf (getD entries m noEntry)) (entered (subtree t 0) 0 ss l p m)) (zeros-at 64 m)
+          ∙ ap (λ (u : Topo). entered u 0 ss l p m) r;
       count = sum-zeros 64;
       ones = λ m. omega (arith, zeros-at 64 m);
       later = λ m _. zeros-at 64 m;
@@ -108,14 +111,20 @@ module _ (t : Topo) (ss : List Step) (l p at i : ℕ) (pending : List ℕ) (entr
     set-ones m = by-node (ℕ-discrete m at)
       where
         by-node : Dec (m ≡ at) → getD (set pending at 1) m 0 ≤ 1
-        by-node (yes y) = omega (arith, ap (λ (k : ℕ). getD (set pending at 1) k 0) y, getD-set-same pending at 1 0 (omega (arith, w .marks, w .there)))
+        by-node (yes y) = omega (
+          arith,
+          ap (λ (k : ℕ). getD (set pending at 1) k 0) y,
+          getD-set-same pending at 1 0
+              (omega (arith, w .marks, w .there)),
+        )
         by-node (no y) = omega (arith, getD-set-other pending at m 1 0 y, w .ones m)
 
     -- the new entry e at this node, and what comes after it at the others
     entered-at : (e : CodeEntry) (other : Option (Entry ℕ)) → entered t 0 ss l p at ≡ some (entryOf e)
         → marked (getD (set pending at 1) at 0) (entryOf (getD (set entries at e) at noEntry)) other ≡ entered t 0 ss l p at
     entered-at e other q =
-        ap (λ (k : ℕ). marked k (entryOf (getD (set entries at e) at noEntry)) other) (getD-set-same pending at 1 0 (omega (arith, w .marks, w .there)))
+        ap (λ (k : ℕ). marked k (entryOf (getD (set entries at e) at noEntry)) other)
+        (getD-set-same pending at 1 0 (omega (arith, w .marks, w .there)))
         ∙ ap {B = Option (Entry ℕ)} (λ (x : CodeEntry). some (entryOf x)) (getD-set-same entries at e noEntry (omega (arith, w .places, w .there)))
         ∙ sym q
 
@@ -138,7 +147,8 @@ module _ (t : Topo) (ss : List Step) (l p at i : ℕ) (pending : List ℕ) (entr
           → Walking t ss l p next (suc i) (set pending at 1) (set entries at (record { rank = s .rank; item = Child (s .child) }))
       advance next h q = by-child (s .child) refl
         where
-          by-child : (c : ℕ) → s .child ≡ c → Walking t ss l p next (suc i) (set pending at 1) (set entries at (record { rank = s .rank; item = Child (s .child) }))
+          by-child : (c : ℕ) → s .child ≡ c
+              → Walking t ss l p next (suc i) (set pending at 1) (set entries at (record { rank = s .rank; item = Child (s .child) }))
           by-child zero c = absurd (omega (arith, h .1))
           by-child (suc c) e =
               let u : Topo = subtree t at in
@@ -175,16 +185,21 @@ module _ (t : Topo) (ss : List Step) (l p at i : ℕ) (pending : List ℕ) (entr
             where
               added-by : (m : ℕ) → Dec (at ≡ m) → entered t 0 ss l p at ≡ some (entry (s .rank) (childItem (s .child)))
                   → (at ≢ m → entered (subtree t at) at (drop i ss) l p m ≡ entered (subtree t next) next (drop (suc i) ss) l p m)
-                  → marked (getD (set pending at 1) m 0) (entryOf (getD (set entries at (record { rank = s .rank; item = Child (s .child) })) m noEntry)) (entered (subtree t next) next (drop (suc i) ss) l p m)
+                  → marked (getD (set pending at 1) m 0)
+                  (entryOf (getD (set entries at (record { rank = s .rank; item = Child (s .child) })) m noEntry))
+                  (entered (subtree t next) next (drop (suc i) ss) l p m)
                   ≡ entered t 0 ss l p m
               added-by m (yes y) here after =
                   subst
                   (λ (k : ℕ).
-                  marked (getD (set pending at 1) k 0) (entryOf (getD (set entries at (record { rank = s .rank; item = Child (s .child) })) k noEntry)) (entered (subtree t next) next (drop (suc i) ss) l p k)
+                  marked (getD (set pending at 1) k 0)
+                  (entryOf (getD (set entries at (record { rank = s .rank; item = Child (s .child) })) k noEntry))
+                  (entered (subtree t next) next (drop (suc i) ss) l p k)
                   ≡ entered t 0 ss l p k)
                   y
                   (entered-at (record { rank = s .rank; item = Child (s .child) }) (entered (subtree t next) next (drop (suc i) ss) l p at) here)
-              added-by m (no y) here after = entered-else (record { rank = s .rank; item = Child (s .child) }) m (entered (subtree t next) next (drop (suc i) ss) l p m) y (after y)
+              added-by m (no y) here after = entered-else (record { rank = s .rank; item = Child (s .child) }) m
+                  (entered (subtree t next) next (drop (suc i) ss) l p m) y (after y)
 
     -- ---- the end of the path, and faults
 
@@ -212,14 +227,17 @@ module _ (t : Topo) (ss : List Step) (l p at i : ℕ) (pending : List ℕ) (entr
             count = λ _. ap sum pe ∙ set-mark ∙ sym c;
             ones = λ m. omega (arith, ap (λ (x : List ℕ). getD x m 0) pe, set-ones m);
             few = λ _. omega (arith, shallow);
-            own = λ m g. ap (λ (x : List ℕ). getD x m 0) pe ∙ getD-set-other pending at m 1 0 (omega (arith, w .there)) ∙ w .later m (omega (arith, w .there));
+            own = λ m g. ap (λ (x : List ℕ). getD x m 0) pe ∙ getD-set-other pending at m 1 0 (omega (arith, w .there))
+                ∙ w .later m (omega (arith, w .there));
           }
         where
           added-by : (m : ℕ) → Dec (at ≡ m) → entered t 0 ss l p at ≡ some (entry l (packet p)) → drop i ss ≡ []
-              → marked (getD (set pending at 1) m 0) (entryOf (getD (set entries at (record { rank = l; item = Packet p })) m noEntry)) none ≡ entered t 0 ss l p m
+              → marked (getD (set pending at 1) m 0) (entryOf (getD (set entries at (record { rank = l; item = Packet p })) m noEntry)) none
+              ≡ entered t 0 ss l p m
           added-by m (yes y) here ended =
               subst
-              (λ (k : ℕ). marked (getD (set pending at 1) k 0) (entryOf (getD (set entries at (record { rank = l; item = Packet p })) k noEntry)) none ≡ entered t 0 ss l p k)
+              (λ (k : ℕ). marked (getD (set pending at 1) k 0)
+              (entryOf (getD (set entries at (record { rank = l; item = Packet p })) k noEntry)) none ≡ entered t 0 ss l p k)
               y
               (entered-at (record { rank = l; item = Packet p }) none here)
           added-by m (no y) here ended =
@@ -227,7 +245,8 @@ module _ (t : Topo) (ss : List Step) (l p at i : ℕ) (pending : List ℕ) (entr
               (ap (λ (r : List Step). entered (subtree t at) at r l p m) ended
               ∙ ap (λ (b : Bool). pick {A = Option (Entry ℕ)} b (some (entry l (packet p))) none) (ne-eqb at m y))
 
-    pub faulty : (f : ℕ) → f ≢ 0 → pathFault t ss ≡ f → (a : Added) → a .fault ≡ f → a .pending ≡ pending → a .entries ≡ entries → Walked t (size t) ss l p a
+    pub faulty : (f : ℕ) → f ≢ 0 → pathFault t ss ≡ f → (a : Added) → a .fault ≡ f → a .pending ≡ pending → a .entries ≡ entries
+        → Walked t (size t) ss l p a
     faulty f n e a g pe en =
         record {
           marks = ap length pe ∙ w .marks;
@@ -252,7 +271,8 @@ module _ (bytes : List ℕ) (v : fault 64 bytes ≡ 0) (path : Path) (p : ℕ) w
   small : size (tree bytes) ≤ 64
   small = within 64 bytes v .nodes
 
-  whole : (at i : ℕ) (pending : List ℕ) (entries : List CodeEntry) → Walking (tree bytes) (stepsOf path) (path .«leaf_rank») p at i pending entries → Way bytes path p at i pending entries
+  whole : (at i : ℕ) (pending : List ℕ) (entries : List CodeEntry) → Walking (tree bytes) (stepsOf path) (path .«leaf_rank») p at i pending entries
+      → Way bytes path p at i pending entries
   whole at i pending entries w =
       record {
         low = omega (arith, w .there, small);
@@ -264,14 +284,19 @@ module _ (bytes : List ℕ) (v : fault 64 bytes ≡ 0) (path : Path) (p : ℕ) w
   set-out entries e = whole 0 0 (replicate 64 0) entries (begin (tree bytes) (stepsOf path) (path .«leaf_rank») p entries e)
 
   module _ (at i : ℕ) (pending : List ℕ) (entries : List CodeEntry) (w : Way bytes path p at i pending entries) where
-    refused : (f : ℕ) → f ≢ 0 → pathFault (tree bytes) (stepsOf path) ≡ f → Walked (tree bytes) (length bytes) (stepsOf path) (path .«leaf_rank») p (record { fault = f; pending = pending; entries = entries; count = 0 })
+    refused : (f : ℕ) → f ≢ 0 → pathFault (tree bytes) (stepsOf path) ≡ f
+        → Walked (tree bytes) (length bytes) (stepsOf path) (path .«leaf_rank») p
+        (record { fault = f; pending = pending; entries = entries; count = 0 })
     refused f n e =
-        subst (λ (k : ℕ). Walked (tree bytes) k (stepsOf path) (path .«leaf_rank») p (record { fault = f; pending = pending; entries = entries; count = 0 })) (valid-size 64 bytes v)
-        (faulty (tree bytes) (stepsOf path) (path .«leaf_rank») p at i pending entries (w .way) small f n e (record { fault = f; pending = pending; entries = entries; count = 0 }) refl refl refl)
+        subst (λ (k : ℕ). Walked (tree bytes) k (stepsOf path) (path .«leaf_rank») p
+        (record { fault = f; pending = pending; entries = entries; count = 0 })) (valid-size 64 bytes v)
+        (faulty (tree bytes) (stepsOf path) (path .«leaf_rank») p at i pending entries (w .way) small f n e
+        (record { fault = f; pending = pending; entries = entries; count = 0 }) refl refl refl)
 
     module _ (h : i < path .count) (g : length (path .steps) ≡ 9) where
       pub no-child : (r : Found) → r ≡ childAt bytes at (getD (path .steps) i (record { child = 0; rank = 0 }) .child) → r ≡ Missing
-          → Walked (tree bytes) (length bytes) (stepsOf path) (path .«leaf_rank») p (record { fault = 13; pending = pending; entries = entries; count = 0 })
+          → Walked (tree bytes) (length bytes) (stepsOf path) (path .«leaf_rank») p
+          (record { fault = 13; pending = pending; entries = entries; count = 0 })
       no-child r e m =
           let step : CodeStep = getD (path .steps) i (record { child = 0; rank = 0 }) in
           refused 13 (omega arith)
@@ -281,7 +306,11 @@ module _ (bytes : List ℕ) (v : fault 64 bytes ≡ 0) (path : Path) (p : ℕ) w
 
       pub step-down : (r : Found) (next : ℕ) → r ≡ childAt bytes at (getD (path .steps) i (record { child = 0; rank = 0 }) .child) → r ≡ Node next
           → Way bytes path p next (i + 1) (set pending at 1)
-          (set entries at (record { rank = getD (path .steps) i (record { child = 0; rank = 0 }) .rank; item = Child (getD (path .steps) i (record { child = 0; rank = 0 }) .child) }))
+          (set entries at (record {
+            rank = getD (path .steps) i (record { child = 0; rank = 0 }) .rank;
+            item = Child
+                (getD (path .steps) i (record { child = 0; rank = 0 }) .child);
+          }))
       step-down r next e m =
           let step : CodeStep = getD (path .steps) i (record { child = 0; rank = 0 }) in
           let f = valid-child 64 bytes v at (step .child) next (sym e ∙ m) in
@@ -294,16 +323,32 @@ module _ (bytes : List ℕ) (v : fault 64 bytes ≡ 0) (path : Path) (p : ℕ) w
       width-at : width (subtree (tree bytes) at) ≡ getD bytes at 0
       width-at = valid-width 64 bytes v at (omega (arith, w .way .there, valid-size 64 bytes v))
 
-      pub ends-above : getD bytes at 0 ≢ 0 → Walked (tree bytes) (length bytes) (stepsOf path) (path .«leaf_rank») p (record { fault = 14; pending = pending; entries = entries; count = 0 })
+      pub ends-above : getD bytes at 0 ≢ 0
+          → Walked (tree bytes) (length bytes) (stepsOf path) (path .«leaf_rank») p
+          (record { fault = 14; pending = pending; entries = entries; count = 0 })
       ends-above n =
           refused 14 (omega arith)
-          (above (tree bytes) (stepsOf path) (path .«leaf_rank») p at i pending entries (w .way) small (steps-end path i h) (λ e. n (sym width-at ∙ e)))
+          (above (tree bytes) (stepsOf path) (path .«leaf_rank») p at i pending entries (w .way) small (steps-end path i h)
+          (λ e. n (sym width-at ∙ e)))
 
       pub at-leaf : getD bytes at 0 ≡ 0
           → Walked (tree bytes) (length bytes) (stepsOf path) (path .«leaf_rank») p
-          (record { fault = 0; pending = set pending at 1; entries = set entries at (record { rank = path .«leaf_rank»; item = Packet p }); count = i + 1 })
+          (record {
+            fault = 0;
+            pending = set pending at 1;
+            entries = set entries at
+                (record { rank = path .«leaf_rank»; item = Packet p });
+            count = i + 1;
+          })
       at-leaf z =
-          let a : Added = record { fault = 0; pending = set pending at 1; entries = set entries at (record { rank = path .«leaf_rank»; item = Packet p }); count = i + 1 } in
+          let a : Added = record {
+            fault = 0;
+            pending = set pending at 1;
+            entries = set entries at
+                (record { rank = path .«leaf_rank»; item = Packet p });
+            count = i + 1;
+          } in
           subst (λ (k : ℕ). Walked (tree bytes) k (stepsOf path) (path .«leaf_rank») p a) (valid-size 64 bytes v)
-          (arrived (tree bytes) (stepsOf path) (path .«leaf_rank») p at i pending entries (w .way) small (steps-end path i h) (within 64 bytes v .steps)
+          (arrived (tree bytes) (stepsOf path) (path .«leaf_rank») p at i pending entries (w .way) small (steps-end path i h)
+          (within 64 bytes v .steps)
           (width-at ∙ z) a refl refl refl (add-one i))

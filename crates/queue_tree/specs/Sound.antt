@@ -13,7 +13,7 @@ use Rattle.pifo.specs.Numbered.{Queues}
 use Rattle.pifo.specs.Tree.{held}
 use Rattle.queue_tree.specs.declared.State.{State}
 use Rattle.queue_tree.specs.declared.soundness.Test.{Test}
-use Rattle.queue_tree.specs.State.{allBelow, treeOf, wellFormed}
+use Rattle.queue_tree.specs.State.{itemOf, allBelow, treeOf, wellFormed}
 use Rattle.queue_tree.specs.declared.Item.the-variants.{Child}
 use Rattle.queue_tree.specs.declared.Entry.{Entry as CodeEntry}
 use Rattle.queue_tree.specs.declared.soundness.Counted.{Counted}
@@ -28,6 +28,13 @@ pub record Slot (x : Item ℕ) (children r : ℕ) : Type 0 where
   pub may : r ≤ 8 → allowed children x ≡ true
   pub not : 8 < r → allowed children x ≡ false
   pub is : (i : ℕ) → 0 < i → r ≤ 8 → isOf i x ≡ pick (eqb i r) 1 0
+
+-- the place of an entry in the counts of node n, after an entry of rank `last`; 9 where it is at fault
+pub record Placed (bytes : List ℕ) (n : ℕ) (e : CodeEntry) (last r : ℕ) : Type 0 where
+  pub owner : r ≤ 8 → n < length bytes
+  pub rises : r ≤ 8 → last ≤ e .rank
+  pub slot : r ≤ 8 → Slot (itemOf (e .item)) (getD bytes n 0) r
+  pub fault : 8 < r → (length bytes ≤ n) ⊎ ((n < length bytes) × ((e .rank < last) ⊎ (allowed (getD bytes n 0) (itemOf (e .item)) ≡ false)))
 
 -- what is counted of the queue q of node n
 pub record Counts (lengths counts : List ℕ) (n : ℕ) (q : List (Entry ℕ)) : Type 0 where

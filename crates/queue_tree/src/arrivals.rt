@@ -117,15 +117,15 @@ pub(crate) fn enter(
             let entry = entries[i];
             let node = wide(owner);
             let fresh = new[node];
+            let to = i + left;
+            owners[to] = owner;
             if goes_behind(pending[node], entry.rank, fresh.rank) {
                 left -= 1;
                 pending[node] = 0;
-                owners[i + 1 + left] = owner;
-                entries[i + 1 + left] = fresh;
+                entries[to] = fresh;
             } else {
                 at -= 1;
-                owners[i + left] = owner;
-                entries[i + left] = entry;
+                entries[to] = entry;
             }
         } else {
             let node = at - 1;

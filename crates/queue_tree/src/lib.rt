@@ -162,9 +162,9 @@ pub fn push(state: State, path: Path, packet: u32) -> Pushed
             answer: PushAnswer::Refused(fault),
         };
     }
-    let mut next = state;
     if state.limit <= test.held {
         let count = counted(state.refused);
+        let mut next = state;
         next.refused = count;
         return Pushed {
             state: next,
@@ -178,11 +178,17 @@ pub fn push(state: State, path: Path, packet: u32) -> Pushed
     let lists = arrivals::enter(owners, entries, used, nodes, added);
     let next_owners = lists.owners;
     let next_entries = lists.entries;
-    next.owners = next_owners;
-    next.entries = next_entries;
-    next.used = used + count;
+    let next_used = used + count;
     Pushed {
-        state: next,
+        state: State {
+            topology,
+            nodes,
+            limit: state.limit,
+            refused: state.refused,
+            owners: next_owners,
+            entries: next_entries,
+            used: next_used,
+        },
         answer: PushAnswer::Accepted,
     }
 }
@@ -216,12 +222,16 @@ pub fn pop(state: State) -> Popped
     let rest = departures::take_out(owners, entries, used, nodes, trail);
     let next_owners = rest.owners;
     let next_entries = rest.entries;
-    let mut next = state;
-    next.owners = next_owners;
-    next.entries = next_entries;
-    next.used = rest.used;
     Popped {
-        state: next,
+        state: State {
+            topology,
+            nodes,
+            limit: state.limit,
+            refused: state.refused,
+            owners: next_owners,
+            entries: next_entries,
+            used: rest.used,
+        },
         answer: PopAnswer::Departed(packet),
     }
 }

@@ -3,14 +3,14 @@ use super::Entry;
 use super::Item;
 use super::State;
 use super::index::wide;
-use topology::Reading;
+use super::opening::refusal;
 use topology::TARGET_NODES;
 ghost use mathlib.Core.Path.{_≡_};
 ghost use Prim.Native.Nat.{ℕ, _≤_, _<_};
 ghost use lib.ListN.{length, take};
 ghost use Rattle.topology.specs.Reader.{fault};
 ghost use Rattle.queue_tree.specs.State.{itemOf, queueIn};
-ghost use Rattle.queue_tree.specs.Sound.{Small, Slot, Tallied, Decides, AllMatch, Mismatch, Tests};
+ghost use Rattle.queue_tree.specs.Sound.{Small, Slot, Placed, Tallied, Decides, AllMatch, Mismatch, Tests};
 
 // What the pass has counted: the length of each node's queue, and at node * 9 + i how often child i occurs in it.
 pub(crate) struct Counted {
@@ -38,6 +38,22 @@ fn slot(item: Item, children: u8) -> usize
     }
 }
 
+// The place of an entry in the counts of the node that owns it, after an entry of rank `last`: the slot of its item, 9 where there is no
+// such node or the rank falls.
+fn place(bytes: &[u8], node: usize, entry: Entry, last: u32) -> usize
+    requires { ⌜ Small (now bytes) ⌝ }
+    ensures { λ r. ⌜ Placed (now (bytes .entry)) node entry last r ⌝ }
+{
+    if bytes.len() <= node {
+        return 9;
+    }
+    if entry.rank < last {
+        return 9;
+    }
+    let item = entry.item;
+    slot(item, bytes[node])
+}
+
 // A state's test: whether it is well formed, and then the packets that it holds.
 pub(crate) struct Test {
     pub sound: bool,
@@ -51,27 +67,13 @@ fn tally(bytes: &[u8], owners: [u8; 2304], entries: [Entry; 2304], used: usize) 
 {
     let mut lengths = [0u16; 64];
     let mut counts = [0u16; 576];
-    let mut last = [0u32; 64];
+    // a place for each byte: it is read before the owner is known to be a node
+    let mut last = [0u32; 256];
     let mut i = 0;
     while i < used {
         let node = wide(owners[i]);
-        if bytes.len() <= node {
-            return Counted {
-                sound: false,
-                lengths,
-                counts,
-            };
-        }
         let entry = entries[i];
-        if entry.rank < last[node] {
-            return Counted {
-                sound: false,
-                lengths,
-                counts,
-            };
-        }
-        let item = entry.item;
-        let at = slot(item, bytes[node]);
+        let at = place(bytes, node, entry, last[node]);
         if 8 < at {
             return Counted {
                 sound: false,
@@ -151,19 +153,7 @@ pub(crate) fn examine(s: State) -> Test
     }
     let topology = s.topology;
     let bytes = &topology[..nodes];
-    let Reading::Tree = topology::read(bytes, TARGET_NODES) else {
-        return Test {
-            sound: false,
-            held: 0,
-        };
-    };
-    if limit == 0 {
-        return Test {
-            sound: false,
-            held: 0,
-        };
-    }
-    if 256 < limit {
+    if refusal(bytes, limit) != 0 {
         return Test {
             sound: false,
             held: 0,

@@ -88,8 +88,8 @@ enter-requires c κs =
     let z = c .before .before .before .before .before .if2 .left in
     ready _ t _ _ _ a (sym z ∙ c .before .before .before .before .before .before .walk .ensures .fault) (omega (arith, test .count (not-false _ (c .before .before .before .before .before .before .before .before .before .if1 .left)), c .before .before .if3 .left)) _ (c .before .before .before .before .before .before .walk .ensures) z
 
-add-next : tie.Need-add-next
-add-next c =
+add-next-used : tie.Need-add-next-used
+add-next-used c =
     let st = c .before .before .before .before .before .before .before .before .before .before .before .before .before .before .before in
     let a = arrays st in
     let test = c .before .before .before .before .before .before .before .before .before .before .before .before .before .before .examine .ensures in
@@ -120,5 +120,5 @@ push-spec =
     counted-requires
     returns-3
     enter-requires
-    add-next
+    add-next-used
     returns-4)

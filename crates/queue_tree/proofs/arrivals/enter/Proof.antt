@@ -28,23 +28,17 @@ sub-i-2 c = search needs
 array-read-owner : tie.Need-array-read-owner Inv-loop μ-loop
 array-read-owner c =
     let at = c .before .before in
-    let s = at .before .before .before in
-    let r = ready-parts _ _ _ _ _ (s .pre) in
-    omega (arith, at .loop .inv .start, r .room)
+    omega (arith, at .loop .inv .start, at .loop .inv .room)
 
 mul-entry : tie.Need-mul-entry Inv-loop μ-loop
 mul-entry c =
     let at = c .before .before in
-    let s = at .before .before .before in
-    let r = ready-parts _ _ _ _ _ (s .pre) in
-    omega (arith, at .loop .inv .start, r .room)
+    omega (arith, at .loop .inv .start, at .loop .inv .room)
 
 array-copy-out-entry : tie.Need-array-copy-out-entry Inv-loop μ-loop
 array-copy-out-entry c =
     let at = c .before .before in
-    let s = at .before .before .before in
-    let r = ready-parts _ _ _ _ _ (s .pre) in
-    omega (arith, at .loop .inv .start, r .room)
+    omega (arith, at .loop .inv .start, at .loop .inv .room)
 
 wide-requires : tie.Need-wide-requires Inv-loop μ-loop
 wide-requires c κs = search needs
@@ -53,22 +47,25 @@ mul-fresh : tie.Need-mul-fresh Inv-loop μ-loop
 mul-fresh c =
     let at = c .before .before .before .before in
     let s = at .before .before .before in
-    let r = ready-parts _ _ _ _ _ (s .pre) in
-    omega (arith, at .loop .inv .nodes, owner-low _ _ _ _ _ r (search needs) (search needs) _ _ _ _ _ (at .loop .inv) (c .before .before .before .loop-test .taken) (at .loop .at - s .args .nodes - 1) (search needs), c .wide .ensures .0)
+    omega (arith, at .loop .inv .nodes, owner-low _ _ _ _ _ _ _ _ _ _ (at .loop .inv) (c .before .before .before .loop-test .taken) (at .loop .at - s .args .nodes - 1) (search needs), c .wide .ensures .0)
 
 array-copy-out-fresh : tie.Need-array-copy-out-fresh Inv-loop μ-loop
 array-copy-out-fresh c =
     let at = c .before .before .before .before in
     let s = at .before .before .before in
-    let r = ready-parts _ _ _ _ _ (s .pre) in
-    omega (arith, at .loop .inv .nodes, owner-low _ _ _ _ _ r (search needs) (search needs) _ _ _ _ _ (at .loop .inv) (c .before .before .before .loop-test .taken) (at .loop .at - s .args .nodes - 1) (search needs), c .wide .ensures .0)
+    omega (arith, at .loop .inv .nodes, owner-low _ _ _ _ _ _ _ _ _ _ (at .loop .inv) (c .before .before .before .loop-test .taken) (at .loop .at - s .args .nodes - 1) (search needs), c .wide .ensures .0)
+
+add-to : tie.Need-add-to Inv-loop μ-loop
+add-to c = search needs
+
+array-write-owners : tie.Need-array-write-owners Inv-loop μ-loop
+array-write-owners c = search needs
 
 array-read-goes-behind : tie.Need-array-read-goes-behind Inv-loop μ-loop
 array-read-goes-behind c =
     let at = c .before .before .before .before .before in
     let s = at .before .before .before in
-    let r = ready-parts _ _ _ _ _ (s .pre) in
-    omega (arith, at .loop .inv .nodes, owner-low _ _ _ _ _ r (search needs) (search needs) _ _ _ _ _ (at .loop .inv) (c .before .before .before .before .loop-test .taken) (at .loop .at - s .args .nodes - 1) (search needs), c .before .wide .ensures .0)
+    omega (arith, at .loop .inv .nodes, owner-low _ _ _ _ _ _ _ _ _ _ (at .loop .inv) (c .before .before .before .before .loop-test .taken) (at .loop .at - s .args .nodes - 1) (search needs), c .before .wide .ensures .0)
 
 goes-behind-requires : tie.Need-goes-behind-requires Inv-loop μ-loop
 goes-behind-requires c κs = search needs
@@ -80,23 +77,7 @@ array-write-pending : tie.Need-array-write-pending Inv-loop μ-loop
 array-write-pending c =
     let at = c .before .before .before .before .before .before .before in
     let s = at .before .before .before in
-    let r = ready-parts _ _ _ _ _ (s .pre) in
-    omega (arith, at .loop .inv .nodes, owner-low _ _ _ _ _ r (search needs) (search needs) _ _ _ _ _ (at .loop .inv) (c .before .before .before .before .before .before .loop-test .taken) (at .loop .at - s .args .nodes - 1) (search needs), c .before .before .before .wide .ensures .0)
-
-add-owners : tie.Need-add-owners Inv-loop μ-loop
-add-owners c = search needs
-
-add-owners-2 : tie.Need-add-owners-2 Inv-loop μ-loop
-add-owners-2 c = search needs
-
-array-write-owners : tie.Need-array-write-owners Inv-loop μ-loop
-array-write-owners c = search needs
-
-add-entries : tie.Need-add-entries Inv-loop μ-loop
-add-entries c = search needs
-
-add-entries-2 : tie.Need-add-entries-2 Inv-loop μ-loop
-add-entries-2 c = search needs
+    omega (arith, at .loop .inv .nodes, owner-low _ _ _ _ _ _ _ _ _ _ (at .loop .inv) (c .before .before .before .before .before .before .loop-test .taken) (at .loop .at - s .args .nodes - 1) (search needs), c .before .before .before .wide .ensures .0)
 
 mul-entries : tie.Need-mul-entries Inv-loop μ-loop
 mul-entries c = search needs
@@ -111,21 +92,11 @@ loop-again : tie.Need-loop-again Inv-loop μ-loop
 loop-again c =
     let at = c .before .before .before .before .before .before .before in
     let s = at .before .before .before in
-    let r = ready-parts _ _ _ _ _ (s .pre) in
-    behind _ _ _ _ _ r (search needs) (search needs) _ _ _ _ _ (at .loop .inv) (c .before .before .before .before .before .before .loop-test .taken) (at .loop .at - s .args .nodes - 1) (search needs) _ (c .before .before .before .wide .ensures .0)
+    behind _ _ _ _ _ _ _ _ _ _ (at .loop .inv) (c .before .before .before .before .before .before .loop-test .taken) (at .loop .at - s .args .nodes - 1) (search needs) _ (c .before .before .before .wide .ensures .0)
     (c .before .goes-behind .ensures .if-true (c .if2 .taken) .0) (c .before .goes-behind .ensures .if-true (c .if2 .taken) .1)
 
 sub-at : tie.Need-sub-at Inv-loop μ-loop
 sub-at c = search needs
-
-add-owners-3 : tie.Need-add-owners-3 Inv-loop μ-loop
-add-owners-3 c = search needs
-
-array-write-owners-2 : tie.Need-array-write-owners-2 Inv-loop μ-loop
-array-write-owners-2 c = search needs
-
-add-entries-3 : tie.Need-add-entries-3 Inv-loop μ-loop
-add-entries-3 c = search needs
 
 mul-entries-2 : tie.Need-mul-entries-2 Inv-loop μ-loop
 mul-entries-2 c = search needs
@@ -140,16 +111,13 @@ loop-again-2 : tie.Need-loop-again-2 Inv-loop μ-loop
 loop-again-2 c =
     let at = c .before .before .before .before .before .before .before in
     let s = at .before .before .before in
-    let r = ready-parts _ _ _ _ _ (s .pre) in
-    moved _ _ _ _ _ r (search needs) (search needs) _ _ _ _ _ (at .loop .inv) (c .before .before .before .before .before .before .loop-test .taken) (at .loop .at - s .args .nodes - 1) (search needs) _ (c .before .before .before .wide .ensures .0)
+    moved _ _ _ _ _ _ _ _ _ _ (at .loop .inv) (c .before .before .before .before .before .before .loop-test .taken) (at .loop .at - s .args .nodes - 1) (search needs) _ (c .before .before .before .wide .ensures .0)
     (c .before .goes-behind .ensures .if-false (c .if2 .left))
 
 sub-node : tie.Need-sub-node Inv-loop μ-loop
 sub-node c =
     let at = c .before .before in
-    let s = at .before .before .before in
-    let r = ready-parts _ _ _ _ _ (s .pre) in
-    at-pos _ _ _ _ _ r (search needs) (search needs) _ _ _ _ _ (at .loop .inv) (c .before .loop-test .taken) (c .if1 .left)
+    at-pos _ _ _ _ _ _ _ _ _ _ (at .loop .inv) (c .before .loop-test .taken) (c .if1 .left)
 
 array-read-if3 : tie.Need-array-read-if3 Inv-loop μ-loop
 array-read-if3 c = search needs
@@ -163,12 +131,10 @@ array-write-pending-2 c = search needs
 cast-owners : tie.Need-cast-owners Inv-loop μ-loop
 cast-owners c =
     let at = c .before .before .before in
-    let s = at .before .before .before in
-    let r = ready-parts _ _ _ _ _ (s .pre) in
     omega (arith, at .loop .inv .nodes)
 
-array-write-owners-3 : tie.Need-array-write-owners-3 Inv-loop μ-loop
-array-write-owners-3 c = search needs
+array-write-owners-2 : tie.Need-array-write-owners-2 Inv-loop μ-loop
+array-write-owners-2 c = search needs
 
 mul-entries-3 : tie.Need-mul-entries-3 Inv-loop μ-loop
 mul-entries-3 c = search needs
@@ -188,38 +154,28 @@ loop-less-3 c = search needs
 loop-again-3 : tie.Need-loop-again-3 Inv-loop μ-loop
 loop-again-3 c =
     let at = c .before .before .before .before in
-    let s = at .before .before .before in
-    let r = ready-parts _ _ _ _ _ (s .pre) in
-    first _ _ _ _ _ r (search needs) (search needs) _ _ _ _ _ (at .loop .inv) (c .before .before .before .loop-test .taken) (c .before .before .if1 .left) _ refl (c .before .if3 .taken)
+    first _ _ _ _ _ _ _ _ _ _ (at .loop .inv) (c .before .before .before .loop-test .taken) (c .before .before .if1 .left) _ refl (c .before .if3 .taken)
 
 sub-at-2 : tie.Need-sub-at-2 Inv-loop μ-loop
 sub-at-2 c =
     let at = c .before .before .before in
-    let s = at .before .before .before in
-    let r = ready-parts _ _ _ _ _ (s .pre) in
-    let p = at-pos _ _ _ _ _ r (search needs) (search needs) _ _ _ _ _ (at .loop .inv) (c .before .before .loop-test .taken) (c .before .if1 .left) in
-    p
+    at-pos _ _ _ _ _ _ _ _ _ _ (at .loop .inv) (c .before .before .loop-test .taken) (c .before .if1 .left)
 
 loop-less-4 : tie.Need-loop-less-4 Inv-loop μ-loop
 loop-less-4 c =
     let at = c .before .before .before in
-    let s = at .before .before .before in
-    let r = ready-parts _ _ _ _ _ (s .pre) in
-    let p = at-pos _ _ _ _ _ r (search needs) (search needs) _ _ _ _ _ (at .loop .inv) (c .before .before .loop-test .taken) (c .before .if1 .left) in
+    let p = at-pos _ _ _ _ _ _ _ _ _ _ (at .loop .inv) (c .before .before .loop-test .taken) (c .before .if1 .left) in
     omega arith
 
 loop-again-4 : tie.Need-loop-again-4 Inv-loop μ-loop
 loop-again-4 c =
     let at = c .before .before .before in
-    let s = at .before .before .before in
-    let r = ready-parts _ _ _ _ _ (s .pre) in
-    skipped _ _ _ _ _ r (search needs) (search needs) _ _ _ _ _ (at .loop .inv) (c .before .before .loop-test .taken) (c .before .if1 .left) _ refl (c .if3 .left)
+    skipped _ _ _ _ _ _ _ _ _ _ (at .loop .inv) (c .before .before .loop-test .taken) (c .before .if1 .left) _ refl (c .if3 .left)
 
 returns : tie.Need-returns Inv-loop μ-loop
 returns c =
     let at = c .before in
-    let s = at .before .before .before in
-    parts-entered _ _ _ _ _ _ (finish _ _ _ _ _ (ready-parts _ _ _ _ _ (s .pre)) (search needs) (search needs) _ _ _ _ _ (at .loop .inv) (c .loop-test .left))
+    parts-entered _ _ _ _ _ _ (finish _ _ _ _ _ _ _ _ _ _ (at .loop .inv) (c .loop-test .left))
 
 pub enter-spec : {M : Type 1} → statement M
 enter-spec =
@@ -237,23 +193,17 @@ enter-spec =
     wide-requires
     mul-fresh
     array-copy-out-fresh
+    add-to
+    array-write-owners
     array-read-goes-behind
     goes-behind-requires
     sub-left
     array-write-pending
-    add-owners
-    add-owners-2
-    array-write-owners
-    add-entries
-    add-entries-2
     mul-entries
     array-set-from-entries
     loop-less
     loop-again
     sub-at
-    add-owners-3
-    array-write-owners-2
-    add-entries-3
     mul-entries-2
     array-set-from-entries-2
     loop-less-2
@@ -263,7 +213,7 @@ enter-spec =
     sub-left-2
     array-write-pending-2
     cast-owners
-    array-write-owners-3
+    array-write-owners-2
     mul-entries-3
     array-copy-out-entries
     mul-entries-4

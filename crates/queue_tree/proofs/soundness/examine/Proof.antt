@@ -4,9 +4,9 @@ use native.Mathlib.Omega.{arith}
 use mathlib.Core.Path.{refl, sym, _∙_}
 use lib.Seq.{length-take-le}
 use borrow.Author.Tests.{not-true, not-false}
-use Rattle.topology.proofs.Cases.{read-tree, read-refused}
 use Rattle.topology.proofs.Lookup.{valid-length, valid-byte}
 use Rattle.queue_tree.specs.State.{bytes}
+use Rattle.queue_tree.proofs.Fresh.{refused-none, none-refused}
 use Rattle.queue_tree.proofs.Verdict.{kept, Arrays, says-no, says-yes, ill-tally, ill-match, root-held, all-formed}
 use Rattle.queue_tree.proofs.soundness.examine.Statement.{statement}
 use Rattle.queue_tree.proofs.soundness.examine.Tie as tie
@@ -15,9 +15,9 @@ use Rattle.queue_tree.proofs.soundness.examine.Lts as lts
 use Rattle.queue_tree.proofs.soundness.all_match.Reads as all-match-reads
 use Rattle.queue_tree.proofs.soundness.tally.Reads as tally-reads
 use Rattle.queue_tree.proofs.soundness.wide16.Reads as wide16-reads
-use Rattle.topology.proofs.read.Reads as read-reads
+use Rattle.queue_tree.proofs.opening.refusal.Reads as refusal-reads
 
-arrays : (c : lts.Start (read-reads.Asked, read-reads.Learnt, tally-reads.Asked, tally-reads.Learnt, all-match-reads.Asked, all-match-reads.Learnt, wide16-reads.Asked, wide16-reads.Learnt) reads.Pre reads.Post)
+arrays : (c : lts.Start (refusal-reads.Asked, refusal-reads.Learnt, tally-reads.Asked, tally-reads.Learnt, all-match-reads.Asked, all-match-reads.Learnt, wide16-reads.Asked, wide16-reads.Learnt) reads.Pre reads.Post)
     → Arrays (c .args .s)
 arrays c =
     record {
@@ -38,34 +38,22 @@ array-share-prefix-topology c = omega (arith, arrays (c .before .before .before)
 slice-aggregate-bytes : tie.Need-slice-aggregate-bytes
 slice-aggregate-bytes c = sym (length-take-le _ _ (omega (arith, arrays (c .before .before .before .before) .topology)))
 
-read-requires : tie.Need-read-requires
-read-requires c κs = search needs
-
-enum-told : tie.Need-enum-told
-enum-told c = search needs
-
-enum-told-2 : tie.Need-enum-told-2
-enum-told-2 c = search needs
+refusal-requires : tie.Need-refusal-requires
+refusal-requires c κs = search needs
 
 returns-3 : tie.Need-returns-3
 unfolding bytes
-returns-3 c =
-    let q = read-refused _ _ (c .before .before .read .ensures) _ (c .enum-told2 .given .1) .1 in
-    says-no _ _ refl (λ f. q (f .valid))
-
-returns-4 : tie.Need-returns-4
-returns-4 c = says-no _ _ refl (λ f. omega (arith, f .least))
-
-returns-5 : tie.Need-returns-5
-returns-5 c = says-no _ _ refl (λ f. omega (arith, f .most))
+returns-3 c = says-no _ _ refl (λ f. c .if3 .taken (c .before .refusal .ensures ∙ none-refused _ _ (f .valid) (f .least) (f .most)))
 
 tally-requires : tie.Need-tally-requires
 tally-requires c κs =
-    let v = read-tree _ _ (c .before .before .before .before .before .before .read .ensures) (c .before .before .before .before .enum-told .given .1) in
+    let v = refused-none _ _ (sym (c .before .before .before .refusal .ensures) ∙ c .before .before .if3 .left) .0 in
     (record { nodes = valid-length 64 _ v; children = valid-byte 64 _ v }, search needs)
 
-returns-6 : tie.Need-returns-6
-returns-6 c = says-no _ _ refl (ill-tally _ (arrays (c .before .before .before .before .before .before .before .before .before .before .before .before .before .before)) (search needs) _ (c .before .before .tally .ensures) (not-true _ (c .if5 .taken)))
+returns-4 : tie.Need-returns-4
+returns-4 c =
+    let st = c .before .before .before .before .before .before .before .before .before .before .before in
+    says-no _ _ refl (ill-tally _ (arrays st) (search needs) _ (c .before .before .tally .ensures) (not-true _ (c .if4 .taken)))
 
 slice-aggregate-all-match : tie.Need-slice-aggregate-all-match
 slice-aggregate-all-match c = search needs
@@ -75,14 +63,17 @@ slice-aggregate-all-match-2 c = search needs
 
 all-match-requires : tie.Need-all-match-requires
 all-match-requires c κs =
-    let v = read-tree _ _ (c .before .before .before .before .before .before .before .before .before .before .before .before .before .read .ensures) (c .before .before .before .before .before .before .before .before .before .before .before .enum-told .given .1) in
-    (v, c .before .before .before .before .before .before .tally .ensures .counts-long, c .before .before .before .before .before .before .tally .ensures .lengths-long)
+    let v = refused-none _ _ (sym (c .before .before .before .before .before .before .before .before .before .before .refusal .ensures) ∙ c .before .before .before .before .before .before .before .before .before .if3 .left) .0 in
+    let t = c .before .before .before .before .before .before .tally .ensures in
+    (v, t .counts-long, t .lengths-long)
 
-returns-7 : tie.Need-returns-7
-returns-7 c =
-    let v = read-tree _ _ (c .before .before .before .before .before .before .before .before .before .before .before .before .before .before .before .read .ensures) (c .before .before .before .before .before .before .before .before .before .before .before .before .before .enum-told .given .1) in
-    says-no _ _ refl
-    (ill-match _ (arrays (c .before .before .before .before .before .before .before .before .before .before .before .before .before .before .before .before .before .before .before .before)) (search needs) _ (c .before .before .before .before .before .before .before .before .tally .ensures) (not-false _ (c .before .before .before .before .before .before .if5 .left)) v (c .before .all-match .ensures .if-false (not-true _ (c .if6 .taken))))
+returns-5 : tie.Need-returns-5
+returns-5 c =
+    let st = c .before .before .before .before .before .before .before .before .before .before .before .before .before .before .before .before .before in
+    let v = refused-none _ _ (sym (c .before .before .before .before .before .before .before .before .before .before .before .before .refusal .ensures) ∙ c .before .before .before .before .before .before .before .before .before .before .before .if3 .left) .0 in
+    let t = c .before .before .before .before .before .before .before .before .tally .ensures in
+    let yes = not-false _ (c .before .before .before .before .before .before .if4 .left) in
+    says-no _ _ refl (ill-match _ (arrays st) (search needs) _ t yes v (c .before .all-match .ensures .if-false (not-true _ (c .if5 .taken))))
 
 array-read-wide16 : tie.Need-array-read-wide16
 array-read-wide16 c = search needs
@@ -90,20 +81,26 @@ array-read-wide16 c = search needs
 wide16-requires : tie.Need-wide16-requires
 wide16-requires c κs = search needs
 
-returns-8 : tie.Need-returns-8
-returns-8 c =
-    let v = read-tree _ _ (c .before .before .before .before .before .before .before .before .before .before .before .before .before .before .before .before .before .read .ensures) (c .before .before .before .before .before .before .before .before .before .before .before .before .before .before .before .enum-told .given .1) in
-    let h = root-held _ (arrays (c .before .before .before .before .before .before .before .before .before .before .before .before .before .before .before .before .before .before .before .before .before .before)) (search needs) _ (c .before .before .before .before .before .before .before .before .before .before .tally .ensures) (not-false _ (c .before .before .before .before .before .before .before .before .if5 .left)) v (c .before .before .before .all-match .ensures .if-true (not-false _ (c .before .before .if6 .left))) in
+returns-6 : tie.Need-returns-6
+returns-6 c =
+    let st = c .before .before .before .before .before .before .before .before .before .before .before .before .before .before .before .before .before .before .before in
+    let v = refused-none _ _ (sym (c .before .before .before .before .before .before .before .before .before .before .before .before .before .before .refusal .ensures) ∙ c .before .before .before .before .before .before .before .before .before .before .before .before .before .if3 .left) .0 in
+    let t = c .before .before .before .before .before .before .before .before .before .before .tally .ensures in
+    let yes = not-false _ (c .before .before .before .before .before .before .before .before .if4 .left) in
+    let m = c .before .before .before .all-match .ensures .if-true (not-false _ (c .before .before .if5 .left)) in
+    let h = root-held _ (arrays st) (search needs) _ t yes v m in
     says-no _ _ refl (λ f. omega (arith, f .room, c .before .wide16 .ensures))
 
-returns-9 : tie.Need-returns-9
-returns-9 c =
-    let v = read-tree _ _ (c .before .before .before .before .before .before .before .before .before .before .before .before .before .before .before .before .before .read .ensures) (c .before .before .before .before .before .before .before .before .before .before .before .before .before .before .before .enum-told .given .1) in
-    let t = not-false _ (c .before .before .before .before .before .before .before .before .if5 .left) in
-    let m = c .before .before .before .all-match .ensures .if-true (not-false _ (c .before .before .if6 .left)) in
-    let h = root-held _ (arrays (c .before .before .before .before .before .before .before .before .before .before .before .before .before .before .before .before .before .before .before .before .before .before)) (search needs) _ (c .before .before .before .before .before .before .before .before .before .before .tally .ensures) t v m in
+returns-7 : tie.Need-returns-7
+returns-7 c =
+    let st = c .before .before .before .before .before .before .before .before .before .before .before .before .before .before .before .before .before .before .before in
+    let o = refused-none _ _ (sym (c .before .before .before .before .before .before .before .before .before .before .before .before .before .before .refusal .ensures) ∙ c .before .before .before .before .before .before .before .before .before .before .before .before .before .if3 .left) in
+    let t = c .before .before .before .before .before .before .before .before .before .before .tally .ensures in
+    let yes = not-false _ (c .before .before .before .before .before .before .before .before .if4 .left) in
+    let m = c .before .before .before .all-match .ensures .if-true (not-false _ (c .before .before .if5 .left)) in
+    let h = root-held _ (arrays st) (search needs) _ t yes (o .0) m in
     says-yes _ _ refl
-    (all-formed _ (arrays (c .before .before .before .before .before .before .before .before .before .before .before .before .before .before .before .before .before .before .before .before .before .before)) (search needs) _ (c .before .before .before .before .before .before .before .before .before .before .tally .ensures) t v m (search needs) (search needs) (search needs) (omega (arith, c .before .wide16 .ensures)))
+    (all-formed _ (arrays st) (search needs) _ t yes (o .0) m (o .1) (o .2) (search needs) (omega (arith, c .before .wide16 .ensures)))
     (c .before .wide16 .ensures ∙ h)
 
 pub examine-spec : {M : Type 1} → statement M
@@ -114,19 +111,15 @@ examine-spec =
     returns-2
     array-share-prefix-topology
     slice-aggregate-bytes
-    read-requires
-    enum-told
-    enum-told-2
+    refusal-requires
     returns-3
-    returns-4
-    returns-5
     tally-requires
-    returns-6
+    returns-4
     slice-aggregate-all-match
     slice-aggregate-all-match-2
     all-match-requires
-    returns-7
+    returns-5
     array-read-wide16
     wide16-requires
-    returns-8
-    returns-9)
+    returns-6
+    returns-7)

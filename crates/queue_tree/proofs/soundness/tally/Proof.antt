@@ -3,9 +3,8 @@ use borrow.Author.Needs.{needs}
 use native.Mathlib.Omega.{arith}
 use mathlib.Core.Path.{refl, sym}
 use native.Mathlib.Numerals.{add-one}
-use mathlib.Core.Logic.{inl, inr}
 use Prim.Native.Nat.{_≤_, _+_, _-_, _*_}
-use Rattle.queue_tree.proofs.Pass.{Pass, begin, short, owner-out, falls, barred, advance, tallied-not, tallied}
+use Rattle.queue_tree.proofs.Pass.{Pass, begin, short, faulted, advance, tallied-not, tallied}
 use Rattle.queue_tree.proofs.soundness.tally.Statement.{statement}
 use Rattle.queue_tree.proofs.soundness.tally.Tie as tie
 
@@ -24,65 +23,40 @@ array-read-wide c = search needs
 wide-requires : tie.Need-wide-requires Inv-loop μ-loop
 wide-requires c κs = search needs
 
-returns : tie.Need-returns Inv-loop μ-loop
-returns c =
-    let at = c .before .before .before in
-    let a = at .before .before .args in
-    tallied-not _ (a .t2) (a .t3) (a .used) _ _ _ (at .loop .inv .1) refl (inl (owner-out _ (a .t2) (at .loop .i) (a .used) (search needs) (search needs) (omega (arith, c .before .wide .ensures .0))))
-
 mul-entry : tie.Need-mul-entry Inv-loop μ-loop
 mul-entry c = search needs
 
 array-copy-out-entry : tie.Need-array-copy-out-entry Inv-loop μ-loop
 array-copy-out-entry c = search needs
 
-mul-if2 : tie.Need-mul-if2 Inv-loop μ-loop
-mul-if2 c = search needs
+mul-place : tie.Need-mul-place Inv-loop μ-loop
+mul-place c = search needs
 
-array-read-if2 : tie.Need-array-read-if2 Inv-loop μ-loop
-array-read-if2 c = search needs
+array-read-place : tie.Need-array-read-place Inv-loop μ-loop
+array-read-place c = search needs
 
-returns-2 : tie.Need-returns-2 Inv-loop μ-loop
-returns-2 c =
-    let at = c .before .before .before .before .before .before in
+place-requires : tie.Need-place-requires Inv-loop μ-loop
+place-requires c κs = c .before .before .before .before .before .pre .0
+
+returns : tie.Need-returns Inv-loop μ-loop
+returns c =
+    let at = c .before .before .before .before .before in
     let a = at .before .before .args in
-    let own = sym (c .before .before .before .before .wide .ensures .0) in
+    let own = sym (c .before .before .before .wide .ensures .0) in
     tallied-not _ (a .t2) (a .t3) (a .used) _ _ _ (at .loop .inv .1) refl
-    (inr (
-      _,
-      c .before .before .before .if1 .left,
-      falls _ (a .t2) (a .t3) (at .loop .i) _ _ _ (at .loop .inv .1) (search needs) (search needs) (a .used) (search needs) (search needs) (search needs) _ own (c .before .before .before .if1 .left) (c .if2 .taken),
-    ))
-
-shared-slice-read-slot : tie.Need-shared-slice-read-slot Inv-loop μ-loop
-shared-slice-read-slot c = search needs
-
-slot-requires : tie.Need-slot-requires Inv-loop μ-loop
-slot-requires c κs = c .before .before .before .before .before .before .before .before .before .pre .0 .children (c .before .before .before .before .before .wide .result)
-
-returns-3 : tie.Need-returns-3 Inv-loop μ-loop
-returns-3 c =
-    let at = c .before .before .before .before .before .before .before .before .before in
-    let a = at .before .before .args in
-    let own = sym (c .before .before .before .before .before .before .before .wide .ensures .0) in
-    tallied-not _ (a .t2) (a .t3) (a .used) _ _ _ (at .loop .inv .1) refl
-    (inr (
-      _,
-      c .before .before .before .before .before .before .if1 .left,
-      barred _ (a .t2) (a .t3) (at .loop .i) _ _ _ (at .loop .inv .1) (search needs) (search needs) (a .used) (search needs) (search needs) (search needs) _ own (c .before .slot .ensures .not (c .if3 .taken)),
-    ))
+    (faulted _ (a .t2) (a .t3) (at .loop .i) _ _ _ (at .loop .inv .1) (search needs) (search needs) (a .used) (search needs) (search needs) (search needs) _ _ own (c .before .place .ensures) (c .if1 .taken))
 
 mul-lengths : tie.Need-mul-lengths Inv-loop μ-loop
 mul-lengths c = search needs
 
 array-read-lengths : tie.Need-array-read-lengths Inv-loop μ-loop
-array-read-lengths c = search needs
+array-read-lengths c = omega (arith, c .before .place .ensures .owner (c .if1 .left), c .before .before .before .before .before .before .before .pre .0 .nodes)
 
 add-lengths : tie.Need-add-lengths Inv-loop μ-loop
-add-lengths c = omega (arith, short _ _ _ _ _ _ _ (c .before .before .before .before .before .before .before .before .before .loop .inv .1) (search needs) (search needs) _ (c .before .before .before .before .before .before .if1 .left))
+add-lengths c = omega (arith, short _ _ _ _ _ _ _ (c .before .before .before .before .before .loop .inv .1) (search needs) (search needs) _ (c .before .place .ensures .owner (c .if1 .left)))
 
 array-write-lengths : tie.Need-array-write-lengths Inv-loop μ-loop
-array-write-lengths c = search needs
+array-write-lengths c = omega (arith, c .before .place .ensures .owner (c .if1 .left), c .before .before .before .before .before .before .before .pre .0 .nodes)
 
 mul-counts : tie.Need-mul-counts Inv-loop μ-loop
 mul-counts c = search needs
@@ -94,13 +68,13 @@ mul-counts-2 : tie.Need-mul-counts-2 Inv-loop μ-loop
 mul-counts-2 c = search needs
 
 array-read-counts : tie.Need-array-read-counts Inv-loop μ-loop
-array-read-counts c = search needs
+array-read-counts c = omega (arith, c .before .place .ensures .owner (c .if1 .left), c .before .before .before .before .before .before .before .pre .0 .nodes)
 
 add-counts-2 : tie.Need-add-counts-2 Inv-loop μ-loop
-add-counts-2 c = omega (arith, c .before .before .before .before .before .before .before .before .before .loop .inv .1 .small (c .before .before .before .before .before .before .before .wide .result * 9 + c .before .slot .result))
+add-counts-2 c = omega (arith, c .before .before .before .before .before .loop .inv .1 .small (c .before .before .before .wide .result * 9 + c .before .place .result))
 
 array-write-counts : tie.Need-array-write-counts Inv-loop μ-loop
-array-write-counts c = search needs
+array-write-counts c = omega (arith, c .before .place .ensures .owner (c .if1 .left), c .before .before .before .before .before .before .before .pre .0 .nodes)
 
 mul-last : tie.Need-mul-last Inv-loop μ-loop
 mul-last c = search needs
@@ -116,17 +90,19 @@ loop-less c = search needs
 
 loop-again : tie.Need-loop-again Inv-loop μ-loop
 loop-again c =
-    let at = c .before .before .before .before .before .before .before .before .before in
+    let at = c .before .before .before .before .before in
     let a = at .before .before .args in
-    let own = sym (c .before .before .before .before .before .before .before .wide .ensures .0) in (
+    let own = sym (c .before .before .before .wide .ensures .0) in
+    let p = c .before .place .ensures in
+    let low = c .if1 .left in (
       search needs,
       rw add-one
-          (advance _ (a .t2) (a .t3) (at .loop .i) _ _ _ (at .loop .inv .1) (search needs) (search needs) _ _ own (c .before .before .before .before .before .before .if1 .left) (c .before .before .before .if2 .left)
-          (c .before .slot .ensures) (c .if3 .left) (at .before .before .pre .0 .nodes)),
+          (advance _ (a .t2) (a .t3) (at .loop .i) _ _ _ (at .loop .inv .1) (search needs) (search needs) _ _ own (p .owner low) (p .rises low) (p .slot low) low
+          (at .before .before .pre .0 .nodes)),
     )
 
-returns-4 : tie.Need-returns-4 Inv-loop μ-loop
-returns-4 c =
+returns-2 : tie.Need-returns-2 Inv-loop μ-loop
+returns-2 c =
     let at = c .before in
     tallied _ _ _ _ _ _ _ (at .loop .inv .0) (c .loop-test .left) (at .loop .inv .1) refl
 
@@ -139,15 +115,12 @@ tally-spec =
     loop-holds
     array-read-wide
     wide-requires
-    returns
     mul-entry
     array-copy-out-entry
-    mul-if2
-    array-read-if2
-    returns-2
-    shared-slice-read-slot
-    slot-requires
-    returns-3
+    mul-place
+    array-read-place
+    place-requires
+    returns
     mul-lengths
     array-read-lengths
     add-lengths
@@ -163,4 +136,4 @@ tally-spec =
     add-i
     loop-less
     loop-again
-    returns-4)
+    returns-2)
