@@ -1,0 +1,55 @@
+// Scripts for gatewalk: the reader of a script's commands, and the text that a whole script prints.
+mod operands;
+
+ghost use mathlib.Core.Path.{_≡_};
+ghost use Rattle.script.specs.Reading.{readAt};
+
+// A command with its operands.
+pub enum Command {
+    // a node of the source, and of the target: its number of children
+    Source(u8),
+    Target(u8),
+    // the packet limit
+    Limit(u32),
+    Compile,
+    // a step's child and rank
+    Step(u8, u32),
+    // a push's packet and leaf rank
+    Push(u32, u32),
+    Pop,
+}
+
+// What the reader finds: the end of the script; a command, and the offset of the next; or a refusal's number and the command's offset.
+pub enum Read {
+    End,
+    Next(Command, usize),
+    Refused(u8, usize),
+}
+
+// The script reader: the script, and the offset of its next command. The borrow checker covers no function over a struct that holds a
+// slice, so there are three of them, thin, and `operands::command_at` does the work.
+pub struct Reader<'a> {
+    pub script: &'a [u8],
+    pub at: usize,
+}
+
+// A reader whose next command is at an offset.
+pub fn reader_at<'a>(script: &'a [u8], at: usize) -> Reader<'a>
+    ensures { λ r. ⌜ (r .script ≡ script .entry) × (r .at ≡ at) ⌝ }
+{
+    Reader { script, at }
+}
+
+// The reader's next command.
+pub fn next<'a>(reader: Reader<'a>) -> Read
+    ensures { λ r. ⌜ r ≡ readAt (now (reader .entry .script)) (reader .entry .at) ⌝ }
+{
+    operands::command_at(reader.script, reader.at)
+}
+
+// The command at an offset of a script.
+pub fn read_at(script: &[u8], at: usize) -> Read
+    ensures { λ r. ⌜ r ≡ readAt (now (script .entry)) at ⌝ }
+{
+    next(reader_at(script, at))
+}
