@@ -1,0 +1,40 @@
+-- `put_in` meets its contract: the parts of the line joined.
+use Rattle.text.specs.Lines.{inLine}
+use Rattle.text.proofs.Writing.{puts-then}
+use borrow.Author.Needs.{needs}
+use Rattle.text.proofs.lines.put_in.Statement.{statement}
+use Rattle.text.proofs.lines.put_in.Tie as tie
+
+slice-aggregate-put-word : tie.Need-slice-aggregate-put-word
+slice-aggregate-put-word c = search needs
+
+put-word-requires : tie.Need-put-word-requires
+put-word-requires c κs = search needs
+
+put-spaced-requires : tie.Need-put-spaced-requires
+put-spaced-requires c κs = search needs
+
+put-requires : tie.Need-put-requires
+put-requires c κs = search needs
+
+same-length : tie.Need-same-length
+same-length c = search needs
+
+returns : tie.Need-returns
+unfolding inLine
+returns c =
+    let end = c .before .before in
+    let number = end .before .before .before .before in
+    let word = number .before .before .before .before in
+    puts-then (word .put-word .ensures) (puts-then (number .put-spaced .ensures) (end .put .ensures))
+
+pub put-in-spec : {M : Type 1} → statement M
+put-in-spec =
+    tie.close
+    (tie.spec
+    slice-aggregate-put-word
+    put-word-requires
+    put-spaced-requires
+    put-requires
+    same-length
+    returns)
