@@ -1,5 +1,7 @@
 // Scripts for gatewalk: the reader of a script's commands, and the text that a whole script prints.
+mod gathering;
 mod operands;
+mod replies;
 
 ghost use mathlib.Core.Path.{_≡_};
 ghost use Rattle.script.specs.Reading.{readAt};
