@@ -1,7 +1,8 @@
 -- The answer to a call, case by case. A push is refused by its path's fault; else as full exactly where as many packets are held as the
 -- limit allows; else it is accepted. A pop is refused exactly where none is held.
 use mathlib.Core.Path.{_≡_, refl, ap}
-use Prim.Native.Nat.{ℕ, suc, _≤_, _<_, min}
+use mathlib.Core.Logic.{_⊎_, inl, inr}
+use Prim.Native.Nat.{ℕ, zero, suc, _≤_, _<_, min}
 use native.Mathlib.Omega.{arith}
 use mathlib.Core.List.{List}
 use mathlib.Core.Bool.{Bool, true, false}
@@ -10,7 +11,8 @@ use lib.Dec.{leb}
 use borrow.Author.Tests.{le-leb, lt-leb}
 use Rattle.topology.specs.Reader.{pick}
 use Rattle.pifo.specs.Tree.{Step, pathFault, PTree, push, pop, held, well}
-use Rattle.pifo.specs.Machine.{Machine, pushing, popping, Answer, accepted, departed, refused, full, most, holding, counting, servePop, serve}
+use Rattle.pifo.specs.Machine.{Machine, Call, pushing, popping, Answer, accepted, departed, refused, full, most, holding, counting, servePath, servePop, serve}
+use Rattle.pifo.proofs.Paths.{fault-number}
 use Rattle.pifo.proofs.Pop.{pop-none, none-pop}
 
 module _ {P : Type 0} (m : Machine P) where
@@ -43,3 +45,46 @@ module _ {P : Type 0} (m : Machine P) where
           → (p : P) × (u : PTree P) × (pop (m .tree) ≡ some (p, u)) × (serve m popping ≡ (departed p, holding m u))
       by-pop none e = absurd (omega (arith, pop-none (m .tree) w e))
       by-pop (some (p, u)) e = (p, u, e, ap (servePop m) e)
+
+  -- A call leaves the topology, and no call is refused by 18.
+  pub serve-topology : (c : Call P) → serve m c .1 .topology ≡ m .topology
+  serve-topology (pushing ss l p) = by-fault (pathFault (m .topology) ss)
+    where
+      by-test : (b : Bool) (c : ℕ) → pick {A = Answer P × Machine P} b (full c, counting m c) (accepted, holding m (push (m .tree) ss l p)) .1 .topology ≡ m .topology
+      by-test true c = refl
+      by-test false c = refl
+
+      by-fault : (f : ℕ) → servePath f m ss l p .1 .topology ≡ m .topology
+      by-fault (suc f) = refl
+      by-fault zero = by-test (leb (m .limit) (held (m .tree))) (min (suc (m .refusals)) most)
+  serve-topology popping = by-pop (pop (m .tree))
+    where
+      by-pop : (o : Option (P × PTree P)) → servePop m o .1 .topology ≡ m .topology
+      by-pop none = refl
+      by-pop (some (p, u)) = refl
+
+  abbrev number : Answer P → ℕ
+  number accepted = 0
+  number (departed p) = 0
+  number (refused n) = n
+  number (full n) = 15
+
+  pub serve-number : (c : Call P) → number (serve m c .0) ≤ 16
+  serve-number (pushing ss l p) = by-fault (pathFault (m .topology) ss) (fault-number (m .topology) ss)
+    where
+      by-test : (b : Bool) (c : ℕ) → number (pick {A = Answer P × Machine P} b (full c, counting m c) (accepted, holding m (push (m .tree) ss l p)) .0) ≤ 16
+      by-test true c = omega arith
+      by-test false c = omega arith
+
+      by-fault : (f : ℕ) → (f ≡ 0) ⊎ ((13 ≤ f) × (f ≤ 14)) → number (servePath f m ss l p .0) ≤ 16
+      by-fault (suc f) (inl e) = absurd (omega arith)
+      by-fault (suc f) (inr h) = omega arith
+      by-fault zero h = by-test (leb (m .limit) (held (m .tree))) (min (suc (m .refusals)) most)
+  serve-number popping = by-pop (pop (m .tree))
+    where
+      by-pop : (o : Option (P × PTree P)) → number (servePop m o .0) ≤ 16
+      by-pop none = omega arith
+      by-pop (some (p, u)) = omega arith
+
+  pub never-18 : (c : Call P) → serve m c .0 ≡ refused 18 → ⊥
+  never-18 c e = omega (arith, serve-number c, ap number e)

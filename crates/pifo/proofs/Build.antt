@@ -10,7 +10,7 @@ use Rattle.topology.specs.Tree.{Topo, Forest, node, fnil, fcons, count, kids}
 use Rattle.topology.specs.Address.{Addr, nth, In}
 use Rattle.pifo.specs.Queue.{Entry}
 use Rattle.pifo.specs.Tree.{PTree, PForest, pnode, pnil, pcons, shape, shapes}
-use Rattle.pifo.proofs.Queues.{queueAt, queueIn}
+use Rattle.pifo.specs.Addressed.{queueAt, queueIn}
 
 module _ {P : Type 0} where
   -- the tree with given queues; the trees of a forest whose first is child k

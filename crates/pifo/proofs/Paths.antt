@@ -1,5 +1,6 @@
 -- Paths with no fault, taken apart: their last step ends at a leaf, and each step names a child that is there.
 use mathlib.Core.Path.{_≡_, refl}
+use mathlib.Core.Logic.{_⊎_, inl, inr}
 use Prim.Native.Nat.{ℕ, _≤_, _<_}
 use native.Mathlib.Omega.{arith}
 use mathlib.Core.List.{List, [], _∷_}
@@ -38,3 +39,19 @@ fault-step t i r ss h = by-test (leb 1 i && leb i (width t)) refl h
 
 pub step-fault : (t : Topo) (i r : ℕ) (ss : List Step) → Passes t i ss → pathFault t (step i r ∷ ss) ≡ 0
 step-fault t i r ss p = rw (le-leb 1 i (p .low), le-leb i (width t) (p .high)) (p .rest)
+
+-- 0, 13 and 14 are the numbers of paths.
+pub fault-number : (t : Topo) (ss : List Step) → (pathFault t ss ≡ 0) ⊎ ((13 ≤ pathFault t ss) × (pathFault t ss ≤ 14))
+fault-number t [] = by-test (eqb (width t) 0)
+  where
+    by-test : (b : Bool) → (_≡_ {A = ℕ} (pick b 0 14) 0) ⊎ ((13 ≤ pick b 0 14) × (pick b 0 14 ≤ 14))
+    by-test true = inl refl
+    by-test false = inr (omega arith)
+fault-number t (step i r ∷ ss) = by-test (leb 1 i && leb i (width t)) (fault-number (child t i) ss)
+  where
+    f : ℕ
+    f = pathFault (child t i) ss
+
+    by-test : (b : Bool) → (f ≡ 0) ⊎ ((13 ≤ f) × (f ≤ 14)) → (pick b f 13 ≡ 0) ⊎ ((13 ≤ pick b f 13) × (pick b f 13 ≤ 14))
+    by-test true h = h
+    by-test false h = inr (omega arith)

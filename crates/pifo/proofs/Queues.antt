@@ -13,42 +13,15 @@ use borrow.Author.Tests.{eq-eqb}
 use Rattle.topology.specs.Tree.{Topo, Forest, node, fnil, fcons, count, width}
 use Rattle.topology.specs.Address.{Addr, nth, In}
 use Rattle.topology.specs.Reader.{pick}
-use Rattle.pifo.specs.Queue.{Entry, child, packet, entry, insert, risesFrom, allowed, every}
+use Rattle.pifo.specs.Queue.{Entry, child, packet, entry, risesFrom, allowed, every}
 use Rattle.pifo.specs.Tree.{Step, step, pathFault, PTree, PForest, pnode, pnil, pcons, shape, shapes, push, pushAt, pop, popAt, with-queue, with-later, with-elder, empty, empties, held, well, wells}
+use Rattle.pifo.specs.Addressed.{queueAt, queueIn, along, put, atop}
 use Rattle.pifo.proofs.Order.{both}
 use Rattle.pifo.proofs.Wellness.{well-parts, length-held}
 use Rattle.pifo.proofs.Paths.{end-fault, fault-step, step-fault}
 use Rattle.pifo.proofs.Pop.{child-own, leaf-own}
 
 module _ {P : Type 0} where
-  -- the queue of the node at an address; empty where there is no node
-  abbrev mutual
-    pub queueAt : PTree P → Addr → List (Entry P)
-    queueAt (pnode q ts) [] = q
-    queueAt (pnode q ts) (zero ∷ a) = []
-    queueAt (pnode q ts) (suc i ∷ a) = queueIn ts i a
-
-    pub queueIn : PForest P → ℕ → Addr → List (Entry P)
-    queueIn pnil i a = []
-    queueIn (pcons t ts) zero a = queueAt t a
-    queueIn (pcons t ts) (suc i) a = queueIn ts i a
-
-  -- the entry that a path makes at an address, if it leads there
-  abbrev pub along : List Step → ℕ → P → Addr → Option (Entry P)
-  along [] l p [] = some (entry l (packet p))
-  along [] l p (j ∷ a) = none
-  along (step i r ∷ ss) l p [] = some (entry r (child i))
-  along (step i r ∷ ss) l p (j ∷ a) = pick (eqb i j) (along ss l p a) none
-
-  -- an entry, if there is one, put into a queue, and at its head
-  abbrev pub put : Option (Entry P) → List (Entry P) → List (Entry P)
-  put none q = q
-  put (some e) q = insert e q
-
-  abbrev pub atop : Option (Entry P) → List (Entry P) → List (Entry P)
-  atop none q = q
-  atop (some e) q = e ∷ q
-
   mutual
     pub push-queue : (t : PTree P) (ss : List Step) (l : ℕ) (p : P) (a : Addr) → pathFault (shape t) ss ≡ 0
         → queueAt (push t ss l p) a ≡ put (along ss l p a) (queueAt t a)

@@ -1,8 +1,8 @@
 -- Whole runs of the machine. Each call keeps it sound, moves the packets that it says and counts the refusals that it gives (`served`);
 -- so after any calls from an opening on the packets accepted are those departed and those held, and the count of refusals is the number of
 -- answers `full`, up to its largest (`run`).
-use mathlib.Core.Path.{_≡_, refl, sym, ap, _∙_, subst₂}
-use Prim.Native.Nat.{ℕ, zero, suc, _+_, _≤_, min, zero-le}
+use mathlib.Core.Path.{_≡_, refl, sym, ap, _∙_}
+use Prim.Native.Nat.{ℕ, zero, suc, _+_, min, zero-le}
 use native.Mathlib.Omega.{arith}
 use mathlib.Core.List.{List, [], _∷_, _++_, append-assoc, append-nil, List·Permᴰ, List·Permᴰ·trans, Permᴰ·refl, Permᴰ·symm, Permᴰ·append-left}
 use mathlib.Core.Bool.{Bool, true, false}
@@ -13,64 +13,14 @@ use borrow.Author.Tests.{leb-false}
 use Rattle.lists.proofs.Permutation.{length-perm, perm-same, perm-past}
 use Rattle.topology.specs.Tree.{Topo}
 use Rattle.topology.specs.Reader.{pick}
-use Rattle.pifo.specs.Tree.{Step, pathFault, PTree, shape, push, pop, packets, held, well}
-use Rattle.pifo.specs.Machine.{Machine, Call, pushing, popping, Answer, accepted, departed, refused, full, most, holding, counting, opened, servePath, servePop, serve, after, answers}
+use Rattle.pifo.specs.Tree.{Step, pathFault, PTree, shape, push, pop, packets, held}
+use Rattle.pifo.specs.Machine.{Machine, Call, pushing, popping, Answer, accepted, departed, refused, full, most, holding, counting, opened, servePath, servePop, serve, Server, afterBy, answersBy, after, answers}
+use Rattle.pifo.specs.Runs.{Sound, takenBy, departedBy, fullBy, acceptedBy, taken, departures, fulls, accepts, Run}
 use Rattle.pifo.proofs.Wellness.{shape-empty, packets-empty, well-empty}
 use Rattle.pifo.proofs.Push.{push-shape, push-packets, push-held, push-well}
 use Rattle.pifo.proofs.Pop.{Popped, popped}
 
 module _ {P : Type 0} where
-  -- a machine's state is well formed, for its own topology and limit
-  pub record Sound (m : Machine P) : Type 0 where
-    pub tree : well (m .tree) ≡ true
-    pub topology : shape (m .tree) ≡ m .topology
-    pub limit : held (m .tree) ≤ m .limit
-    pub refusals : m .refusals ≤ most
-
-  -- What one answer to a call says: the packet accepted, the packet departed, how many pushes were refused as full.
-  abbrev pub takenBy : Call P → Answer P → List P
-  takenBy (pushing ss l p) accepted = p ∷ []
-  takenBy (pushing ss l p) (departed x) = []
-  takenBy (pushing ss l p) (refused n) = []
-  takenBy (pushing ss l p) (full n) = []
-  takenBy popping a = []
-
-  abbrev pub departedBy : Answer P → List P
-  departedBy accepted = []
-  departedBy (departed p) = p ∷ []
-  departedBy (refused n) = []
-  departedBy (full n) = []
-
-  abbrev pub fullBy : Answer P → ℕ
-  fullBy accepted = 0
-  fullBy (departed p) = 0
-  fullBy (refused n) = 0
-  fullBy (full n) = 1
-
-  abbrev pub acceptedBy : Answer P → ℕ
-  acceptedBy accepted = 1
-  acceptedBy (departed p) = 0
-  acceptedBy (refused n) = 0
-  acceptedBy (full n) = 0
-
-  -- And what all the answers say.
-  abbrev pub taken : List (Call P) → List (Answer P) → List P
-  taken [] rest = []
-  taken (c ∷ cs) [] = []
-  taken (c ∷ cs) (a ∷ rest) = takenBy c a ++ taken cs rest
-
-  abbrev pub departures : List (Answer P) → List P
-  departures [] = []
-  departures (a ∷ rest) = departedBy a ++ departures rest
-
-  abbrev pub fulls : List (Answer P) → ℕ
-  fulls [] = 0
-  fulls (a ∷ rest) = fullBy a + fulls rest
-
-  abbrev pub accepts : List (Answer P) → ℕ
-  accepts [] = 0
-  accepts (a ∷ rest) = acceptedBy a + accepts rest
-
   -- One call.
   pub record Served (m : Machine P) (c : Call P) (a : Answer P) (n : Machine P) : Type 0 where
     pub sound : Sound n
@@ -178,28 +128,9 @@ module _ {P : Type 0} where
       by-pop (some (p, u)) = tt
 
 -- Any calls, answered by any server of which what `served` says of `serve` holds.
-abbrev pub Server : Type 0 → Type 0
-Server P = Machine P → Call P → Answer P × Machine P
-
 module _ {P : Type 0} where
   abbrev pub Serves : Server P → Type 0
   Serves server = (m : Machine P) (c : Call P) → Sound m → Served m c (server m c .0) (server m c .1)
-
-  abbrev pub afterBy : Server P → Machine P → List (Call P) → Machine P
-  afterBy server m [] = m
-  afterBy server m (c ∷ cs) = afterBy server (server m c .1) cs
-
-  abbrev pub answersBy : Server P → Machine P → List (Call P) → List (Answer P)
-  answersBy server m [] = []
-  answersBy server m (c ∷ cs) = server m c .0 ∷ answersBy server (server m c .1) cs
-
-  after-serve : (m : Machine P) (cs : List (Call P)) → afterBy serve m cs ≡ after m cs
-  after-serve m [] = refl
-  after-serve m (c ∷ cs) = after-serve (serve m c .1) cs
-
-  answers-serve : (m : Machine P) (cs : List (Call P)) → answersBy serve m cs ≡ answers m cs
-  answers-serve m [] = refl
-  answers-serve m (c ∷ cs) = ap (λ (rest : List (Answer P)). serve m c .0 ∷ rest) (answers-serve (serve m c .1) cs)
 
   module _ (server : Server P) (serves : Serves server) where
     run-sound : (m : Machine P) (cs : List (Call P)) → Sound m → Sound (afterBy server m cs)
@@ -247,17 +178,6 @@ pub opened-sound : (P : Type 0) (t : Topo) (limit : ℕ) → Sound (opened {P = 
 opened-sound P t limit =
     record { tree = well-empty P t; topology = shape-empty P t; limit = rw (packets-empty P t) zero-le; refusals = zero-le }
 
--- What holds after any calls from an opening on.
-pub record Run {P : Type 0} (t : Topo) (limit : ℕ) (cs : List (Call P)) (answered : List (Answer P)) (m : Machine P) : Type 0 where
-  pub sound : Sound m
-  pub topology : m .topology ≡ t
-  pub limited : m .limit ≡ limit
-  -- the packets of accepted pushes are those that departed and those held; in numbers too
-  pub contents : List·Permᴰ (taken cs answered) (departures answered ++ packets (m .tree))
-  pub number : accepts answered ≡ length (departures answered) + held (m .tree)
-  -- the refusals counted are the pushes refused as full
-  pub count : m .refusals ≡ min (fulls answered) most
-
 module _ {P : Type 0} (t : Topo) (limit : ℕ) (cs : List (Call P)) where
   pub run-by : (server : Server P) → Serves server → Run t limit cs (answersBy server (opened t limit) cs) (afterBy server (opened t limit) cs)
   run-by server serves =
@@ -278,4 +198,4 @@ module _ {P : Type 0} (t : Topo) (limit : ℕ) (cs : List (Call P)) where
       }
 
   pub run : Run t limit cs (answers (opened t limit) cs) (after (opened t limit) cs)
-  run = subst₂ (Run t limit cs) (answers-serve (opened t limit) cs) (after-serve (opened t limit) cs) (run-by serve served)
+  run = run-by serve served

@@ -57,11 +57,22 @@ module _ {P : Type 0} where
   serve m (pushing ss l p) = servePath (pathFault (m .topology) ss) m ss l p
   serve m popping = servePop m (pop (m .tree))
 
+-- what answers calls: a machine and a call to the answer and the machine after it
+abbrev pub Server : Type 0 → Type 0
+Server P = Machine P → Call P → Answer P × Machine P
+
+module _ {P : Type 0} where
   -- the machine after a list of calls, and the answers on the way
+  abbrev pub afterBy : Server P → Machine P → List (Call P) → Machine P
+  afterBy server m [] = m
+  afterBy server m (c ∷ cs) = afterBy server (server m c .1) cs
+
+  abbrev pub answersBy : Server P → Machine P → List (Call P) → List (Answer P)
+  answersBy server m [] = []
+  answersBy server m (c ∷ cs) = server m c .0 ∷ answersBy server (server m c .1) cs
+
   abbrev pub after : Machine P → List (Call P) → Machine P
-  after m [] = m
-  after m (c ∷ cs) = after (serve m c .1) cs
+  after = afterBy serve
 
   abbrev pub answers : Machine P → List (Call P) → List (Answer P)
-  answers m [] = []
-  answers m (c ∷ cs) = serve m c .0 ∷ answers (serve m c .1) cs
+  answers = answersBy serve

@@ -17,7 +17,7 @@ use Rattle.topology.proofs.Ancestry.{in-below, in-join, sub-append, in-height}
 use Rattle.pifo.specs.Queue.{entry, child as childItem}
 use Rattle.pifo.specs.Tree.{Step, step, pathFault}
 use Rattle.pifo.proofs.Paths.{fault-end, end-fault, fault-step, step-fault}
-use Rattle.pifo.proofs.Queues.{along}
+use Rattle.pifo.specs.Addressed.{along}
 use Rattle.simulation.specs.Mirror.{toward, Owns, ranked, turn}
 use Rattle.simulation.specs.Carrying.{carryFrom}
 use Rattle.simulation.proofs.Prefixes.{above-trans, above-strict, toward-over, toward-apart}

@@ -12,7 +12,8 @@ use Rattle.topology.specs.Tree.{Topo, width}
 use Rattle.topology.specs.Address.{Addr, In}
 use Rattle.pifo.specs.Queue.{Entry, child, packet, entry, allowed, every}
 use Rattle.pifo.specs.Tree.{Step, pathFault, PTree, shape, empty, push, pop, held, well}
-use Rattle.pifo.proofs.Queues.{queueAt, along, put, atop, push-queue, Trail, Trails, pop-trail, Heads, trail-pop, queue-empty, queue-rises, root-held, root-own}
+use Rattle.pifo.specs.Addressed.{queueAt, along, put, atop}
+use Rattle.pifo.proofs.Queues.{push-queue, Trail, Trails, pop-trail, Heads, trail-pop, queue-empty, queue-rises, root-held, root-own}
 use Rattle.pifo.proofs.Order.{both}
 use Rattle.pifo.proofs.Pop.{child-own}
 use Rattle.pifo.proofs.Build.{same-queues}

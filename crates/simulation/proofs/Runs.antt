@@ -5,11 +5,12 @@ use Prim.Native.Nat.{ℕ}
 use mathlib.Core.List.{List, [], _∷_, Perm, perm-append-left-iff, List·Permᴰ·trans, Permᴰ·symm}
 use Rattle.topology.specs.Tree.{Topo}
 use Rattle.pifo.specs.Tree.{packets}
-use Rattle.pifo.specs.Machine.{Machine, Call, opened, serve, after, answers}
-use Rattle.pifo.proofs.Runs.{departures, afterBy, answersBy, run}
+use Rattle.pifo.specs.Machine.{Machine, Call, opened, serve, afterBy, answersBy, after, answers}
+use Rattle.pifo.specs.Runs.{departures}
+use Rattle.pifo.proofs.Runs.{run}
 use Rattle.embedding_laws.specs.Rules.{Passes}
-use Rattle.simulation.specs.Sheet.{serveCarried}
-use Rattle.simulation.proofs.Simulation.{Paired, paired-opened, paired-next, answers-alike}
+use Rattle.simulation.specs.Sheet.{serveCarried, Paired}
+use Rattle.simulation.proofs.Simulation.{paired-opened, paired-next, answers-alike}
 use Rattle.simulation.proofs.Chip.{chip-run}
 
 module _ {P : Type 0} (S T : Topo) (m : List ℕ) (E : Passes S T m) where

@@ -18,25 +18,16 @@ use Rattle.topology.specs.Reader.{pick}
 use Rattle.pifo.specs.Tree.{Step, pathFault, PTree, shape, push, pop, held}
 use Rattle.pifo.specs.Machine.{Machine, Call, pushing, popping, Answer, accepted, full, most, holding, counting, opened, servePath, servePop, serve}
 use Rattle.pifo.proofs.Pop.{pop-none, none-pop}
-use Rattle.pifo.proofs.Runs.{Sound, served, opened-sound}
+use Rattle.pifo.proofs.Runs.{served, opened-sound}
 use Rattle.embedding_laws.specs.Rules.{Passes}
 use Rattle.simulation.specs.Embedding.{imageAt}
 use Rattle.simulation.specs.Carrying.{carry}
 use Rattle.simulation.specs.Mirror.{Mirrors}
-use Rattle.simulation.specs.Sheet.{pushCarried, serveCarried, view, lines, log}
+use Rattle.simulation.specs.Sheet.{pushCarried, serveCarried, Paired, view, lines, log}
 use Rattle.simulation.proofs.Images.{keeps}
 use Rattle.simulation.proofs.Carried.{fault-length}
 use Rattle.simulation.proofs.Chip.{serves-carried}
 use Rattle.simulation.proofs.Mirrored.{path-fault, mirrors-empty, mirrors-held, mirrors-push, mirrors-pop}
-
-pub record Paired {P : Type 0} (S T : Topo) (m : List ℕ) (x y : Machine P) : Type 0 where
-  pub source : Sound x
-  pub chip : Sound y
-  pub source-topology : x .topology ≡ S
-  pub chip-topology : y .topology ≡ T
-  pub limit : y .limit ≡ x .limit
-  pub refusals : y .refusals ≡ x .refusals
-  pub trees : Mirrors S T (imageAt S T m) (x .tree) (y .tree)
 
 -- what a call's two results have in common
 record Alike {P : Type 0} (S T : Topo) (m : List ℕ) (r s : Answer P × Machine P) : Type 0 where

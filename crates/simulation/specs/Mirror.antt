@@ -15,7 +15,7 @@ use Rattle.topology.specs.Address.{Addr, In, Above}
 use Rattle.topology.specs.Reader.{pick}
 use Rattle.pifo.specs.Queue.{Entry, child, packet, entry}
 use Rattle.pifo.specs.Tree.{PTree}
-use Rattle.pifo.proofs.Queues.{queueAt, atop}
+use Rattle.pifo.specs.Addressed.{queueAt, atop}
 
 -- the child number from one address toward another that lies below it
 abbrev pub toward : Addr → Addr → Option ℕ

@@ -10,7 +10,8 @@ use lib.ListN.{length, drop, set, length-append, length-set, drop-of-length-le}
 use lib.Seq.{drop-cons, getD-set-same, drop-set-lt}
 use lib.Dec.{ltb}
 use borrow.Author.Tests.{lt-ltb, le-ltb, ltb-true, ltb-false}
-use Rattle.text.specs.Text.{decimalLast, decimal, hexDigit, hexLast, hex8}
+use Rattle.text.specs.Text.{decimalLast, decimal, hexDigit, hexLast, hex8, Puts}
+use Rattle.text.proofs.Writing.{puts-as, puts-then}
 
 cond-else : (t : Bool) {a b : List ℕ} → (t ≡ false → a ≡ b) → cond t [] a ≡ cond t [] b
 cond-else true f = refl
@@ -35,11 +36,16 @@ decimal-digit n h =
     let e : n % 10 ≡ n = omega arith in
     rw (lt-ltb n 10 h, e)
 
-pub decimal-more : (n : ℕ) → 10 ≤ n → decimal n ≡ decimal (n / 10) ++ ((48 + n % 10) ∷ [])
+decimal-more : (n : ℕ) → 10 ≤ n → decimal n ≡ decimal (n / 10) ++ ((48 + n % 10) ∷ [])
 unfolding decimal decimalLast
 decimal-more n h =
     let e = enough n (suc (n / 10)) (n / 10) (shorter n n (omega arith) h) (omega arith) in
     rw (le-ltb n 10 h) (ap (λ (l : List ℕ). l ++ ((48 + n % 10) ∷ [])) e)
+
+-- the last digit goes behind the digits before it
+pub puts-last : {before middle after : List ℕ} {at place end : ℕ} (n : ℕ) → 10 ≤ n → Puts before at (decimal (n / 10)) middle place
+    → Puts middle place ((48 + n % 10) ∷ []) after end → Puts before at (decimal n) after end
+puts-last n h p q = puts-as (sym (decimal-more n h)) (puts-then p q)
 
 -- a number below 10 ^ k takes at most k digits, where k is not 0
 pub length-decimal : (k n : ℕ) → n < 10 ^ suc k → length (decimal n) ≤ suc k

@@ -8,3 +8,4 @@ pub mod Levels
 pub mod Cases
 pub mod Progress
 pub mod Lookup
+pub mod Refusals

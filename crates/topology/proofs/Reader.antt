@@ -163,3 +163,10 @@ within limit bytes e =
     let f : faultFrom limit 0 (1 ∷ []) (code (tree bytes) ++ []) ≡ 0 = rw append-nil (rw (drawn limit bytes e) e) in
     let r = fits-tree (tree bytes) limit 0 0 [] [] f in
     omega (arith, r .0)
+
+-- What has no fault under one limit has none under a wider one.
+pub fault-wider : (limit wider : ℕ) (bytes : List ℕ) → limit ≤ wider → fault limit bytes ≡ 0 → fault wider bytes ≡ 0
+fault-wider limit wider bytes h e =
+    let w = within limit bytes e in
+    let f = accepts wider (tree bytes) (record { nodes = omega (arith, w .nodes); children = w .children; steps = w .steps }) in
+    rw (drawn limit bytes e) at f

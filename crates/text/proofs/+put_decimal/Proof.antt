@@ -1,8 +1,8 @@
 -- By recursion on the number: a number of one digit, and one of more.
 use mathlib.Core.Path.{sym}
 use borrow.Author.Needs.{needs}
-use Rattle.text.proofs.Writing.{puts-as, puts-then}
-use Rattle.text.proofs.Digits.{decimal-digit, decimal-more}
+use Rattle.text.proofs.Writing.{puts-as}
+use Rattle.text.proofs.Digits.{decimal-digit, puts-last}
 use Prim.Native.Nat.{ℕ, _<_}
 use borrow.Fn.Kinds.{In}
 use borrow.Fn.PlainCycle.{Measures, is, falls, and}
@@ -113,7 +113,7 @@ put-decimal-returns-2 : (t : ℕ) → put-decimal-lts.Need-returns-2 (
 put-decimal-returns-2 t c =
     let last = c .before .before in
     let first = last .before .before .before .before in
-    puts-as (sym (decimal-more _ (first .before .before .if1 .left))) (puts-then (first .put-decimal .ensures) (last .put2 .ensures))
+    puts-last _ (first .before .before .if1 .left) (first .put-decimal .ensures) (last .put2 .ensures)
 
 pub +put-decimal-spec : {M : Type 1} → statement M
 +put-decimal-spec = close μ-put-decimal λ t. put-decimal-lts.spec (

@@ -1,0 +1,44 @@
+-- Refused by the search, and opened.
+use borrow.Author.Needs.{needs}
+use Rattle.paired.proofs.Start.{search-refused, both-opened}
+use mathlib.Core.Path.{sym, _∙_}
+use Rattle.paired.proofs.open.Statement.{statement}
+use Rattle.paired.proofs.open.Tie as tie
+
+search-requires : tie.Need-search-requires
+search-requires c κs = search needs
+
+slice-aggregate-open : tie.Need-slice-aggregate-open
+slice-aggregate-open c = search needs
+
+open-requires : tie.Need-open-requires
+open-requires c κs = search needs
+
+returns : tie.Need-returns
+returns c =
+    let found = c .before .before .before .before .before .search .ensures in
+    search-refused _ _ _ _ _ _ (found .0) (c .before .before .before .if1 .taken) (found .1) (c .before .«open» .ensures)
+
+open-requires-2 : tie.Need-open-requires-2
+open-requires-2 c κs = search needs
+
+open-requires-3 : tie.Need-open-requires-3
+open-requires-3 c κs = search needs
+
+returns-2 : tie.Need-returns-2
+returns-2 c =
+    let found = c .before .before .before .before .before .before .search .ensures in
+    both-opened _ _ (sym (found .0) ∙ c .before .before .before .before .if1 .left) _ _ (found .1) _ _ (c .before .before .before .open2 .ensures)
+    (c .before .open3 .ensures)
+
+pub open-spec : {M : Type 1} → statement M
+open-spec =
+    tie.close
+    (tie.spec
+    search-requires
+    slice-aggregate-open
+    open-requires
+    returns
+    open-requires-2
+    open-requires-3
+    returns-2)

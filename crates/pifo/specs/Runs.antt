@@ -1,0 +1,73 @@
+-- What a list of calls and its answers amount to: packets accepted and departed, pushes refused as full; and what holds of a machine after
+-- any calls from an opening on.
+use mathlib.Core.Path.{_≡_}
+use Prim.Native.Nat.{ℕ, _+_, _≤_, min}
+use mathlib.Core.List.{List, [], _∷_, _++_, List·Permᴰ}
+use mathlib.Core.Bool.{true}
+use lib.ListN.{length}
+use Rattle.topology.specs.Tree.{Topo}
+use Rattle.pifo.specs.Tree.{shape, packets, held, well}
+use Rattle.pifo.specs.Machine.{Machine, Call, pushing, popping, Answer, accepted, departed, refused, full, most}
+
+module _ {P : Type 0} where
+  -- a machine's state is well formed, for its own topology and limit
+  pub record Sound (m : Machine P) : Type 0 where
+    pub tree : well (m .tree) ≡ true
+    pub topology : shape (m .tree) ≡ m .topology
+    pub limit : held (m .tree) ≤ m .limit
+    pub refusals : m .refusals ≤ most
+
+  -- What one answer to a call says: the packet accepted, the packet departed, how many pushes were refused as full.
+  abbrev pub takenBy : Call P → Answer P → List P
+  takenBy (pushing ss l p) accepted = p ∷ []
+  takenBy (pushing ss l p) (departed x) = []
+  takenBy (pushing ss l p) (refused n) = []
+  takenBy (pushing ss l p) (full n) = []
+  takenBy popping a = []
+
+  abbrev pub departedBy : Answer P → List P
+  departedBy accepted = []
+  departedBy (departed p) = p ∷ []
+  departedBy (refused n) = []
+  departedBy (full n) = []
+
+  abbrev pub fullBy : Answer P → ℕ
+  fullBy accepted = 0
+  fullBy (departed p) = 0
+  fullBy (refused n) = 0
+  fullBy (full n) = 1
+
+  abbrev pub acceptedBy : Answer P → ℕ
+  acceptedBy accepted = 1
+  acceptedBy (departed p) = 0
+  acceptedBy (refused n) = 0
+  acceptedBy (full n) = 0
+
+  -- And what all the answers say.
+  abbrev pub taken : List (Call P) → List (Answer P) → List P
+  taken [] rest = []
+  taken (c ∷ cs) [] = []
+  taken (c ∷ cs) (a ∷ rest) = takenBy c a ++ taken cs rest
+
+  abbrev pub departures : List (Answer P) → List P
+  departures [] = []
+  departures (a ∷ rest) = departedBy a ++ departures rest
+
+  abbrev pub fulls : List (Answer P) → ℕ
+  fulls [] = 0
+  fulls (a ∷ rest) = fullBy a + fulls rest
+
+  abbrev pub accepts : List (Answer P) → ℕ
+  accepts [] = 0
+  accepts (a ∷ rest) = acceptedBy a + accepts rest
+
+-- What holds after any calls from an opening on.
+pub record Run {P : Type 0} (t : Topo) (limit : ℕ) (cs : List (Call P)) (answered : List (Answer P)) (m : Machine P) : Type 0 where
+  pub sound : Sound m
+  pub topology : m .topology ≡ t
+  pub limited : m .limit ≡ limit
+  -- the packets of accepted pushes are those that departed and those held; in numbers too
+  pub contents : List·Permᴰ (taken cs answered) (departures answered ++ packets (m .tree))
+  pub number : accepts answered ≡ length (departures answered) + held (m .tree)
+  -- the refusals counted are the pushes refused as full
+  pub count : m .refusals ≡ min (fulls answered) most

@@ -1,0 +1,4 @@
+pub mod Paths
+pub mod Ways
+pub mod Walking
+pub mod Outcome

@@ -1,0 +1,80 @@
+-- The answers of a carrying: one for a list that is refused as a map; and what an answer without refusal says of its path.
+use mathlib.Core.Path.{_≡_, refl, sym, ap, _∙_}
+use Prim.Native.Nat.{ℕ, zero, suc, _≤_}
+use native.Mathlib.Omega.{arith}
+use mathlib.Core.List.{List}
+use Rattle.topology.specs.Reader.{orElse, tree}
+use Rattle.topology.proofs.Reader.{within}
+use Rattle.topology.proofs.Refusals.{orElse-none}
+use Rattle.topology.proofs.Cases.{clash}
+use Rattle.pifo.specs.Tree.{Step, pathFault}
+use Rattle.embedding_laws.specs.Check.{mapFault}
+use Rattle.embedding_laws.proofs.Rules.{mapFault-none}
+use Rattle.embedding.specs.Answers.{checked}
+use Rattle.embedding.specs.declared.Checked.{Checked}
+use Rattle.embedding.specs.declared.Checked.the-variants.{Passes, Refused}
+use Rattle.simulation.specs.Carrying.{carry}
+use Rattle.simulation.proofs.Simulation.{carry-fault, carry-length}
+use Rattle.queue_tree.specs.Arrivals.{stepsOf}
+use Rattle.queue_tree.specs.declared.Path.{Path}
+use Rattle.translator.specs.Carry.{carryFault, Carries}
+use Rattle.translator.specs.declared.Carried.{Carried}
+use Rattle.translator.proofs.Paths.{steps-path}
+
+module _ (source target m : List ℕ) (a : Checked) (e : a ≡ checked (mapFault source target m)) where
+  pub map-passes : a ≡ Passes → mapFault source target m ≡ 0
+  map-passes p = by-fault (mapFault source target m) (sym p ∙ e)
+    where
+      by-fault : (f : ℕ) → Passes ≡ checked f → f ≡ 0
+      by-fault zero q = refl
+      by-fault (suc f) q = absurd (clash (cc))
+
+  pub map-refused : (path : Path) (number : ℕ) → a ≡ Refused number → Carries source target m path (record { path = path; refusal = number })
+  unfolding carryFault
+  map-refused path number r = by-fault (mapFault source target m) refl (sym r ∙ e)
+    where
+      by-fault : (f : ℕ) → mapFault source target m ≡ f → Refused number ≡ checked f
+          → Carries source target m path (record { path = path; refusal = number })
+      by-fault zero z q = absurd (clash (cc))
+      by-fault (suc f) z q =
+          let n : number ≡ suc f = cc in
+          record {
+            refusal = n ∙ sym (ap (λ (g : ℕ). orElse g (pathFault (tree source) (stepsOf path))) z);
+            carried = λ y. absurd (omega arith);
+            kept = λ _. refl;
+          }
+
+-- What the crates above read off: the answer's path is the definition's, it has no fault in the target, and it fits the places.
+pub record Arrives (source target m : List ℕ) (path : Path) (r : Path) : Type 0 where
+  pub steps : stepsOf r ≡ carry (tree source) (tree target) m (stepsOf path)
+  pub leaf : r .«leaf_rank» ≡ path .«leaf_rank»
+  pub fault : pathFault (tree target) (stepsOf r) ≡ 0
+  pub few : r .count ≤ 8
+
+-- a carrying without refusal: the map passes, and the path has no fault in the source
+pub carry-none : (source target m : List ℕ) (ss : List Step) → carryFault source target m ss ≡ 0
+    → (mapFault source target m ≡ 0) × (pathFault (tree source) ss ≡ 0)
+unfolding carryFault
+carry-none source target m ss e = orElse-none (mapFault source target m) (pathFault (tree source) ss) e
+
+pub carried-steps : (source target m : List ℕ) (path : Path) (r : Carried) → Carries source target m path r → r .refusal ≡ 0
+    → Arrives source target m path (r .path)
+carried-steps source target m path r c z =
+    let ss : List Step = stepsOf path in
+    let over : List Step = carry (tree source) (tree target) m ss in
+    let none = carry-none source target m ss (sym (c .refusal) ∙ z) in
+    let map = mapFault-none source target m .0 (none .0) in
+    let is = c .carried z in
+    let steps : stepsOf (r .path) ≡ over = ap stepsOf is ∙ steps-path over (path .«leaf_rank») in
+    record {
+      steps = steps;
+      leaf = ap (λ (p : Path). p .«leaf_rank») is;
+      fault = ap (pathFault (tree target)) steps ∙ carry-fault (tree source) (tree target) m (map .2) ss (none .1);
+      few =
+          omega (
+            arith,
+            ap (λ (p : Path). p .count) is,
+            carry-length (tree source) (tree target) m (map .2) ss (none .1),
+            within 64 target (map .1) .steps,
+          );
+    }

@@ -1,0 +1,252 @@
+-- The walk down the source along a path: after i steps without fault it stands at a node, and the carried path has come to that node's
+-- image.
+use mathlib.Core.Path.{_≡_, refl, sym, ap, ap₂, _∙_}
+use mathlib.Core.Logic.{_≢_}
+use Prim.Native.Nat.{ℕ, zero, suc, _+_, _≤_, _<_}
+use native.Mathlib.Numerals.{add-one}
+use native.Mathlib.Decide.{decLe}
+use native.Mathlib.Omega.{arith}
+use mathlib.Core.List.{List, [], _∷_, _++_, append-nil, append-assoc}
+use lib.ListN.{length, take, drop, getD, length-append, length-take, length-drop, drop-of-length-le}
+use lib.Seq.{drop-cons, getD-take}
+use borrow.Author.Tests.{ne-eqb, le-leb, lt-leb}
+use Rattle.lists.proofs.Map.{length-map, getD-map}
+use Rattle.topology.specs.Tree.{Topo, width, size, code}
+use Rattle.topology.specs.Address.{child, addr, sub, subtree, childOf, depth}
+use Rattle.topology.specs.Reader.{orElse, fault, tree}
+use Rattle.topology.specs.Branch.{childAt}
+use Rattle.topology.specs.declared.Found.{Found}
+use Rattle.topology.specs.declared.Found.the-variants.{Node, Missing}
+use Rattle.topology.proofs.Numbering.{addr-root, addr-in}
+use Rattle.topology.proofs.Ancestry.{size-pos, in-height}
+use Rattle.topology.proofs.Children.{HasChild, childOf-lt, subtree-childOf, depth-childOf}
+use Rattle.topology.proofs.Lookup.{child-code, child-there, valid-size, valid-width}
+use Rattle.topology.proofs.Reader.{drawn, within}
+use Rattle.pifo.specs.Tree.{Step, step, pathFault}
+use Rattle.pifo.proofs.Paths.{end-fault}
+use Rattle.embedding_laws.specs.Rules.{image, Passes}
+use Rattle.embedding_laws.specs.Check.{mapFault}
+use Rattle.embedding_laws.proofs.Rules.{mapFault-none}
+use Rattle.simulation.specs.Carrying.{carry, route, carryNodes}
+use Rattle.simulation.proofs.Carried.{steps}
+use Rattle.simulation.proofs.Nodes.{image-below, carry-nodes}
+use Rattle.queue_tree.specs.Arrivals.{stepOf, stepsOf}
+use Rattle.queue_tree.specs.declared.Step.{Step as CodeStep}
+use Rattle.queue_tree.specs.declared.Path.{Path}
+use Rattle.translator.specs.Carry.{carryFault, noStep, pathOf, Carries}
+use Rattle.translator.specs.Ways.{Plain, Over}
+use Rattle.translator.proofs.Paths.{steps-path}
+
+-- ---- one step of a path
+
+path-on : (t : Topo) (i r : ℕ) (ss : List Step) → 0 < i → i ≤ width t → pathFault t (step i r ∷ ss) ≡ pathFault (child t i) ss
+path-on t i r ss h g = rw (le-leb 1 i h, le-leb i (width t) g)
+
+path-off : (t : Topo) (i r : ℕ) (ss : List Step) → ((0 < i) × (i ≤ width t) → ⊥) → pathFault t (step i r ∷ ss) ≡ 13
+path-off t zero r ss f = refl
+path-off t (suc i) r ss f = by-width (decLe (suc i) (width t))
+  where
+    by-width : Dec (suc i ≤ width t) → pathFault t (step (suc i) r ∷ ss) ≡ 13
+    by-width (yes h) = absurd (f (omega arith, h))
+    by-width (no h) = rw (le-leb 1 (suc i) (omega arith), lt-leb (suc i) (width t) (omega arith))
+
+path-above : (t : Topo) → width t ≢ 0 → pathFault t [] ≡ 14
+path-above t n = rw (ne-eqb (width t) 0 n)
+
+-- step i of the code's path, and its end
+step-at : (path : Path) (i : ℕ) (d : CodeStep) → i < path .count → i < length (path .steps)
+    → drop i (stepsOf path) ≡ stepOf (getD (path .steps) i d) ∷ drop (suc i) (stepsOf path)
+step-at path i d h g =
+    let l : i < length (take (path .count) (path .steps)) = omega (arith, length-take (path .count) (path .steps)) in
+    drop-cons (stepsOf path) i (stepOf d) (omega (arith, length-map stepOf (take (path .count) (path .steps))))
+    ∙ ap (λ (s : Step). s ∷ drop (suc i) (stepsOf path))
+    (getD-map stepOf (take (path .count) (path .steps)) i d (stepOf d) l ∙ ap stepOf (getD-take (path .count) (path .steps) i d h))
+
+steps-end : (path : Path) (i : ℕ) → path .count ≤ i → drop i (stepsOf path) ≡ []
+steps-end path i h =
+    drop-of-length-le (stepsOf path) {i = i}
+    (omega (arith, length-map stepOf (take (path .count) (path .steps)), length-take (path .count) (path .steps)))
+
+-- ---- a child that is found in valid bytes, and one that is not
+
+found : (bytes : List ℕ) (t : Topo) → code t ≡ bytes → (n c next : ℕ) → childAt bytes n c ≡ Node next → HasChild t n c × (next ≡ childOf t n c)
+found bytes t e n c next f =
+    let g : childAt (code t) n c ≡ Node next = ap (λ (bs : List ℕ). childAt bs n c) e ∙ f in
+    let h = child-there t n c next g in
+    (h, same-node (sym g ∙ child-code t n c h))
+  where
+    same-node : {a b : ℕ} → Node a ≡ Node b → a ≡ b
+    same-node q = cc
+
+lost : (bytes : List ℕ) (t : Topo) → code t ≡ bytes → (n c : ℕ) → childAt bytes n c ≡ Missing → HasChild t n c → ⊥
+lost bytes t e n c f h = apart (sym f ∙ ap (λ (bs : List ℕ). childAt bs n c) (sym e) ∙ child-code t n c h)
+  where
+    apart : {a : ℕ} → Missing ≡ Node a → ⊥
+    apart q = let z : _≡_ {A = ℕ} 0 1 = cc in omega arith
+
+-- ---- the walk
+
+pub record Walking (source target m : List ℕ) (path carried : Path) (node i : ℕ) : Type 0 where
+  pub there : node < size (tree source)
+  pub deep : depth (tree source) node ≡ i
+  pub same : pathFault (tree source) (stepsOf path) ≡ pathFault (subtree (tree source) node) (drop i (stepsOf path))
+  pub plain : Plain carried
+  pub leaf : carried .«leaf_rank» ≡ path .«leaf_rank»
+  pub below : carried .count ≡ depth (tree target) (image m node)
+  pub rest : stepsOf carried ++ carryNodes (tree source) (tree target) m node (drop i (stepsOf path))
+      ≡ carryNodes (tree source) (tree target) m 0 (stepsOf path)
+
+module _ (source target m : List ℕ) (z : mapFault source target m ≡ 0) (path : Path) where
+  abbrev S : Topo
+  S = tree source
+
+  abbrev T : Topo
+  T = tree target
+
+  abbrev ss : List Step
+  ss = stepsOf path
+
+  valid-source : fault 32 source ≡ 0
+  valid-source = mapFault-none source target m .0 z .0
+
+  valid-target : fault 64 target ≡ 0
+  valid-target = mapFault-none source target m .0 z .1
+
+  passes : Passes S T m
+  passes = mapFault-none source target m .0 z .2
+
+  path-fault : carryFault source target m ss ≡ pathFault S ss
+  unfolding carryFault
+  path-fault = ap (λ (f : ℕ). orElse f (pathFault S ss)) z
+
+  refused : (f : ℕ) → f ≢ 0 → pathFault S ss ≡ f → Carries source target m path (record { path = path; refusal = f })
+  refused f n e = record { refusal = sym (path-fault ∙ e); carried = λ y. absurd (n y); kept = λ _. refl }
+
+  pub walking-start : Walking source target m path (pathOf [] (path .«leaf_rank»)) 0 0
+  walking-start =
+      record {
+        there = size-pos S;
+        deep = ap length (addr-root S);
+        same = ap (λ (u : Topo). pathFault u ss) (sym (ap (sub S) (addr-root S)));
+        plain = refl;
+        leaf = refl;
+        below = sym (ap (depth T) (passes .root) ∙ ap length (addr-root T));
+        rest = refl;
+      }
+
+  module _ (carried : Path) (node i : ℕ) (w : Walking source target m path carried node i) where
+    pub walking-few : i ≤ 8
+    walking-few = omega (arith, w .deep, in-height S (addr S node) (addr-in S node (w .there)), within 32 source valid-source .steps)
+
+    pub walking-source : node < length source
+    walking-source = omega (arith, w .there, valid-size 32 source valid-source)
+
+    pub walking-map : node < length m
+    walking-map = omega (arith, w .there, passes .long)
+
+    -- ---- one step more
+
+    module _ (h : i < path .count) (g : length (path .steps) ≡ 9) (r : Found)
+        (e : r ≡ childAt source node (getD (path .steps) i noStep .child)) where
+      abbrev s : CodeStep
+      s = getD (path .steps) i noStep
+
+      abbrev others : List Step
+      others = drop (suc i) ss
+
+      first : drop i ss ≡ stepOf s ∷ others
+      first = step-at path i noStep h (omega (arith, walking-few))
+
+      pub walking-lost : r ≡ Missing → Carries source target m path (record { path = path; refusal = 13 })
+      walking-lost q =
+          let none = lost source S (drawn 32 source valid-source) node (s .child) (sym e ∙ q) in
+          refused 13 (omega arith)
+          (w .same ∙ ap (pathFault (subtree S node)) first ∙ path-off (subtree S node) (s .child) (s .rank) others (λ x. none (w .there, x .0, x .1)))
+
+      module _ (next : ℕ) (q : r ≡ Node next) where
+        is-child : HasChild S node (s .child) × (next ≡ childOf S node (s .child))
+        is-child = found source S (drawn 32 source valid-source) node (s .child) next (sym e ∙ q)
+
+        next-lt : next < size S
+        next-lt = omega (arith, is-child .1, childOf-lt S node (s .child) (is-child .0))
+
+        pub walking-child : next < length m
+        walking-child = omega (arith, next-lt, passes .long)
+
+        pub walking-over : Over target (image m node) (image m next)
+        walking-over =
+            record {
+              valid = valid-target;
+              upper = omega (arith, passes .within node (w .there), valid-size 64 target valid-target);
+              lower = omega (arith, passes .within next next-lt, valid-size 64 target valid-target);
+              above = rw (is-child .1) (image-below S T m passes node (s .child) (is-child .0) .0);
+            }
+
+        pub walking-next : (more : Path)
+            → more ≡ pathOf (stepsOf carried ++ steps (s .rank) (route T (image m node) (image m next))) (carried .«leaf_rank»)
+            → Walking source target m path more next (i + 1)
+        walking-next more is =
+            let x : ℕ = image m node in
+            let y : ℕ = image m next in
+            let way : List Step = steps (s .rank) (route T x y) in
+            let has = is-child .0 in
+            let now : stepsOf more ≡ stepsOf carried ++ way = ap stepsOf is ∙ steps-path (stepsOf carried ++ way) (carried .«leaf_rank») in
+            let rank-kept : more .«leaf_rank» ≡ carried .«leaf_rank» = ap (λ (p : Path). p .«leaf_rank») is in
+            let kid : subtree S next ≡ child (subtree S node) (s .child) = ap (subtree S) (is-child .1) ∙ subtree-childOf S node (s .child) has in
+            let under = walking-over .above in
+            rw (add-one i)
+            record {
+              there = next-lt;
+              deep = ap (depth S) (is-child .1) ∙ depth-childOf S node (s .child) has ∙ ap suc (w .deep);
+              same =
+                  w .same
+                  ∙ ap (pathFault (subtree S node)) first
+                  ∙ path-on (subtree S node) (s .child) (s .rank) others (has .1) (has .2)
+                  ∙ ap (λ (u : Topo). pathFault u others) (sym kid);
+              plain = is ∙ ap₂ pathOf (sym now) (sym rank-kept);
+              leaf = rank-kept ∙ w .leaf;
+              below =
+                  omega (
+                    arith,
+                    ap (λ (p : Path). p .count) is,
+                    length-append (stepsOf carried) way,
+                    ap (λ (p : Path). p .count) (w .plain),
+                    w .below,
+                    length-map (λ (k : ℕ). step k (s .rank)) (route T x y),
+                    length-drop (depth T x) (addr T y),
+                    ap length (under .1),
+                    length-append (addr T x) (under .0),
+                  );
+              rest =
+                  ap (λ (l : List Step). l ++ carryNodes S T m next others) now
+                  ∙ append-assoc (stepsOf carried) way (carryNodes S T m next others)
+                  ∙ ap (λ (c : ℕ). stepsOf carried ++ (steps (s .rank) (route T x (image m c)) ++ carryNodes S T m c others)) (is-child .1)
+                  ∙ ap (λ (l : List Step). stepsOf carried ++ carryNodes S T m node l) (sym first)
+                  ∙ w .rest;
+            }
+
+    -- ---- the end of the path
+
+    module _ (h : path .count ≤ i) where
+      done : pathFault S ss ≡ pathFault (subtree S node) []
+      done = w .same ∙ ap (pathFault (subtree S node)) (steps-end path i h)
+
+      width-at : width (subtree S node) ≡ getD source node 0
+      width-at = valid-width 32 source valid-source node walking-source
+
+      pub walking-above : getD source node 0 ≢ 0 → Carries source target m path (record { path = path; refusal = 14 })
+      walking-above n = refused 14 (omega arith) (done ∙ path-above (subtree S node) (λ y. n (sym width-at ∙ y)))
+
+      pub walking-leaf : getD source node 0 ≡ 0 → Carries source target m path (record { path = carried; refusal = 0 })
+      walking-leaf y =
+          let none : pathFault S ss ≡ 0 = done ∙ end-fault (subtree S node) (width-at ∙ y) in
+          let all : stepsOf carried ≡ carry S T m ss =
+          sym (append-nil (stepsOf carried))
+          ∙ ap (λ (l : List Step). stepsOf carried ++ carryNodes S T m node l) (sym (steps-end path i h))
+          ∙ w .rest
+          ∙ carry-nodes S T m ss none in
+          record {
+            refusal = sym (path-fault ∙ none);
+            carried = λ _. w .plain ∙ ap₂ pathOf all (w .leaf);
+            kept = λ n. absurd (n refl);
+          }

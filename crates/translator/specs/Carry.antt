@@ -1,0 +1,36 @@
+-- What the carrying of a path promises: the refusal's number, and the carried path as the code's.
+use mathlib.Core.Path.{_≡_}
+use mathlib.Core.Logic.{_≢_}
+use Prim.Native.Nat.{ℕ, _-_}
+use mathlib.Core.List.{List, _++_, map}
+use lib.ListN.{length, replicate}
+use Rattle.topology.specs.Reader.{orElse, tree}
+use Rattle.pifo.specs.Tree.{Step, step, pathFault}
+use Rattle.embedding_laws.specs.Check.{mapFault}
+use Rattle.simulation.specs.Carrying.{carry}
+use Rattle.queue_tree.specs.Arrivals.{stepsOf}
+use Rattle.queue_tree.specs.declared.Step.{Step as CodeStep}
+use Rattle.queue_tree.specs.declared.Path.{Path}
+use Rattle.translator.specs.declared.Carried.{Carried}
+
+-- The number by which a carrying is refused: both trees, the map, then the path in the source's tree (1 to 5 twice, 6 to 11, 13, 14);
+-- 0: none.
+unfoldable pub carryFault : List ℕ → List ℕ → List ℕ → List Step → ℕ
+carryFault source target m ss =
+    let rest = pathFault (tree source) ss in orElse (mapFault source target m) rest
+
+-- the code's step for the definition's
+abbrev pub codeStep : Step → CodeStep
+codeStep (step i r) = record { child = i; rank = r }
+
+abbrev pub noStep : CodeStep
+noStep = record { child = 0; rank = 0 }
+
+-- the code's path of given steps: nine places, those past the last step 0
+abbrev pub pathOf : List Step → ℕ → Path
+pathOf ss l = record { steps = map codeStep ss ++ replicate (9 - length ss) noStep; count = length ss; «leaf_rank» = l }
+
+pub record Carries (source target m : List ℕ) (path : Path) (r : Carried) : Type 0 where
+  pub refusal : r .refusal ≡ carryFault source target m (stepsOf path)
+  pub carried : r .refusal ≡ 0 → r .path ≡ pathOf (carry (tree source) (tree target) m (stepsOf path)) (path .«leaf_rank»)
+  pub kept : r .refusal ≢ 0 → r .path ≡ path

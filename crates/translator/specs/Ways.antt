@@ -1,0 +1,30 @@
+-- What the private functions promise.
+use mathlib.Core.Path.{_≡_}
+use Prim.Native.Nat.{ℕ, _<_}
+use mathlib.Core.List.{List}
+use lib.ListN.{length}
+use Rattle.topology.specs.Tree.{Topo}
+use Rattle.topology.specs.Address.{Above, addr, childOf}
+use Rattle.topology.specs.Reader.{fault, tree}
+use Rattle.topology.proofs.Children.{HasChild}
+use Rattle.queue_tree.specs.Arrivals.{stepsOf}
+use Rattle.queue_tree.specs.declared.Path.{Path}
+use Rattle.translator.specs.Carry.{pathOf}
+use Rattle.translator.specs.declared.Turn.{Turn}
+
+-- The places past the last step are 0.
+abbrev pub Plain : Path → Type 0
+Plain p = p ≡ pathOf (stepsOf p) (p .«leaf_rank»)
+
+-- The bytes are a target's, and its node x is y or lies above it.
+pub record Over (bytes : List ℕ) (x y : ℕ) : Type 0 where
+  pub valid : fault 64 bytes ≡ 0
+  pub upper : x < length bytes
+  pub lower : y < length bytes
+  pub above : Above (addr (tree bytes) x) (addr (tree bytes) y)
+
+-- a child of x that is y or lies above it
+pub record Toward (t : Topo) (x y : ℕ) (r : Turn) : Type 0 where
+  pub has : HasChild t x (r .index)
+  pub node : r .node ≡ childOf t x (r .index)
+  pub above : Above (addr t (r .node)) (addr t y)
