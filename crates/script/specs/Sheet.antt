@@ -4,13 +4,13 @@ use Prim.Native.Nat.{ℕ, zero, suc}
 use mathlib.Core.List.{List, [], _∷_, _++_}
 use mathlib.Core.Bool.{Bool, false, not, _&&_}
 use mathlib.Core.Option.{Option, none, some}
-use lib.ListN.{length}
+use lib.ListN.{length, take}
 use lib.Dec.{leb, ltb}
-use Rattle.topology.specs.Reader.{pick, orElse, tree}
+use Rattle.topology.specs.Reader.{pick, tree}
 use Rattle.pifo.specs.Tree.{Step, step, held}
 use Rattle.pifo.specs.Machine.{Machine, Answer, accepted, departed, refused, full, pushing, popping, serve, opened}
-use Rattle.embedding_laws.specs.Least.{Found, nothing, list, leastMap, searchFault}
-use Rattle.queue_tree.specs.Calls.{limitFault}
+use Rattle.embedding_laws.specs.Least.{searchMap}
+use Rattle.paired.specs.Calls.{bothFault}
 use Rattle.script.specs.declared.Command.{Command}
 use Rattle.script.specs.declared.Command.the-variants.{Source, Target, Limit, Compile, Step as StepTo, Push, Pop}
 
@@ -40,18 +40,11 @@ stops (left p) = false
 abbrev pub outOfTurn : Sheet → Reply × Sheet
 outOfTurn sheet = (no-by 22, sheet)
 
-abbrev pub images : Found → List ℕ
-images nothing = []
-images (list m) = m
-
--- 04, by the number of its refusal: both trees are opened empty
+-- 04, by the number of its refusal: the images of the source's nodes, and both trees opened empty
 abbrev pub compiled : ℕ → List ℕ → List ℕ → ℕ → Reply × Sheet
-compiled zero source target limit = (mapped (images (leastMap source target)), serving (opened (tree source) limit) [])
+compiled zero source target limit =
+    (mapped (take (length source) (searchMap source target)), serving (opened (tree source) limit) [])
 compiled (suc f) source target limit = (no-by (suc f), drawing source target (some limit))
-
--- 04 is tested for the source's 1 to 5, the target's, 12 and then 17
-unfoldable pub compileFault : List ℕ → List ℕ → ℕ → ℕ
-compileFault source target limit = orElse (searchFault source target) (limitFault limit)
 
 -- the answer of the machine as a reply
 abbrev pub replied : Answer ℕ → Machine ℕ → Reply
@@ -70,7 +63,7 @@ obey (drawing s t l) (Target b) = (silent, drawing s (t ++ (b ∷ [])) l)
 obey (drawing s t none) (Limit n) = (silent, drawing s t (some n))
 obey (drawing s t (some m)) (Limit n) = outOfTurn (drawing s t (some m))
 obey (drawing s t none) Compile = outOfTurn (drawing s t none)
-obey (drawing s t (some n)) Compile = compiled (compileFault s t n) s t n
+obey (drawing s t (some n)) Compile = compiled (bothFault s t n) s t n
 obey (drawing s t l) (StepTo i r) = outOfTurn (drawing s t l)
 obey (drawing s t l) (Push p r) = outOfTurn (drawing s t l)
 obey (drawing s t l) Pop = outOfTurn (drawing s t l)
