@@ -1,0 +1,142 @@
+-- A drawing that is longer than a tree may be need not be kept whole: one byte more than the limit has the same fault, and where it has
+-- none it is whole. And after a fault of an opening a script stops.
+use mathlib.Core.Path.{_≡_, refl, sym, ap, _∙_}
+use mathlib.Core.Logic.{_⊎_, inl, inr}
+use Prim.Native.Nat.{ℕ, zero, suc, _+_, _-_, _≤_, _<_}
+use native.Mathlib.Nat.{not-suc-le-zero}
+use native.Mathlib.Omega.{arith}
+use mathlib.Core.List.{List, [], _∷_}
+use mathlib.Core.Bool.{Bool, true, false, not, _&&_}
+use lib.ListN.{length, take, replicate, length-append, length-replicate}
+use lib.Seq.{take-all}
+use lib.Dec.{leb, eqb, ltb}
+use borrow.Author.Tests.{le-leb, lt-leb}
+use Rattle.topology.specs.Reader.{pick, orElse, faultAt, faultFrom, fault, after}
+use Rattle.topology.proofs.Reader.{sound}
+use Rattle.embedding_laws.specs.Least.{Found, nothing, list, noneFault, leastMap, searchFault, padded, unlessRefused, searchMap}
+use Rattle.queue_tree.specs.Calls.{limitFault}
+use Rattle.paired.specs.Calls.{bothFault}
+use Rattle.script.specs.Sheet.{no-by, stops}
+
+orElse-none : (f r : ℕ) → orElse f r ≡ 0 → (f ≡ 0) × (r ≡ 0)
+orElse-none zero r e = (refl, e)
+orElse-none (suc f) r e = absurd (omega arith)
+
+-- what comes after matters only where the first is 0
+orElse-same : (f r s : ℕ) → (f ≡ 0 → r ≡ s) → orElse f r ≡ orElse f s
+orElse-same zero r s h = h refl
+orElse-same (suc f) r s h = refl
+
+fault-part : (limit n k : ℕ) (owed bs : List ℕ) → n ≤ limit → n + k ≡ suc limit → faultFrom limit n owed (take k bs) ≡ faultFrom limit n owed bs
+fault-part limit n zero owed bs l e = absurd (omega arith)
+fault-part limit n (suc k) owed [] l e = refl
+fault-part limit n (suc k) owed (b ∷ bs) l e =
+    orElse-same (faultAt limit n (length owed) b) (faultFrom limit (suc n) (after b owed) (take k bs)) (faultFrom limit (suc n) (after b owed) bs)
+    (λ z. fault-part limit (suc n) k (after b owed) bs (sound limit n (length owed) b z .nodes) (omega arith))
+
+fault-kept : (limit : ℕ) (bytes : List ℕ) → fault limit (take (suc limit) bytes) ≡ fault limit bytes
+unfolding fault
+fault-kept limit bytes = fault-part limit 0 (suc limit) (1 ∷ []) bytes (omega arith) (omega arith)
+
+length-part : (limit n : ℕ) (owed bs : List ℕ) → n ≤ limit → faultFrom limit n owed bs ≡ 0 → n + length bs ≤ limit
+length-part limit n owed [] l e = omega arith
+length-part limit n owed (b ∷ bs) l e =
+    let o = orElse-none (faultAt limit n (length owed) b) (faultFrom limit (suc n) (after b owed) bs) e in
+    omega (arith, length-part limit (suc n) (after b owed) bs (sound limit n (length owed) b (o .0) .nodes) (o .1))
+
+whole : (limit : ℕ) (bytes : List ℕ) → fault limit bytes ≡ 0 → take (suc limit) bytes ≡ bytes
+unfolding fault
+whole limit bytes e = take-all (suc limit) bytes (omega (arith, length-part limit 0 (1 ∷ []) bytes (omega arith) e))
+
+search-kept : (s t : List ℕ) → searchFault (take 33 s) (take 65 t) ≡ searchFault s t
+unfolding searchFault
+search-kept s t =
+    rw (fault-kept 32 s, fault-kept 64 t)
+    (orElse-same (fault 32 s) (orElse (fault 64 t) (noneFault (leastMap (take 33 s) (take 65 t)))) (orElse (fault 64 t) (noneFault (leastMap s t)))
+    (λ z. orElse-same (fault 64 t) (noneFault (leastMap (take 33 s) (take 65 t))) (noneFault (leastMap s t))
+    (λ y. rw (whole 32 s z, whole 64 t y))))
+
+module _ (s t : List ℕ) (limit : ℕ) where
+  pub both-kept : bothFault (take 33 s) (take 65 t) limit ≡ bothFault s t limit
+  unfolding bothFault
+  both-kept = rw (search-kept s t)
+
+  pub both-whole : bothFault s t limit ≡ 0 → (take 33 s ≡ s) × (take 65 t ≡ t)
+  unfolding bothFault searchFault
+  both-whole e =
+      let f = orElse-none (searchFault s t) (limitFault limit) e .0 in
+      let g = orElse-none (fault 32 s) (orElse (fault 64 t) (noneFault (leastMap s t))) f in
+      (whole 32 s (g .0), whole 64 t (orElse-none (fault 64 t) (noneFault (leastMap s t)) (g .1) .0))
+
+  pub both-few : bothFault s t limit ≡ 0 → length s ≤ 32
+  unfolding bothFault searchFault fault
+  both-few e =
+      let f = orElse-none (searchFault s t) (limitFault limit) e .0 in
+      let g = orElse-none (fault 32 s) (orElse (fault 64 t) (noneFault (leastMap s t))) f in
+      omega (arith, length-part 32 0 (1 ∷ []) s (omega arith) (g .0))
+
+-- a number that is not 13 to 16
+abbrev Beside : ℕ → Type 0
+Beside f = (f ≤ 12) ⊎ (17 ≤ f)
+
+beside-or : (f g : ℕ) → Beside f → Beside g → Beside (orElse f g)
+beside-or zero g h k = k
+beside-or (suc f) g h k = h
+
+beside-pick : (b : Bool) (f g : ℕ) → Beside f → Beside g → Beside (pick b f g)
+beside-pick true f g h k = h
+beside-pick false f g h k = k
+
+small-pick : (b : Bool) (f g : ℕ) → f ≤ 5 → g ≤ 5 → pick b f g ≤ 5
+small-pick true f g h k = h
+small-pick false f g h k = k
+
+small-or : (f g : ℕ) → f ≤ 5 → g ≤ 5 → orElse f g ≤ 5
+small-or zero g h k = k
+small-or (suc f) g h k = h
+
+small-at : (limit n levels b : ℕ) → faultAt limit n levels b ≤ 5
+small-at limit n levels b =
+    small-pick (eqb levels 0) _ _ (omega arith)
+    (small-pick (leb limit n) _ _ (omega arith) (small-pick (ltb 8 b) _ _ (omega arith) (small-pick (ltb 9 levels) _ _ (omega arith) (omega arith))))
+
+small-from : (limit n : ℕ) (owed bs : List ℕ) → faultFrom limit n owed bs ≤ 5
+small-from limit n owed [] = small-pick (eqb (length owed) 0) _ _ (omega arith) (omega arith)
+small-from limit n owed (b ∷ bs) = small-or _ _ (small-at limit n (length owed) b) (small-from limit (suc n) (after b owed) bs)
+
+beside-fault : (limit : ℕ) (bytes : List ℕ) → Beside (fault limit bytes)
+unfolding fault
+beside-fault limit bytes = inl (omega (arith, small-from limit 0 (1 ∷ []) bytes))
+
+beside-none : (f : Found) → Beside (noneFault f)
+beside-none nothing = inl (omega arith)
+beside-none (list m) = inl (omega arith)
+
+stops-beside : (f : ℕ) → Beside f → stops (no-by f) ≡ true
+stops-beside f (inl h) = simp (lt-leb 13 f (omega arith))
+stops-beside f (inr h) = by-test (leb 13 f)
+  where
+    by-test : (b : Bool) → not (b && leb f 16) ≡ true
+    by-test true = simp (lt-leb f 16 (omega arith))
+    by-test false = refl
+
+pub stops-opening : (s t : List ℕ) (limit : ℕ) → stops (no-by (bothFault s t limit)) ≡ true
+unfolding bothFault searchFault
+stops-opening s t limit =
+    stops-beside _
+    (beside-or (searchFault s t) (limitFault limit)
+    (beside-or (fault 32 s) _ (beside-fault 32 s) (beside-or (fault 64 t) _ (beside-fault 64 t) (beside-none (leastMap s t))))
+    (beside-pick (leb 1 limit && leb limit 256) 0 17 (inl (omega arith)) (inr (omega arith))))
+
+-- the map that comes back has a place for each of 32 nodes
+pub map-room : (s t m : List ℕ) → m ≡ searchMap s t → 32 ≤ length m
+unfolding searchMap
+map-room s t m e = rw e (unless-room (searchFault s t) (padded (leastMap s t)) (padded-room (leastMap s t)))
+  where
+    unless-room : (f : ℕ) (l : List ℕ) → 32 ≤ length l → 32 ≤ length (unlessRefused f l)
+    unless-room zero l h = h
+    unless-room (suc f) l h = omega (arith, length-replicate {A = ℕ} 32 0)
+
+    padded-room : (f : Found) → 32 ≤ length (padded f)
+    padded-room nothing = omega (arith, length-replicate {A = ℕ} 32 0)
+    padded-room (list m) = omega (arith, length-append m (replicate (32 - length m) 0), length-replicate {A = ℕ} (32 - length m) 0)

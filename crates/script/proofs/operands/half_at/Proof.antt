@@ -1,0 +1,52 @@
+use Rattle.script.proofs.Numbers.{word-cut, half-found}
+use borrow.Author.Needs.{needs}
+use Rattle.script.proofs.operands.half_at.Statement.{statement}
+use Rattle.script.proofs.operands.half_at.Tie as tie
+use Rattle.script.proofs.operands.half_at.Reads as reads
+use Rattle.script.proofs.operands.half_at.Lts as lts
+use Rattle.script.proofs.operands.wide.Reads as wide-reads
+
+add-if1 : tie.Need-add-if1
+add-if1 c = search needs
+
+returns : tie.Need-returns
+returns c = word-cut _ _ 2 (c .if1 .taken)
+
+shared-slice-read-wide : tie.Need-shared-slice-read-wide
+shared-slice-read-wide c = search needs
+
+wide-requires : tie.Need-wide-requires
+wide-requires c κs = search needs
+
+mul-t9 : tie.Need-mul-t9
+mul-t9 c = search needs
+
+add-wide : tie.Need-add-wide
+add-wide c = search needs
+
+shared-slice-read-wide-2 : tie.Need-shared-slice-read-wide-2
+shared-slice-read-wide-2 c = search needs
+
+wide-requires-2 : tie.Need-wide-requires-2
+wide-requires-2 c κs = search needs
+
+add-t13 : tie.Need-add-t13
+add-t13 c = search needs
+
+returns-2 : tie.Need-returns-2
+returns-2 c = half-found _ _ _ _ (c .before .before .before .before .if1 .left) (c .before .before .wide .ensures .0) (c .wide2 .ensures .0)
+
+pub half-at-spec : {M : Type 1} → statement M
+half-at-spec =
+    tie.close
+    (tie.spec
+    add-if1
+    returns
+    shared-slice-read-wide
+    wide-requires
+    mul-t9
+    add-wide
+    shared-slice-read-wide-2
+    wide-requires-2
+    add-t13
+    returns-2)
