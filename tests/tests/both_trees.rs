@@ -4,11 +4,11 @@
 
 use linduvar_tests::both_trees::BothTrees;
 use linduvar_tests::pairs::{self, Drawn};
-use linduvar_tests::plain::{PlainAmount, PlainAnswer, PlainPath, PlainState, MOST_STEPS};
-use linduvar_tests::queue_tree::{Refusal, Step, MOST_PACKETS};
+use linduvar_tests::plain::{PlainAmount, PlainAnswer, PlainState};
+use linduvar_tests::queue_tree::{Refusal, MOST_PACKETS};
 use linduvar_tests::random::{self, Random};
 use linduvar_tests::rattle_queue_tree as rattle;
-use linduvar_tests::rattle_translator::{self, Steps};
+use linduvar_tests::rattle_translator;
 use linduvar_tests::states::{any_path, Habits};
 use linduvar_tests::topology::{SOURCE_NODES, TARGET_NODES};
 use linduvar_tests::translator::Path;
@@ -107,19 +107,20 @@ impl Trees {
 
     fn push(&mut self, habits: &Habits, random: &mut Random) -> Answer {
         let (path, _, _) = any_path(&self.drawing, habits, random);
-        let (leaf_rank, packet) = (path.leaf_rank, habits.packet(random));
+        let packet = habits.packet(random);
         let source = taken(&mut self.source, |state| rattle::push(state, &path, packet));
-        let steps = path.steps();
-        let chip = match self.carry(&steps) {
-            Ok(carried) => {
-                let carried = PlainPath::write(&carried, leaf_rank);
-                taken(&mut self.chip, |state| {
-                    rattle::push(state, &carried, packet)
-                })
-            }
-            Err(number) => (number, 0),
+        let carried = rattle_translator::carry(&self.drawing, &self.target, &self.map, &path);
+        let chip = match carried.refusal {
+            0 => taken(&mut self.chip, |state| {
+                rattle::push(state, &carried.path, packet)
+            }),
+            refusal => (refusal, 0),
         };
-        let rust = match self.rust.push(&Path { steps, leaf_rank }, packet) {
+        let drawn = Path {
+            steps: path.read(),
+            leaf_rank: path.leaf_rank,
+        };
+        let rust = match self.rust.push(&drawn, packet) {
             Ok(()) => (0, 0),
             Err(refusal) => refused(refusal),
         };
@@ -134,28 +135,6 @@ impl Trees {
             Err(refusal) => refused(refusal),
         };
         self.compare("a pop", source, chip, rust)
-    }
-
-    /// The path carried over by the library, or its refusal.
-    fn carry(&self, steps: &[Step]) -> Result<Vec<Step>, u8> {
-        let children: Vec<u8> = steps.iter().map(|step| step.child).collect();
-        let ranks: Vec<u32> = steps.iter().map(|step| step.rank).collect();
-        let steps = Steps {
-            children: &children,
-            ranks: &ranks,
-        };
-        let mut room = ([0; MOST_STEPS], [0; MOST_STEPS]);
-        let (source, target, map) = (&self.drawing, &self.target, &self.map);
-        match rattle_translator::carry(source, target, map, &steps, &mut room.0, &mut room.1) {
-            0 => Ok(room
-                .0
-                .into_iter()
-                .zip(room.1)
-                .take_while(|&(child, _)| child != 0)
-                .map(|(child, rank)| Step { child, rank })
-                .collect()),
-            refusal => Err(refusal),
-        }
     }
 
     /// Packets held and refusals counted.

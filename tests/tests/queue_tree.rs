@@ -313,7 +313,7 @@ fn churns(comparison: &mut Comparison) {
 
         let mut after = sides.clone();
         after.plain = rattle_queue_tree::churn(&sides.plain, &first, &second, rounds);
-        let paths = [first.steps(), second.steps()];
+        let paths = [first.read(), second.read()];
         let paths = [
             (&paths[0][..], first.leaf_rank),
             (&paths[1][..], second.leaf_rank),
@@ -528,7 +528,7 @@ impl Comparison {
             (0, Call::Push { path, .. }) => {
                 self.kinds
                     .meet(&format!("accepted {} steps down", path.count));
-                if path.count > 0 && path.children[0] == 8 {
+                if path.count > 0 && path.steps[0].child == 8 {
                     self.kinds.meet("accepted through an eighth child");
                 }
             }
@@ -626,7 +626,7 @@ impl Comparison {
 fn make(tree: &mut QueueTree, call: &Call) -> (u8, u32) {
     let answer = match call {
         Call::Push { path, packet } => {
-            let pushed = tree.push(&path.steps(), path.leaf_rank, *packet);
+            let pushed = tree.push(&path.read(), path.leaf_rank, *packet);
             pushed.map(|()| 0)
         }
         Call::Pop => tree.pop(),
