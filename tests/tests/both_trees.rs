@@ -13,6 +13,7 @@ use linduvar_tests::states::{any_path, Habits};
 use linduvar_tests::topology::{SOURCE_NODES, TARGET_NODES};
 use linduvar_tests::translator::Path;
 use std::collections::BTreeMap;
+use std::time::Instant;
 
 const LISTS_A_LIMIT: usize = 2;
 
@@ -20,6 +21,7 @@ const LISTS_A_LIMIT: usize = 2;
 const OFTEN_ENOUGH: usize = 50;
 
 fn main() {
+    let start = Instant::now();
     let seed = random::seed();
     println!("seed {seed} (LINDUVAR_SEED={seed} repeats this run)");
     let mut random = Random::new(seed);
@@ -52,7 +54,7 @@ fn main() {
         let met = answers.get(&answer).copied().unwrap_or(0);
         assert!(met >= OFTEN_ENOUGH, "{answer} was met only {met} times");
     }
-    println!("no difference");
+    println!("no difference, {:.1} s", start.elapsed().as_secs_f64());
 }
 
 /// Two trees of the library and two of the second implementation.

@@ -12,6 +12,7 @@ use linduvar_tests::states::{
 };
 use std::collections::BTreeMap;
 use std::fmt;
+use std::time::Instant;
 
 const OPENINGS: usize = 10_000;
 const SHORT_LISTS: usize = 800;
@@ -24,6 +25,7 @@ const CHURNS: usize = 1_000;
 const OFTEN_ENOUGH: usize = 50;
 
 fn main() {
+    let start = Instant::now();
     let seed = random::seed();
     println!("seed {seed} (LINDUVAR_SEED={seed} repeats this run)");
     examples();
@@ -37,7 +39,7 @@ fn main() {
     churns(&mut comparison);
     comparison.print();
     comparison.require_everything();
-    println!("no difference");
+    println!("no difference, {:.1} s", start.elapsed().as_secs_f64());
 }
 
 /// The paper's example, its script on both trees, and some worked by hand.
