@@ -11,8 +11,9 @@ use linduvar_tests::rattle_queue_tree;
 use std::hint::black_box;
 
 const CHAINS: usize = 4;
-const CALLS: u32 = 4_000;
-const ROUNDS: usize = 10;
+/// Few enough to be done before another process has its turn.
+const CALLS: u32 = 100;
+const ROUNDS: usize = 400;
 const SINGLES: usize = 2_000;
 
 pub fn run(random: &mut Random) {
