@@ -12,7 +12,13 @@ pub fn walk(script: &[u8]) -> Vec<u8> {
 
 /// What gatewalk prints for a script that `write` sends as it likes.
 pub fn walk_slowly(write: impl FnOnce(&mut dyn Write) -> io::Result<()> + Send) -> Vec<u8> {
-    let mut child = Command::new(program())
+    let program = program();
+    assert!(
+        program.is_file(),
+        "{} is missing; run `rt check gatewalk` first",
+        program.display()
+    );
+    let mut child = Command::new(program)
         .stdin(Stdio::piped())
         .stdout(Stdio::piped())
         .spawn()
@@ -35,15 +41,9 @@ pub fn walk_slowly(write: impl FnOnce(&mut dyn Write) -> io::Result<()> + Send) 
 }
 
 /// The program, or another in its place.
-fn program() -> PathBuf {
-    let program = match env::var_os("LINDUVAR_GATEWALK") {
+pub fn program() -> PathBuf {
+    match env::var_os("LINDUVAR_GATEWALK") {
         Some(path) => PathBuf::from(path),
         None => Path::new(env!("CARGO_MANIFEST_DIR")).join("../target/bin/gatewalk"),
-    };
-    assert!(
-        program.is_file(),
-        "{} is missing; run `rt check gatewalk` first",
-        program.display()
-    );
-    program
+    }
 }

@@ -1,5 +1,6 @@
-//! A queue tree's states, paths and answers as they cross the boundary to the
-//! Rattle library: plain numbers, laid out as C does.
+//! States, paths and answers as they cross the boundary to the Rattle library,
+//! laid out as C does. A path is the library's own; a state is written as plain
+//! numbers.
 
 use crate::queue_tree::{Entry, Item, State, Step, MOST_ENTRIES};
 use crate::topology::TARGET_NODES;
@@ -25,12 +26,28 @@ pub struct PlainState {
 }
 
 #[repr(C)]
-#[derive(Clone, Copy, Debug)]
+#[derive(Clone, Copy, Debug, PartialEq, Eq)]
+pub struct PlainStep {
+    pub child: u8,
+    pub rank: u32,
+}
+
+/// Past the last step there may be anything.
+#[repr(C)]
+#[derive(Clone, Copy, Debug, PartialEq, Eq)]
 pub struct PlainPath {
-    pub children: [u8; MOST_STEPS],
-    pub ranks: [u32; MOST_STEPS],
+    pub steps: [PlainStep; MOST_STEPS],
     pub count: usize,
     pub leaf_rank: u32,
+}
+
+/// 0 and the carried path, with zeros past its last step; or the refusal and
+/// the path as it came.
+#[repr(C)]
+#[derive(Clone, Copy, Debug, PartialEq, Eq)]
+pub struct PlainCarried {
+    pub path: PlainPath,
+    pub refusal: u8,
 }
 
 /// 0 and the empty tree, or the refusal and a state that is not well formed.
@@ -154,27 +171,24 @@ impl PlainState {
 }
 
 impl PlainPath {
-    /// Only the first nine steps of a longer path.
+    /// Only the first nine steps of a longer path; zeros past the last step.
     pub fn write(steps: &[Step], leaf_rank: u32) -> PlainPath {
         let mut path = PlainPath {
-            children: [0; MOST_STEPS],
-            ranks: [0; MOST_STEPS],
+            steps: [PlainStep { child: 0, rank: 0 }; MOST_STEPS],
             count: steps.len().min(MOST_STEPS),
             leaf_rank,
         };
-        for (at, step) in steps.iter().take(MOST_STEPS).enumerate() {
-            path.children[at] = step.child;
-            path.ranks[at] = step.rank;
+        for (place, &Step { child, rank }) in path.steps.iter_mut().zip(steps) {
+            *place = PlainStep { child, rank };
         }
         path
     }
 
-    /// A count above nine reads as nine.
-    pub fn steps(&self) -> Vec<Step> {
-        let steps = self.children.iter().zip(&self.ranks);
+    /// The steps; a count above nine reads as nine.
+    pub fn read(&self) -> Vec<Step> {
+        let steps = self.steps.iter().take(self.count);
         steps
-            .take(self.count)
-            .map(|(&child, &rank)| Step { child, rank })
+            .map(|&PlainStep { child, rank }| Step { child, rank })
             .collect()
     }
 }

@@ -1,7 +1,7 @@
 //! Random queue trees, paths and states, right and damaged.
 
 use crate::generate::{self, SHAPES};
-use crate::plain::{PlainPath, PlainState, MOST_STEPS};
+use crate::plain::{PlainPath, PlainState, PlainStep};
 use crate::queue_tree::{Entry, Item, QueueTree, State, Step, MOST_ENTRIES};
 use crate::random::Random;
 use crate::topology::{Topology, MOST_CHILDREN, MOST_STEPS_DOWN, TARGET_NODES};
@@ -124,19 +124,28 @@ pub fn any_path(
         false => PATHS[0],
     };
     let mut steps = right_path(&topology, habits, random);
+    let right = steps.len();
     damage_path(&mut steps, kind, &topology, random);
     let mut path = PlainPath::write(&steps, habits.rank(random));
     if kind == "right path and noise behind it" {
-        for at in path.count..MOST_STEPS {
-            path.children[at] = random.below(9) as u8;
-            path.ranks[at] = habits.rank(random);
-        }
+        noise_behind(&mut path, habits, random);
     }
     if kind == "ninth step" {
-        // However many more are counted, nine are read.
-        path.count = random.pick(&[9, 9, 10, 12, 256, 1 << 32, usize::MAX]);
+        // However many more are counted, nine are read. In fewer bits some of
+        // these counts would be that of the right path.
+        path.count = random.pick(&[9, 10, 12, right + 256, right + (1 << 32), usize::MAX]);
     }
     (path, kind, answer)
+}
+
+/// Fills the places past the last step.
+pub fn noise_behind(path: &mut PlainPath, habits: &Habits, random: &mut Random) {
+    for place in path.steps.iter_mut().skip(path.count) {
+        *place = PlainStep {
+            child: random.within(1..=9) as u8,
+            rank: habits.rank(random),
+        };
+    }
 }
 
 /// Makes a path of that kind from a right one.

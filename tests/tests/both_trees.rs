@@ -4,15 +4,16 @@
 
 use linduvar_tests::both_trees::BothTrees;
 use linduvar_tests::pairs::{self, Drawn};
-use linduvar_tests::plain::{PlainAmount, PlainAnswer, PlainPath, PlainState, MOST_STEPS};
-use linduvar_tests::queue_tree::{Refusal, Step, MOST_PACKETS};
+use linduvar_tests::plain::{PlainAmount, PlainAnswer, PlainState};
+use linduvar_tests::queue_tree::{Refusal, MOST_PACKETS};
 use linduvar_tests::random::{self, Random};
 use linduvar_tests::rattle_queue_tree as rattle;
-use linduvar_tests::rattle_translator::{self, Steps};
+use linduvar_tests::rattle_translator;
 use linduvar_tests::states::{any_path, Habits};
 use linduvar_tests::topology::{SOURCE_NODES, TARGET_NODES};
 use linduvar_tests::translator::Path;
 use std::collections::BTreeMap;
+use std::time::Instant;
 
 const LISTS_A_LIMIT: usize = 2;
 
@@ -20,6 +21,7 @@ const LISTS_A_LIMIT: usize = 2;
 const OFTEN_ENOUGH: usize = 50;
 
 fn main() {
+    let start = Instant::now();
     let seed = random::seed();
     println!("seed {seed} (LINDUVAR_SEED={seed} repeats this run)");
     let mut random = Random::new(seed);
@@ -52,7 +54,7 @@ fn main() {
         let met = answers.get(&answer).copied().unwrap_or(0);
         assert!(met >= OFTEN_ENOUGH, "{answer} was met only {met} times");
     }
-    println!("no difference");
+    println!("no difference, {:.1} s", start.elapsed().as_secs_f64());
 }
 
 /// Two trees of the library and two of the second implementation.
@@ -107,19 +109,20 @@ impl Trees {
 
     fn push(&mut self, habits: &Habits, random: &mut Random) -> Answer {
         let (path, _, _) = any_path(&self.drawing, habits, random);
-        let (leaf_rank, packet) = (path.leaf_rank, habits.packet(random));
+        let packet = habits.packet(random);
         let source = taken(&mut self.source, |state| rattle::push(state, &path, packet));
-        let steps = path.steps();
-        let chip = match self.carry(&steps) {
-            Ok(carried) => {
-                let carried = PlainPath::write(&carried, leaf_rank);
-                taken(&mut self.chip, |state| {
-                    rattle::push(state, &carried, packet)
-                })
-            }
-            Err(number) => (number, 0),
+        let carried = rattle_translator::carry(&self.drawing, &self.target, &self.map, &path);
+        let chip = match carried.refusal {
+            0 => taken(&mut self.chip, |state| {
+                rattle::push(state, &carried.path, packet)
+            }),
+            refusal => (refusal, 0),
         };
-        let rust = match self.rust.push(&Path { steps, leaf_rank }, packet) {
+        let drawn = Path {
+            steps: path.read(),
+            leaf_rank: path.leaf_rank,
+        };
+        let rust = match self.rust.push(&drawn, packet) {
             Ok(()) => (0, 0),
             Err(refusal) => refused(refusal),
         };
@@ -134,28 +137,6 @@ impl Trees {
             Err(refusal) => refused(refusal),
         };
         self.compare("a pop", source, chip, rust)
-    }
-
-    /// The path carried over by the library, or its refusal.
-    fn carry(&self, steps: &[Step]) -> Result<Vec<Step>, u8> {
-        let children: Vec<u8> = steps.iter().map(|step| step.child).collect();
-        let ranks: Vec<u32> = steps.iter().map(|step| step.rank).collect();
-        let steps = Steps {
-            children: &children,
-            ranks: &ranks,
-        };
-        let mut room = ([0; MOST_STEPS], [0; MOST_STEPS]);
-        let (source, target, map) = (&self.drawing, &self.target, &self.map);
-        match rattle_translator::carry(source, target, map, &steps, &mut room.0, &mut room.1) {
-            0 => Ok(room
-                .0
-                .into_iter()
-                .zip(room.1)
-                .take_while(|&(child, _)| child != 0)
-                .map(|(child, rank)| Step { child, rank })
-                .collect()),
-            refusal => Err(refusal),
-        }
     }
 
     /// Packets held and refusals counted.

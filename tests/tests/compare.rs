@@ -7,6 +7,7 @@ use linduvar_tests::topology::{
 };
 use linduvar_tests::{generate, random, rattle};
 use std::fmt;
+use std::time::Instant;
 
 const RANDOM_STRINGS: usize = 200_000;
 
@@ -14,13 +15,14 @@ const RANDOM_STRINGS: usize = 200_000;
 const OFTEN_ENOUGH: usize = 100;
 
 fn main() {
+    let start = Instant::now();
     let seed = random::seed();
     println!("seed {seed} (LINDUVAR_SEED={seed} repeats this run)");
     examples(seed);
     long_strings();
     every_short_string(seed);
     random_strings(seed);
-    println!("no difference");
+    println!("no difference, {:.1} s", start.elapsed().as_secs_f64());
 }
 
 /// The paper's examples, and some worked by hand.

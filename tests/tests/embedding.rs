@@ -7,6 +7,7 @@ use linduvar_tests::random::Random;
 use linduvar_tests::topology::{SOURCE_NODES, TARGET_NODES};
 use linduvar_tests::{generate, random, rattle_embedding};
 use std::fmt;
+use std::time::Instant;
 
 const SMALL_PAIRS: usize = 30_000;
 const LARGE_PAIRS: usize = 3_000;
@@ -16,6 +17,7 @@ const DAMAGED_PAIRS: usize = 12_000;
 const OFTEN_ENOUGH: usize = 50;
 
 fn main() {
+    let start = Instant::now();
     let seed = random::seed();
     println!("seed {seed} (LINDUVAR_SEED={seed} repeats this run)");
     examples(seed);
@@ -23,7 +25,7 @@ fn main() {
     long_strings();
     every_small_pair(seed);
     random_pairs(seed);
-    println!("no difference");
+    println!("no difference, {:.1} s", start.elapsed().as_secs_f64());
 }
 
 /// The paper's pairs, and some worked by hand.

@@ -22,6 +22,7 @@ const SECONDS: f64 = 20.0;
 const AIM: f64 = 2.0;
 
 fn main() {
+    let start = Instant::now();
     let seed = random::seed();
     println!("seed {seed} (LINDUVAR_SEED={seed} repeats this run)");
     for (script, printed) in paper::scripts() {
@@ -35,7 +36,7 @@ fn main() {
     laborious_scripts();
     every_limit(seed);
     random_scripts(seed);
-    println!("no difference");
+    println!("no difference, {:.1} s", start.elapsed().as_secs_f64());
 }
 
 fn text(script: &[u8]) -> String {

@@ -12,6 +12,7 @@ use linduvar_tests::states::{
 };
 use std::collections::BTreeMap;
 use std::fmt;
+use std::time::Instant;
 
 const OPENINGS: usize = 10_000;
 const SHORT_LISTS: usize = 800;
@@ -24,6 +25,7 @@ const CHURNS: usize = 1_000;
 const OFTEN_ENOUGH: usize = 50;
 
 fn main() {
+    let start = Instant::now();
     let seed = random::seed();
     println!("seed {seed} (LINDUVAR_SEED={seed} repeats this run)");
     examples();
@@ -37,7 +39,7 @@ fn main() {
     churns(&mut comparison);
     comparison.print();
     comparison.require_everything();
-    println!("no difference");
+    println!("no difference, {:.1} s", start.elapsed().as_secs_f64());
 }
 
 /// The paper's example, its script on both trees, and some worked by hand.
@@ -313,7 +315,7 @@ fn churns(comparison: &mut Comparison) {
 
         let mut after = sides.clone();
         after.plain = rattle_queue_tree::churn(&sides.plain, &first, &second, rounds);
-        let paths = [first.steps(), second.steps()];
+        let paths = [first.read(), second.read()];
         let paths = [
             (&paths[0][..], first.leaf_rank),
             (&paths[1][..], second.leaf_rank),
@@ -528,7 +530,7 @@ impl Comparison {
             (0, Call::Push { path, .. }) => {
                 self.kinds
                     .meet(&format!("accepted {} steps down", path.count));
-                if path.count > 0 && path.children[0] == 8 {
+                if path.count > 0 && path.steps[0].child == 8 {
                     self.kinds.meet("accepted through an eighth child");
                 }
             }
@@ -626,7 +628,7 @@ impl Comparison {
 fn make(tree: &mut QueueTree, call: &Call) -> (u8, u32) {
     let answer = match call {
         Call::Push { path, packet } => {
-            let pushed = tree.push(&path.steps(), path.leaf_rank, *packet);
+            let pushed = tree.push(&path.read(), path.leaf_rank, *packet);
             pushed.map(|()| 0)
         }
         Call::Pop => tree.pop(),

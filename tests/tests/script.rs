@@ -13,6 +13,7 @@ const RANDOM_SCRIPTS: u64 = 20_000;
 const LONG_SCRIPTS: u64 = 60;
 
 fn main() {
+    let start = Instant::now();
     let seed = random::seed();
     println!("seed {seed} (LINDUVAR_SEED={seed} repeats this run)");
     for (script, printed) in paper::scripts() {
@@ -23,6 +24,7 @@ fn main() {
     laborious_scripts();
     every_limit(seed);
     random_scripts(seed);
+    println!("{:.1} s", start.elapsed().as_secs_f64());
 }
 
 fn text(script: &[u8]) -> String {

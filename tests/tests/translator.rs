@@ -4,31 +4,32 @@
 use linduvar_tests::embedding::{self, read_pair};
 use linduvar_tests::generate;
 use linduvar_tests::pairs::{self, damaged_map, Drawn};
-use linduvar_tests::plain::MOST_STEPS;
+use linduvar_tests::plain::{PlainCarried, PlainPath, PlainStep, MOST_STEPS};
 use linduvar_tests::queue_tree::Step;
 use linduvar_tests::random::{self, Random};
-use linduvar_tests::rattle_translator::{self, Steps};
-use linduvar_tests::states::{any_path, Habits, PATHS};
-use linduvar_tests::topology::{Topology, SOURCE_NODES, TARGET_NODES};
+use linduvar_tests::rattle_translator;
+use linduvar_tests::states::{any_path, noise_behind, Habits, PATHS};
+use linduvar_tests::topology::{Topology, MOST_STEPS_DOWN, SOURCE_NODES, TARGET_NODES};
 use linduvar_tests::translator::{self, Path};
 use std::collections::BTreeMap;
+use std::fmt;
+use std::time::Instant;
 
 const SMALL_PAIRS: usize = 20_000;
 const LARGE_PAIRS: usize = 5_000;
 const DAMAGED_PAIRS: usize = 12_000;
 const PATHS_A_MAP: usize = 4;
 
-/// Each answer, each kind of path and each length must be met this often.
+/// Each answer, each kind of path, each occasion and each length must be met
+/// this often.
 const OFTEN_ENOUGH: usize = 50;
 
-/// No step has this number: it shows if the library writes none.
-const UNWRITTEN: u8 = 238;
-
 fn main() {
+    let start = Instant::now();
     let seed = random::seed();
     println!("seed {seed} (LINDUVAR_SEED={seed} repeats this run)");
     examples(seed);
-    buffers();
+    whole_paths();
     long_strings();
     let mut comparison = Comparison::new(seed);
     let mut random = Random::new(seed);
@@ -44,21 +45,24 @@ fn main() {
     }
     comparison.print();
     comparison.require_everything();
-    println!("no difference");
+    println!("no difference, {:.1} s", start.elapsed().as_secs_f64());
 }
 
 /// Worked by hand.
 fn examples(seed: u64) {
     let mut comparison = Comparison::new(seed);
-    let mut carry = |drawn: (&[u8], &[u8], &[u8]), steps: &[(u8, u32)], answer: Answer| {
-        let (source, target, map) = drawn;
-        let steps: Vec<Step> = steps
-            .iter()
-            .map(|&(child, rank)| Step { child, rank })
-            .collect();
-        let rust = comparison.carry(source, target, map, &steps);
-        assert_eq!(rust, answer, "{steps:?} over {map:?}");
-    };
+    let mut carry =
+        |drawn: (&[u8], &[u8], &[u8]), steps: &[(u8, u32)], answer: Result<Vec<(u8, u32)>, u8>| {
+            let (source, target, map) = drawn;
+            let path = plain_path(steps);
+            let carried = comparison.carry(source, target, map, &path);
+            let expected = match answer {
+                Ok(steps) => (plain_path(&steps), 0),
+                Err(refusal) => (path, refusal),
+            };
+            let met = (carried.path, carried.refusal);
+            assert_eq!(met, expected, "{steps:?} over {map:?}");
+        };
     // The paper's script.
     let script: (&[u8], &[u8], &[u8]) = (&[3, 0, 0, 0], &[2, 2, 0, 0, 0], &[0, 2, 3, 4]);
     carry(script, &[(3, 5)], Ok(vec![(2, 5)]));
@@ -114,76 +118,81 @@ fn examples(seed: u64) {
     println!("examples: as worked by hand");
 }
 
-/// Slices that are too short, too long or do not belong together.
-fn buffers() {
-    let call = |children: usize, ranks: usize, out_children: usize, out_ranks: usize| {
-        let (children, ranks) = (vec![1; children], vec![1; ranks]);
-        let steps = Steps {
-            children: &children,
-            ranks: &ranks,
-        };
-        let mut room = (vec![UNWRITTEN; out_children], vec![7; out_ranks]);
-        let (source, target) = (&[1, 0], &[1, 1, 0]);
-        let answer =
-            rattle_translator::carry(source, target, &[0, 2], &steps, &mut room.0, &mut room.1);
-        (answer, room.0, room.1)
+fn plain_path(steps: &[(u8, u32)]) -> PlainPath {
+    let steps: Vec<Step> = steps
+        .iter()
+        .map(|&(child, rank)| Step { child, rank })
+        .collect();
+    PlainPath::write(&steps, 1_000_000_007)
+}
+
+/// All that comes back: a carried path has zeros past its last step, and a
+/// refused one is as it came. A count above nine reads as nine.
+fn whole_paths() {
+    let (source, target, map) = (&[1, 0], &[1, 1, 0], &[0, 2]);
+    let path = |count: usize| PlainPath {
+        steps: [1, 2, 3, 4, 5, 6, 7, 8, 9].map(|at| PlainStep {
+            child: at,
+            rank: 100 + u32::from(at),
+        }),
+        count,
+        leaf_rank: 77,
     };
-    let refused = [
-        (1, 0, 9, 9),
-        (0, 1, 9, 9),
-        (8, 9, 9, 9),
-        (10, 10, 9, 9),
-        (10, 9, 9, 9),
-        (9, 10, 9, 9),
-        (300, 300, 9, 9),
-        (1, 1, 8, 9),
-        (1, 1, 9, 8),
-        (1, 1, 0, 0),
-    ];
-    for (children, ranks, out_children, out_ranks) in refused {
-        let untouched = (255, vec![UNWRITTEN; out_children], vec![7; out_ranks]);
-        assert_eq!(call(children, ranks, out_children, out_ranks), untouched);
+    let mut steps = [PlainStep { child: 0, rank: 0 }; MOST_STEPS];
+    steps[..2].fill(PlainStep {
+        child: 1,
+        rank: 101,
+    });
+    let carried = PlainCarried {
+        path: PlainPath {
+            steps,
+            count: 2,
+            leaf_rank: 77,
+        },
+        refusal: 0,
+    };
+    assert_eq!(
+        rattle_translator::carry(source, target, map, &path(1)),
+        carried
+    );
+
+    let refused = |map: &[u8], count: usize, refusal: u8| {
+        let path = path(count);
+        let answer = rattle_translator::carry(source, target, map, &path);
+        assert_eq!(answer, PlainCarried { path, refusal });
+    };
+    refused(map, 0, 14);
+    for count in [2, 8, 9, 10, 256, 257, 1 << 32, (1 << 32) + 1, usize::MAX] {
+        refused(map, count, 13);
     }
-    // Behind the ninth place nothing is written.
-    let zeros = |mut first: Vec<u32>| {
-        first.resize(MOST_STEPS, 0);
-        first
-    };
-    let expected = (
-        0,
-        [vec![1, 1], vec![0; 7], vec![UNWRITTEN; 3]].concat(),
-        [zeros(vec![1, 1]), vec![7; 5]].concat(),
-    );
-    assert_eq!(call(1, 1, 12, 14), expected);
-    let expected = (
-        13,
-        [vec![0; 9], vec![UNWRITTEN; 3]].concat(),
-        [zeros(vec![]), vec![7; 5]].concat(),
-    );
-    assert_eq!(call(9, 9, 12, 14), expected);
-    println!("buffers: as the boundary has them");
+    for count in [0, 1, 9, usize::MAX] {
+        refused(&[0, 1], count, 10);
+        refused(&[0], count, 6);
+    }
+    println!("whole paths: as worked by hand");
 }
 
 /// Strings far beyond any limit still get an answer.
 fn long_strings() {
     const LENGTH: usize = 1_000_000;
     let (ones, zeros) = (vec![1; LENGTH], vec![0; LENGTH]);
-    let call = |source: &[u8], target: &[u8], map: &[u8]| {
-        let steps = Steps {
-            children: &[],
-            ranks: &[],
-        };
-        let mut room = ([UNWRITTEN; MOST_STEPS], [7; MOST_STEPS]);
-        rattle_translator::carry(source, target, map, &steps, &mut room.0, &mut room.1)
+    let refused = |source: &[u8], target: &[u8], map: &[u8], refusal: u8| {
+        let path = PlainPath::write(&[], 7);
+        let answer = rattle_translator::carry(source, target, map, &path);
+        assert_eq!(answer, PlainCarried { path, refusal });
     };
-    assert_eq!(call(&ones, &zeros, &zeros), 5);
-    assert_eq!(call(&[0], &zeros, &zeros), 2);
-    assert_eq!(call(&[0], &[0], &zeros), 6);
+    refused(&ones, &zeros, &zeros, 5);
+    refused(&[0], &zeros, &zeros, 2);
+    refused(&[0], &[0], &zeros, 6);
     println!("long strings: answered");
 }
 
-/// The carried steps, or the refusal.
-type Answer = Result<Vec<(u8, u32)>, u8>;
+/// What is worth to be met besides the answers and the kinds of paths.
+const OCCASIONS: [&str; 3] = [
+    "carried, with noise behind the steps",
+    "refused, with noise behind the steps",
+    "refused by 13, with a count above nine",
+];
 
 /// Asks both sides, and counts what was met.
 struct Comparison {
@@ -192,6 +201,8 @@ struct Comparison {
     paths: usize,
     answers: BTreeMap<(u8, &'static str), usize>,
     kinds: BTreeMap<&'static str, usize>,
+    /// How many paths were carried over to that many steps.
+    lengths: BTreeMap<usize, usize>,
     /// How many paths were carried over to that many steps more.
     longer_by: BTreeMap<usize, usize>,
 }
@@ -204,6 +215,7 @@ impl Comparison {
             paths: 0,
             answers: BTreeMap::new(),
             kinds: BTreeMap::new(),
+            lengths: BTreeMap::new(),
             longer_by: BTreeMap::new(),
         }
     }
@@ -227,9 +239,11 @@ impl Comparison {
         }
         for map in maps {
             for _ in 0..PATHS_A_MAP {
-                let (kind, steps) = path(&drawn.source, random);
-                *self.kinds.entry(kind).or_default() += 1;
-                _ = self.carry(&drawn.source, &drawn.target, &map, &steps);
+                let (path, kind, answer) = path(&drawn.source, random);
+                let carried = self.carry(&drawn.source, &drawn.target, &map, &path);
+                if carried.refusal == answer {
+                    *self.kinds.entry(kind).or_default() += 1;
+                }
             }
         }
     }
@@ -238,7 +252,7 @@ impl Comparison {
     fn damaged_pair(&mut self, random: &mut Random) {
         self.pairs += 1;
         let mut drawn = pairs::embedded(random, SOURCE_NODES, TARGET_NODES);
-        let (_, steps) = path(&drawn.source, random);
+        let (path, ..) = path(&drawn.source, random);
         let which = random.below(4);
         if which != 0 {
             drawn.source = generate::any(random);
@@ -247,47 +261,57 @@ impl Comparison {
             drawn.target = generate::any(random);
         }
         let map = drawn.map.unwrap_or_default();
-        _ = self.carry(&drawn.source, &drawn.target, &map, &steps);
+        _ = self.carry(&drawn.source, &drawn.target, &map, &path);
     }
 
     /// The answer of both, which must be one.
-    fn carry(&mut self, source: &[u8], target: &[u8], map: &[u8], steps: &[Step]) -> Answer {
-        let rattle = by_rattle(source, target, map, steps);
-        let leaf_rank = 1_000_000_007;
-        let path = Path {
-            steps: steps.to_vec(),
-            leaf_rank,
-        };
-        let rust = translator::carry(source, target, map, &path).map(|carried| {
-            assert_eq!(carried.leaf_rank, leaf_rank);
-            pairs_of(&carried.steps)
-        });
+    fn carry(
+        &mut self,
+        source: &[u8],
+        target: &[u8],
+        map: &[u8],
+        path: &PlainPath,
+    ) -> PlainCarried {
+        let rattle = rattle_translator::carry(source, target, map, path);
+        let rust = by_rust(source, target, map, path);
         if rattle != rust {
             panic!(
                 "a difference\n  seed   {}\n  source {source:?}\n  target {target:?}\n  map    {map:?}\n  \
-                 steps  {steps:?}\n  Rattle {rattle:?}\n  Rust   {rust:?}",
+                 path   {path:?}\n  Rattle {rattle:?}\n  Rust   {rust:?}",
                 self.seed
             );
         }
-        self.count(source, steps, &rust);
+        self.count(source, path, &rust);
         rust
     }
 
-    fn count(&mut self, source: &[u8], steps: &[Step], answer: &Answer) {
+    fn count(&mut self, source: &[u8], path: &PlainPath, carried: &PlainCarried) {
         self.paths += 1;
-        let (number, of) = match answer {
-            Ok(carried) => {
-                let longer = carried.len() - steps.len();
-                *self.longer_by.entry(longer).or_default() += 1;
-                (0, "")
-            }
-            Err(number @ 1..=5) if Topology::read(source, SOURCE_NODES).is_ok() => {
-                (*number, "target")
-            }
-            Err(number @ 1..=5) => (*number, "source"),
-            Err(number) => (*number, ""),
+        let of = match carried.refusal {
+            1..=5 if Topology::read(source, SOURCE_NODES).is_ok() => "target",
+            1..=5 => "source",
+            _ => "",
         };
-        *self.answers.entry((number, of)).or_default() += 1;
+        *self.answers.entry((carried.refusal, of)).or_default() += 1;
+
+        let length = carried.path.count;
+        if carried.refusal == 0 {
+            *self.lengths.entry(length).or_default() += 1;
+            *self.longer_by.entry(length - path.count).or_default() += 1;
+        }
+        let noise = path
+            .steps
+            .iter()
+            .skip(path.count)
+            .any(|step| step.child != 0);
+        let met = [
+            carried.refusal == 0 && noise,
+            carried.refusal != 0 && noise,
+            carried.refusal == 13 && path.count > MOST_STEPS,
+        ];
+        for (occasion, met) in OCCASIONS.into_iter().zip(met) {
+            *self.kinds.entry(occasion).or_default() += usize::from(met);
+        }
     }
 
     fn print(&self) {
@@ -298,65 +322,65 @@ impl Comparison {
         for ((number, of), times) in &self.answers {
             println!("  {times:7}  {number:2} {of}");
         }
-        println!("how many paths of each kind:");
+        println!("how often each kind of path and each occasion was met:");
         for (kind, times) in &self.kinds {
             println!("  {times:7}  {kind}");
         }
-        println!("how many steps more on the chip:");
-        for (longer, times) in &self.longer_by {
-            println!("  {times:7}  {longer}");
-        }
+        println!("how many paths have so many steps on the chip:");
+        println!("  {:?}", self.lengths);
+        println!("and so many more than in the source:");
+        println!("  {:?}", self.longer_by);
     }
 
     fn require_everything(&self) {
         let of_both = (1..=5).flat_map(|number| [(number, "source"), (number, "target")]);
         let of_one = [0, 6, 7, 8, 9, 10, 11, 13, 14].map(|number| (number, ""));
         for answer in of_both.chain(of_one) {
-            let met = self.answers.get(&answer).copied().unwrap_or(0);
-            assert!(met >= OFTEN_ENOUGH, "{answer:?} was met only {met} times");
+            require("the answer", &self.answers, answer);
         }
-        for (kind, _) in PATHS {
-            let met = self.kinds.get(kind).copied().unwrap_or(0);
-            assert!(met >= OFTEN_ENOUGH, "{kind} was met only {met} times");
+        let kinds = PATHS.into_iter().map(|(kind, _)| kind);
+        for kind in kinds.chain(OCCASIONS) {
+            require("a path", &self.kinds, kind);
+        }
+        for length in 0..=MOST_STEPS_DOWN {
+            require("steps on the chip", &self.lengths, length);
         }
         for longer in 0..=6 {
-            let met = self.longer_by.get(&longer).copied().unwrap_or(0);
-            assert!(met >= OFTEN_ENOUGH, "{longer} steps more only {met} times");
+            require("steps more on the chip", &self.longer_by, longer);
         }
     }
 }
 
-/// A path in a tree, mostly a right one, no longer than can cross.
-fn path(source: &[u8], random: &mut Random) -> (&'static str, Vec<Step>) {
+fn require<K: Ord + fmt::Debug>(what: &str, counts: &BTreeMap<K, usize>, key: K) {
+    let met = counts.get(&key).copied().unwrap_or(0);
+    assert!(met >= OFTEN_ENOUGH, "{what} {key:?}: only {met} times");
+}
+
+/// A path for a source, mostly a right one and half of them with noise behind
+/// the steps, and its kind and answer in `PATHS`.
+fn path(source: &[u8], random: &mut Random) -> (PlainPath, &'static str, u8) {
     let habits = Habits::any(random);
-    let (path, kind, _) = any_path(source, &habits, random);
-    (kind, path.steps())
-}
-
-fn pairs_of(steps: &[Step]) -> Vec<(u8, u32)> {
-    steps.iter().map(|step| (step.child, step.rank)).collect()
-}
-
-/// The library's answer. A child number of 0 ends the steps, and behind it are
-/// zeros alone.
-fn by_rattle(source: &[u8], target: &[u8], map: &[u8], steps: &[Step]) -> Answer {
-    let children: Vec<u8> = steps.iter().map(|step| step.child).collect();
-    let ranks: Vec<u32> = steps.iter().map(|step| step.rank).collect();
-    let steps = Steps {
-        children: &children,
-        ranks: &ranks,
-    };
-    let mut room = ([UNWRITTEN; MOST_STEPS], [7; MOST_STEPS]);
-    let answer = rattle_translator::carry(source, target, map, &steps, &mut room.0, &mut room.1);
-    let length = room.0.iter().take_while(|&&child| child != 0).count();
-    let rest = room.0[length..].iter().map(|&child| u32::from(child));
-    assert!(rest
-        .chain(room.1[length..].iter().copied())
-        .all(|number| number == 0));
-    if answer != 0 {
-        assert_eq!(length, 0, "steps beside refusal {answer}");
-        return Err(answer);
+    let (mut path, kind, answer) = any_path(source, &habits, random);
+    if random.one_in(2) {
+        noise_behind(&mut path, &habits, random);
     }
-    let carried = room.0.iter().copied().zip(room.1);
-    Ok(carried.take(length).collect())
+    (path, kind, answer)
+}
+
+/// All that comes back, by the second implementation.
+fn by_rust(source: &[u8], target: &[u8], map: &[u8], path: &PlainPath) -> PlainCarried {
+    let whole = Path {
+        steps: path.read(),
+        leaf_rank: path.leaf_rank,
+    };
+    match translator::carry(source, target, map, &whole) {
+        Ok(carried) => PlainCarried {
+            path: PlainPath::write(&carried.steps, carried.leaf_rank),
+            refusal: 0,
+        },
+        Err(refusal) => PlainCarried {
+            path: *path,
+            refusal,
+        },
+    }
 }

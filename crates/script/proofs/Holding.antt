@@ -223,14 +223,14 @@ module _ (d : Drawing) (p : Path) (o : Bool) (pair : Pair) where
         next = serving m (ss ++ (step i r ∷ []));
         is = step-in m ss i r (rw count at less);
         holds =
-          record {
-            started = h .started;
-            in-step = h .in-step;
-            is = h .is;
-            steps = steps-added p i r (omega (arith, h .few)) (h .places) ∙ ap (λ (l : List Step). l ++ (step i r ∷ [])) (h .steps);
-            few = let f : p .count < 8 = ltb-true (p .count) 8 less in omega arith;
-            places = length-set (p .steps) (p .count) (record { child = i; rank = r }) ∙ h .places;
-          };
+            record {
+              started = h .started;
+              in-step = h .in-step;
+              is = h .is;
+              steps = steps-added p i r (omega (arith, h .few)) (h .places) ∙ ap (λ (l : List Step). l ++ (step i r ∷ [])) (h .steps);
+              few = let f : p .count < 8 = ltb-true (p .count) 8 less in omega arith;
+              places = length-set (p .steps) (p .count) (record { child = i; rank = r }) ∙ h .places;
+            };
       }
 
   pub push-turned : (sheet : Sheet) (x l : ℕ) → Holds sheet d p o pair → inTurn o (d .limited) (p .count) (Push x l) ≡ true

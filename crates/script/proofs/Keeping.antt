@@ -27,10 +27,10 @@ module _ (array : List ℕ) (n most : ℕ) (bytes : List ℕ) (b : ℕ) (k : Kep
         long = length-set array n b ∙ k .long;
         some = omega (arith, k .some, longer);
         are =
-          rw add-one
-          (take-suc-set array n b (omega (arith, k .long))
-          ∙ ap (λ (l : List ℕ). l ++ (b ∷ [])) (k .are ∙ all)
-          ∙ sym (take-all most (bytes ++ (b ∷ [])) (omega (arith, k .some, longer))));
+            rw add-one
+            (take-suc-set array n b (omega (arith, k .long))
+            ∙ ap (λ (l : List ℕ). l ++ (b ∷ [])) (k .are ∙ all)
+            ∙ sym (take-all most (bytes ++ (b ∷ [])) (omega (arith, k .some, longer))));
       }
 
   full : most ≤ n → Kept array n most (bytes ++ (b ∷ []))

@@ -3,9 +3,7 @@
 mod embedding;
 mod queue_tree;
 mod topology;
-#[cfg(feature = "translator")]
 mod translator;
-#[cfg(feature = "gatewalk")]
 mod whole_scripts;
 
 use linduvar_tests::random::{self, Random};
@@ -19,9 +17,7 @@ fn main() {
     topology::run(&mut random);
     embedding::run(&mut random);
     queue_tree::run(&mut random);
-    #[cfg(feature = "translator")]
     translator::run(&mut random);
-    #[cfg(feature = "gatewalk")]
     whole_scripts::run();
 }
 

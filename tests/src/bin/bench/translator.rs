@@ -1,10 +1,10 @@
 //! The carrying of a path, with the check of its map.
 
 use linduvar_tests::pairs;
-use linduvar_tests::plain::MOST_STEPS;
+use linduvar_tests::plain::PlainPath;
 use linduvar_tests::queue_tree::Step;
 use linduvar_tests::random::Random;
-use linduvar_tests::rattle_translator::{self, Steps};
+use linduvar_tests::rattle_translator;
 use linduvar_tests::topology::{Topology, SOURCE_NODES, TARGET_NODES};
 use linduvar_tests::translator::{self, Path};
 use std::hint::black_box;
@@ -43,8 +43,7 @@ struct Input {
     target: Vec<u8>,
     map: Vec<u8>,
     path: Path,
-    children: Vec<u8>,
-    ranks: Vec<u32>,
+    plain: PlainPath,
 }
 
 impl Input {
@@ -55,8 +54,7 @@ impl Input {
             map: drawn.map.expect("a pair made from a map"),
             source: drawn.source,
             target: drawn.target,
-            children: steps.iter().map(|step| step.child).collect(),
-            ranks: steps.iter().map(|step| step.rank).collect(),
+            plain: PlainPath::write(&steps, 1),
             path: Path {
                 steps,
                 leaf_rank: 1,
@@ -65,16 +63,9 @@ impl Input {
     }
 
     fn by_rattle(&self) -> u8 {
-        let steps = Steps {
-            children: &self.children,
-            ranks: &self.ranks,
-        };
-        let mut room = ([0; MOST_STEPS], [0; MOST_STEPS]);
         let (source, target, map) = (&self.source, &self.target, &self.map);
-        let answer =
-            rattle_translator::carry(source, target, map, &steps, &mut room.0, &mut room.1);
-        black_box(room);
-        answer
+        let carried = rattle_translator::carry(source, target, map, &self.plain);
+        black_box(carried).refusal
     }
 
     fn by_rust(&self) -> u8 {

@@ -9,6 +9,10 @@ const ROUNDS: usize = 3;
 const NS_PER_MS: f64 = 1e6;
 
 pub fn run() {
+    if !gatewalk::program().is_file() {
+        println!("whole scripts: the program gatewalk is not there");
+        return;
+    }
     println!("whole scripts, milliseconds, the best of {ROUNDS} rounds:");
     let small = [
         ("nothing but a start", Vec::new()),
