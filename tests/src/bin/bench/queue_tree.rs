@@ -11,15 +11,9 @@ use linduvar_tests::rattle_queue_tree;
 use std::hint::black_box;
 
 const CHAINS: usize = 4;
-<<<<<<< HEAD
-// A round is short, so that the best one was not interrupted.
-const CALLS: u32 = 100;
-const ROUNDS: usize = 300;
-=======
 /// Few enough to be done before another process has its turn.
 const CALLS: u32 = 100;
 const ROUNDS: usize = 400;
->>>>>>> h5
 const SINGLES: usize = 2_000;
 
 pub fn run(random: &mut Random) {
