@@ -87,14 +87,14 @@ open-number bytes limit x e o = o .refusal ∙ ap (λ (f : ℕ). orElse f (limit
 
 -- Found: both are opened, or refused for the limit.
 module _ (source target : List ℕ) (e : searchFault source target ≡ 0) where
-  faultless : (fault 32 source ≡ 0) × (fault 64 target ≡ 0)
+  pub faultless : (fault 32 source ≡ 0) × (fault 64 target ≡ 0)
   unfolding searchFault
   faultless =
       let rest = noneFault (leastMap source target) in
       let a = orElse-none (fault 32 source) (orElse (fault 64 target) rest) e in
       (a .0, orElse-none (fault 64 target) rest (a .1) .0)
 
-  images-pass : (map : List ℕ) → map ≡ searchMap source target → Passes (tree source) (tree target) (take (length source) map)
+  pub images-pass : (map : List ℕ) → map ≡ searchMap source target → Passes (tree source) (tree target) (take (length source) map)
   images-pass map q =
       let s = search-map source target (faultless .0) (faultless .1) e in
       let m = s .0 in

@@ -63,7 +63,7 @@ module _ {P : Type 0} (m : Machine P) where
       by-pop none = refl
       by-pop (some (p, u)) = refl
 
-  abbrev number : Answer P → ℕ
+  abbrev pub number : Answer P → ℕ
   number accepted = 0
   number (departed p) = 0
   number (refused n) = n

@@ -1,14 +1,12 @@
 -- What the loop over a script's commands knows: the text printed so far, and that the text from here on completes the output. A command
 -- that lets the script go on adds its line; one that stops it makes the text whole.
 use mathlib.Core.Path.{_≡_, refl, sym, ap, _∙_}
-use Prim.Native.Nat.{ℕ, zero, suc, _+_, _-_, _≤_, _<_, min}
+use Prim.Native.Nat.{ℕ, zero, suc, _+_, _-_, _<_}
 use native.Mathlib.Omega.{arith}
-use mathlib.Core.List.{List, [], _∷_, _++_, append-assoc, append-nil}
+use mathlib.Core.List.{List, [], _++_, append-assoc, append-nil}
 use mathlib.Core.Bool.{Bool, true, false}
 use mathlib.Core.Option.{none}
-use lib.ListN.{length, drop, length-drop}
-use lib.Dec.{eqb, leb}
-use borrow.Author.Tests.{leb-true, leb-false}
+use lib.ListN.{length}
 use Rattle.topology.specs.Reader.{pick}
 use Rattle.queue_tree.specs.declared.Path.{Path}
 use Rattle.paired.specs.declared.Pair.{Pair}
@@ -20,58 +18,12 @@ use Rattle.script.specs.declared.Read.{Read}
 use Rattle.script.specs.declared.Read.the-variants.{End, Next, Refused}
 use Rattle.script.specs.declared.gathering.Drawing.{Drawing}
 use Rattle.script.specs.Gathering.{inTurn, Undrawn}
-use Rattle.script.specs.Reading.{sized, commandBy, commandOf, readAt}
-use Rattle.script.specs.Sheet.{Sheet, drawing, Reply, silent, no-by, stops, obey}
-use Rattle.script.specs.Output.{lineOf, printed, textBy, textFrom, output}
-use Rattle.script.proofs.Numbers.{read-end}
+use Rattle.script.specs.Reading.{readAt}
+use Rattle.script.specs.Sheet.{Sheet, drawing, Reply, silent, stops, obey}
+use Rattle.script.specs.Output.{lineOf, textFrom, output}
+use Rattle.script.proofs.Found.{further, next-inside, refused-inside}
 use Rattle.script.proofs.Keeping.{undrawn}
 use Rattle.script.proofs.Holding.{Holds, Turned}
-
--- the next command is further on
-abbrev Further : ℕ → Read → Type 0
-Further at r = (c : Command) (next : ℕ) → r ≡ Next c next → at < next
-
-further-sized : (size : ℕ) (bytes : List ℕ) (at : ℕ) (c : Command) → 0 < size → Further at (sized size bytes at c)
-unfolding sized
-further-sized size bytes at c h = by-test (leb size (length bytes))
-  where
-    by-test : (t : Bool) → Further at (pick t (Next c (at + size)) (Refused 21 at))
-    by-test true d next e = let f : next ≡ at + size = cc in omega arith
-    by-test false d next e = let z : _≡_ {A = ℕ} 0 1 = cc in absurd (omega arith)
-
-further-pick : (t : Bool) (at : ℕ) (r s : Read) → Further at r → Further at s → Further at (pick t r s)
-further-pick true at r s f g = f
-further-pick false at r s f g = g
-
-further-by : (code : ℕ) (bytes : List ℕ) (at : ℕ) → Further at (commandBy code bytes at)
-unfolding commandBy
-further-by code bytes at =
-    further-pick (eqb code 1) at _ _ (further-sized 2 bytes at _ (omega arith))
-    (further-pick (eqb code 2) at _ _ (further-sized 2 bytes at _ (omega arith))
-    (further-pick (eqb code 3) at _ _ (further-sized 3 bytes at _ (omega arith))
-    (further-pick (eqb code 4) at _ _ (further-sized 1 bytes at _ (omega arith))
-    (further-pick (eqb code 5) at _ _ (further-sized 6 bytes at _ (omega arith))
-    (further-pick (eqb code 6) at _ _ (further-sized 9 bytes at _ (omega arith))
-    (further-pick (eqb code 7) at _ _ (further-sized 1 bytes at _ (omega arith)) (λ c next e. let z : _≡_ {A = ℕ} 0 1 = cc in absurd (omega arith))))))))
-
-pub further : (script : List ℕ) (at : ℕ) → Further at (readAt script at)
-unfolding readAt
-further script at = by-bytes (drop at script)
-  where
-    by-bytes : (bytes : List ℕ) → Further at (commandOf bytes at)
-    by-bytes [] = λ c next e. let z : _≡_ {A = ℕ} 0 1 = cc in absurd (omega arith)
-    by-bytes (code ∷ rest) = further-by code (code ∷ rest) at
-
--- where the reader finds anything but the end, the script has not ended
-pub inside : (script : List ℕ) (at : ℕ) (r : Read) → readAt script at ≡ r → (r ≡ End → ⊥) → at < length script
-inside script at r e h = by-test (leb (length script) at) refl
-  where
-    by-test : (t : Bool) → leb (length script) at ≡ t → at < length script
-    by-test true t = absurd (h (sym e ∙ sym (read-end script at (leb-true _ _ t))))
-    by-test false t = leb-false _ _ t
-
-pub next-inside : (script : List ℕ) (at : ℕ) (c : Command) (next : ℕ) → readAt script at ≡ Next c next → at < length script
-next-inside script at c next e = inside script at (Next c next) e (λ f. let z : _≡_ {A = ℕ} 0 1 = cc in absurd (omega arith))
 
 -- the loop's invariant
 pub record Going (script before after : List ℕ) (pair : Pair) (d : Drawing) (p : Path) (o : Bool) (at end : ℕ) : Type 0 where
@@ -116,7 +68,7 @@ module _ (script before after : List ℕ) (pair : Pair) (d : Drawing) (p : Path)
   at-fault n offset place out e q = rw (sym (g .rest) ∙ ap (λ (l : List ℕ). g .text ++ l) (last (g .commands) (g .enough))) (puts-then (g .puts) q)
     where
       within : at < length script
-      within = inside script at (Refused n offset) e (λ f. let z : _≡_ {A = ℕ} 0 1 = cc in absurd (omega arith))
+      within = refused-inside script at n offset e
 
       last : (k : ℕ) → length script < at + k → textFrom script k at (g .sheet) ≡ noLine n offset
       last zero h = absurd (omega (arith, within))

@@ -1,0 +1,201 @@
+-- How long the text of a script is: each command prints at most 13 bytes, but for one line of a map, at most 100. So gatewalk's buffer
+-- holds the text of every script of at most 65,536 bytes (`output-fits`).
+--
+-- The bound goes from the last command back. A sheet on which both trees are still to be opened has 100 bytes to come for the map; the
+-- machine of an opened one is sound, so that a count of packets has at most three digits.
+use mathlib.Core.Path.{_≡_, refl}
+use Prim.Native.Nat.{ℕ, zero, suc, _+_, _-_, _*_, _≤_, _<_}
+use native.Mathlib.Omega.{arith}
+use mathlib.Core.List.{List, [], _∷_, _++_}
+use mathlib.Core.Bool.{Bool, true, false, _&&_}
+use mathlib.Core.Option.{none, some}
+use lib.ListN.{length, take, getD, length-append}
+use lib.Dec.{leb, ltb}
+use borrow.Author.Tests.{leb-true}
+use Rattle.topology.specs.Reader.{pick, fault, tree}
+use Rattle.topology.proofs.Reader.{within}
+use Rattle.topology.proofs.Refusals.{orElse-none, orElse-most, pick-most, fault-most}
+use Rattle.pifo.specs.Tree.{Step, step, held}
+use Rattle.pifo.specs.Machine.{Machine, Call, pushing, popping, Answer, accepted, departed, refused, full, serve}
+use Rattle.pifo.specs.Runs.{Sound}
+use Rattle.pifo.proofs.Order.{both}
+use Rattle.pifo.proofs.Runs.{served as serve-sound, opened-sound}
+use Rattle.pifo.proofs.Answers.{number, serve-number}
+use Rattle.embedding_laws.specs.Least.{Found, nothing, list, noneFault, leastMap, searchFault, searchMap}
+use Rattle.queue_tree.specs.Calls.{limitFault}
+use Rattle.paired.specs.Calls.{bothFault}
+use Rattle.paired.proofs.Start.{faultless, images-pass}
+use Rattle.text.specs.Text.{decimal, hex8}
+use Rattle.text.specs.Lines.{allSpaced, inLine, outLine, noLine, mapLine}
+use Rattle.text.proofs.Digits.{length-decimal, length-hex8}
+use Rattle.script.specs.declared.Command.{Command}
+use Rattle.script.specs.declared.Command.the-variants.{Source, Target, Limit, Compile, Step as StepTo, Push, Pop}
+use Rattle.script.specs.declared.Read.{Read}
+use Rattle.script.specs.declared.Read.the-variants.{End, Next, Refused}
+use Rattle.script.specs.Reading.{readAt}
+use Rattle.script.specs.Sheet.{Sheet, drawing, serving, Reply, silent, no-by, stops, compiled, served, obey}
+use Rattle.script.specs.Output.{lineOf, textBy, textFrom, output}
+use Rattle.script.proofs.Found.{further, told, next-inside, refused-inside}
+
+-- ---- the lines
+
+no-length : (n at : ℕ) → n ≤ 22 → at < 65536 → length (noLine n at) ≤ 13
+unfolding noLine
+no-length n at h g =
+    omega (
+      arith,
+      length-append (decimal n) ((32 ∷ decimal at) ++ (10 ∷ [])),
+      length-append (decimal at) (10 ∷ []),
+      length-decimal 1 n (omega arith),
+      length-decimal 4 at (omega arith),
+    )
+
+in-length : (n : ℕ) → n ≤ 256 → length (inLine n) ≤ 13
+unfolding inLine
+in-length n h = omega (arith, length-append (decimal n) (10 ∷ []), length-decimal 2 n (omega arith))
+
+out-length : (p : ℕ) → length (outLine p) ≤ 13
+unfolding outLine
+out-length p = omega (arith, length-append (hex8 p) (10 ∷ []), length-hex8 p)
+
+spaced-length : (m : List ℕ) → ((i : ℕ) → i < length m → getD m i 0 < 64) → length (allSpaced m) ≤ 3 * length m
+spaced-length [] h = omega arith
+spaced-length (n ∷ m) h =
+    let small : n < 64 = h 0 (omega arith) in
+    omega (
+      arith,
+      length-append (decimal n) (allSpaced m),
+      length-decimal 1 n (omega (arith, small)),
+      spaced-length m (λ i g. h (suc i) (omega (arith, g))),
+    )
+
+map-length : (m : List ℕ) → length m ≤ 32 → ((i : ℕ) → i < length m → getD m i 0 < 64) → length (mapLine m) ≤ 100
+unfolding mapLine
+map-length m h g = omega (arith, length-append (allSpaced m) (10 ∷ []), spaced-length m g)
+
+-- ---- one command
+
+-- the numbers of an opening
+both-most : (source target : List ℕ) (limit : ℕ) → bothFault source target limit ≤ 17
+unfolding bothFault searchFault
+both-most source target limit =
+    let s = fault-most 32 source in
+    let t = fault-most 64 target in
+    orElse-most 17 _ (limitFault limit)
+    (orElse-most 17 (fault 32 source) _ (omega (arith, s)) (orElse-most 17 (fault 64 target) _ (omega (arith, t)) (none-most (leastMap source target))))
+    (pick-most 17 (leb 1 limit && leb limit 256) 0 17 (omega arith) (omega arith))
+  where
+    none-most : (f : Found) → noneFault f ≤ 17
+    none-most nothing = omega arith
+    none-most (list m) = omega arith
+
+-- what holds of a sheet, and the bytes that a map may still take
+abbrev Good : Sheet → Type 0
+Good (drawing s t l) = Unit
+Good (serving m steps) = Sound m × (m .limit ≤ 256)
+
+abbrev room : Sheet → ℕ
+room (drawing s t l) = 100
+room (serving m steps) = 0
+
+-- a command's line takes 13 bytes at most, or those that were kept for the map
+record Short (at : ℕ) (before : Sheet) (r : Reply × Sheet) : Type 0 where
+  good : Good (r .1)
+  line : length (lineOf (r .0) at) + room (r .1) ≤ 13 + room before
+
+module _ (at : ℕ) (h : at < 65536) where
+  short-compiled : (s t : List ℕ) (n f : ℕ) → bothFault s t n ≡ f → Short at (drawing s t (some n)) (compiled f s t n)
+  unfolding bothFault
+  short-compiled s t n (suc f) e = record { good = tt; line = omega (arith, no-length (suc f) at (omega (arith, e, both-most s t n)) h) }
+  short-compiled s t n zero e =
+      let none = orElse-none (searchFault s t) (limitFault n) e in
+      let fine = faultless s t (none .0) in
+      let E = images-pass s t (none .0) (searchMap s t) refl in
+      let few = within 32 s (fine .0) .nodes in
+      let low = within 64 t (fine .1) .nodes in
+      record {
+        good = (opened-sound ℕ (tree s) n, limited n (none .1));
+        line = omega (
+          arith,
+          map-length (take (length s) (searchMap s t)) (omega (arith, E .long, few))
+              (λ i g. omega (arith, E .within i (omega (arith, E .long, g)), low)),
+        );
+      }
+    where
+      limited : (n : ℕ) → limitFault n ≡ 0 → n ≤ 256
+      limited n z = by-test (leb 1 n && leb n 256) refl z
+        where
+          by-test : (b : Bool) → leb 1 n && leb n 256 ≡ b → _≡_ {A = ℕ} (pick b 0 17) 0 → n ≤ 256
+          by-test true q z = leb-true n 256 (both (leb 1 n) (leb n 256) q .1)
+          by-test false q z = absurd (omega arith)
+
+  short-served : (m : Machine ℕ) (steps after : List Step) (c : Call ℕ) → Sound m → m .limit ≤ 256
+      → Short at (serving m steps) (served (serve m c) after)
+  short-served m steps after c s g =
+      let z = serve-sound m c s in
+      by-answer (serve m c .0) (serve m c .1) (z .sound) (omega (arith, z .limit, g)) (serve-number m c)
+    where
+      by-answer : (a : Answer ℕ) (n : Machine ℕ) → Sound n → n .limit ≤ 256 → number m a ≤ 16 → Short at (serving m steps) (served (a, n) after)
+      by-answer accepted n t l k = record { good = (t, l); line = omega (arith, in-length (held (n .tree)) (omega (arith, t .limit, l))) }
+      by-answer (departed p) n t l k = record { good = (t, l); line = omega (arith, out-length p) }
+      by-answer (refused x) n t l k = record { good = (t, l); line = omega (arith, no-length x at (omega (arith, k)) h) }
+      by-answer (full x) n t l k = record { good = (t, l); line = omega (arith, no-length 15 at (omega arith) h) }
+
+  out-of-turn : (sheet : Sheet) → Good sheet → Short at sheet (no-by 22, sheet)
+  out-of-turn sheet g = record { good = g; line = omega (arith, no-length 22 at (omega arith) h) }
+
+  short : (sheet : Sheet) (c : Command) → Good sheet → Short at sheet (obey sheet c)
+  unfolding obey
+  short (drawing s t l) (Source b) g = record { good = tt; line = omega arith }
+  short (drawing s t l) (Target b) g = record { good = tt; line = omega arith }
+  short (drawing s t none) (Limit n) g = record { good = tt; line = omega arith }
+  short (drawing s t (some m)) (Limit n) g = out-of-turn (drawing s t (some m)) g
+  short (drawing s t none) Compile g = out-of-turn (drawing s t none) g
+  short (drawing s t (some n)) Compile g = short-compiled s t n (bothFault s t n) refl
+  short (drawing s t l) (StepTo i r) g = out-of-turn (drawing s t l) g
+  short (drawing s t l) (Push p r) g = out-of-turn (drawing s t l) g
+  short (drawing s t l) Pop g = out-of-turn (drawing s t l) g
+  short (serving m steps) (Source b) g = out-of-turn (serving m steps) g
+  short (serving m steps) (Target b) g = out-of-turn (serving m steps) g
+  short (serving m steps) (Limit n) g = out-of-turn (serving m steps) g
+  short (serving m steps) Compile g = out-of-turn (serving m steps) g
+  short (serving m steps) (StepTo i r) g = by-test (ltb (length steps) 8)
+    where
+      by-test : (b : Bool) → Short at (serving m steps) (pick b (silent, serving m (steps ++ (step i r ∷ []))) (no-by 22, serving m steps))
+      by-test true = record { good = g; line = omega arith }
+      by-test false = out-of-turn (serving m steps) g
+  short (serving m steps) (Push p r) g = short-served m steps [] (pushing steps r p) (g .0) (g .1)
+  short (serving m steps) Pop g = short-served m steps steps popping (g .0) (g .1)
+
+-- ---- the whole text
+
+module _ (script : List ℕ) (h : length script ≤ 65536) where
+  from-length : (commands at : ℕ) (sheet : Sheet) → Good sheet → length (textFrom script commands at sheet) ≤ 13 * (length script - at) + room sheet
+  from-length zero at sheet g = omega arith
+  from-length (suc commands) at sheet g = by-read (readAt script at) refl (λ next s. from-length commands next s)
+    where
+      by-read : (r : Read) → readAt script at ≡ r
+          → ((next : ℕ) (s : Sheet) → Good s → length (textFrom script commands next s) ≤ 13 * (length script - next) + room s)
+          → length (textBy r at sheet (λ next s. textFrom script commands next s)) ≤ 13 * (length script - at) + room sheet
+      by-read End e more = omega arith
+      by-read (Refused n offset) e more =
+          let t = told script at n offset e in
+          let i = refused-inside script at n offset e in
+          omega (arith, no-length n offset (omega (arith, t .0)) (omega (arith, t .1, i, h)), i)
+      by-read (Next c next) e more =
+          let i = next-inside script at c next e in
+          let f = further script at c next e in
+          let s = short at (omega (arith, i, h)) sheet c g in
+          let r = obey sheet c in
+          let rest = textFrom script commands next (r .1) in
+          by-stop (stops (r .0)) (r .0) (r .1) rest (s .line) (more next (r .1) (s .good)) i f
+        where
+          by-stop : (b : Bool) (reply : Reply) (after : Sheet) (rest : List ℕ) → length (lineOf reply at) + room after ≤ 13 + room sheet
+              → length rest ≤ 13 * (length script - next) + room after → at < length script → at < next
+              → length (lineOf reply at ++ pick b [] rest) ≤ 13 * (length script - at) + room sheet
+          by-stop true reply after rest l k i f = omega (arith, length-append (lineOf reply at) [], l, i)
+          by-stop false reply after rest l k i f = omega (arith, length-append (lineOf reply at) rest, l, k, i, f)
+
+  pub output-fits : length (output script) ≤ 852068
+  unfolding output
+  output-fits = omega (arith, from-length (suc (length script)) 0 (drawing [] [] none) tt, h)
