@@ -1,12 +1,12 @@
 -- What the loop over a script's commands knows: the text printed so far, and that the text from here on completes the output. A command
 -- that lets the script go on adds its line; one that stops it makes the text whole.
 use mathlib.Core.Path.{_≡_, refl, sym, ap, _∙_}
-use Prim.Native.Nat.{ℕ, zero, suc, _+_, _-_, _≤_, _<_, min}
+use Prim.Native.Nat.{ℕ, zero, suc, _+_, _-_, _<_}
 use native.Mathlib.Omega.{arith}
 use mathlib.Core.List.{List, [], _∷_, _++_, append-assoc, append-nil}
 use mathlib.Core.Bool.{Bool, true, false}
 use mathlib.Core.Option.{none}
-use lib.ListN.{length, drop, length-drop}
+use lib.ListN.{length, drop}
 use lib.Dec.{eqb, leb}
 use borrow.Author.Tests.{leb-true, leb-false}
 use Rattle.topology.specs.Reader.{pick}
@@ -21,8 +21,8 @@ use Rattle.script.specs.declared.Read.the-variants.{End, Next, Refused}
 use Rattle.script.specs.declared.gathering.Drawing.{Drawing}
 use Rattle.script.specs.Gathering.{inTurn, Undrawn}
 use Rattle.script.specs.Reading.{sized, commandBy, commandOf, readAt}
-use Rattle.script.specs.Sheet.{Sheet, drawing, Reply, silent, no-by, stops, obey}
-use Rattle.script.specs.Output.{lineOf, printed, textBy, textFrom, output}
+use Rattle.script.specs.Sheet.{Sheet, drawing, Reply, silent, stops, obey}
+use Rattle.script.specs.Output.{lineOf, textFrom, output}
 use Rattle.script.proofs.Numbers.{read-end}
 use Rattle.script.proofs.Keeping.{undrawn}
 use Rattle.script.proofs.Holding.{Holds, Turned}

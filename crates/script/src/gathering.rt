@@ -25,27 +25,9 @@ pub(crate) fn in_turn(opened: bool, limited: bool, steps: usize, command: Comman
     match command {
         Command::Source(_) => !opened,
         Command::Target(_) => !opened,
-        Command::Limit(_) => {
-            if limited {
-                false
-            } else {
-                !opened
-            }
-        }
-        Command::Compile => {
-            if limited {
-                !opened
-            } else {
-                false
-            }
-        }
-        Command::Step(_, _) => {
-            if steps < 8 {
-                opened
-            } else {
-                false
-            }
-        }
+        Command::Limit(_) => { if limited { false } else { !opened } }
+        Command::Compile => { if limited { !opened } else { false } }
+        Command::Step(_, _) => { if steps < 8 { opened } else { false } }
         Command::Push(_, _) => opened,
         Command::Pop => opened,
     }

@@ -93,7 +93,11 @@ pub fn run(script: &[u8], out: &mut [u8]) -> usize
                         let nodes = drawing.nodes;
                         let target = drawing.target;
                         let places = drawing.places;
-                        let both = paired::open(&source[..nodes], &target[..places], drawing.limit as usize);
+                        let both = paired::open(
+                            &source[..nodes],
+                            &target[..places],
+                            drawing.limit as usize,
+                        );
                         if both.refusal != 0 {
                             return lines::put_no(out, end, both.refusal, at);
                         }

@@ -5,9 +5,6 @@ use lib.ListN.{length-replicate}
 use borrow.Author.Needs.{needs}
 use Rattle.gatewalk.proofs.main.Statement.{statement}
 use Rattle.gatewalk.proofs.main.Tie as tie
-use Rattle.gatewalk.proofs.main.Reads as reads
-use Rattle.gatewalk.proofs.main.Lts as lts
-use Rattle.gatewalk.proofs.walk.Reads as walk-reads
 
 slice-aggregate-walk : tie.Need-slice-aggregate-walk
 slice-aggregate-walk c = search needs

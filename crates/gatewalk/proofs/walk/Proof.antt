@@ -6,11 +6,6 @@ use Rattle.text.proofs.Writing.{puts-length}
 use borrow.Author.Needs.{needs}
 use Rattle.gatewalk.proofs.walk.Statement.{statement}
 use Rattle.gatewalk.proofs.walk.Tie as tie
-use Rattle.gatewalk.proofs.walk.Reads as reads
-use Rattle.gatewalk.proofs.walk.Lts as lts
-use Rattle.io.proofs.read_full.Reads as read-full-reads
-use Rattle.io.proofs.write_all.Reads as write-all-reads
-use Rattle.script.proofs.run.Reads as run-reads
 
 read-full-requires : tie.Need-read-full-requires
 read-full-requires c κs = search needs

@@ -1,3 +1,7 @@
+-- `run` meets its contract. The loop knows (`Going`) a sheet for which the code has what it should, the text printed so far, and that the
+-- text from here on completes the output. The reader ends the script, or refuses a command, or gives one. A command out of turn is refused
+-- by 22. Every other command is answered as the definition has it (laws of `Holding`), and then the script goes on at the next offset,
+-- which is further on, or it stops.
 use Prim.Native.Nat.{_-_}
 use borrow.Author.Needs.{needs}
 use lib.ListN.{length}
@@ -11,27 +15,6 @@ use Rattle.script.proofs.Holding.{out-of-turn, source-turned, target-tu
 use Rattle.script.proofs.Going.{Going, start, at-end, at-fault, goes-on, silently, stopped, read-known, turn-known, nearer}
 use Rattle.script.proofs.run.Statement.{statement}
 use Rattle.script.proofs.run.Tie as tie
-use Rattle.script.proofs.run.Reads as reads
-use Rattle.script.proofs.run.Lts as lts
-use Rattle.paired.proofs.held.Reads as held-reads
-use Rattle.paired.proofs.open.Reads as open-reads
-use Rattle.paired.proofs.pop.Reads as pop-reads
-use Rattle.paired.proofs.push.Reads as push-reads
-use Rattle.script.proofs.gathering.add_source.Reads as add-source-reads
-use Rattle.script.proofs.gathering.add_step.Reads as add-step-reads
-use Rattle.script.proofs.gathering.add_target.Reads as add-target-reads
-use Rattle.script.proofs.gathering.ended.Reads as ended-reads
-use Rattle.script.proofs.gathering.give_limit.Reads as give-limit-reads
-use Rattle.script.proofs.gathering.in_turn.Reads as in-turn-reads
-use Rattle.script.proofs.gathering.no_steps.Reads as no-steps-reads
-use Rattle.script.proofs.gathering.undrawn.Reads as undrawn-reads
-use Rattle.script.proofs.read_at.Reads as read-at-reads
-use Rattle.script.proofs.replies.pop_reply.Reads as pop-reply-reads
-use Rattle.script.proofs.replies.push_reply.Reads as push-reply-reads
-use Rattle.script.proofs.replies.put_reply.Reads as put-reply-reads
-use Rattle.script.proofs.replies.stops.Reads as stops-reads
-use Rattle.text.proofs.lines.put_map.Reads as put-map-reads
-use Rattle.text.proofs.lines.put_no.Reads as put-no-reads
 
 abbrev Inv-loop : tie.InvT-loop
 Inv-loop script out₀ pair₀ drawing₀ path₀ opened₀ at₀ end₀ out pair drawing path opened at end =
@@ -92,7 +75,7 @@ put-no-requires-2 : tie.Need-put-no-requires-2 Inv-loop μ-loop
 put-no-requires-2 c κs = search needs
 
 returns-3 : tie.Need-returns-3 Inv-loop μ-loop
-returns-3 c = 
+returns-3 c =
     let g = c .before .before .before .before .before .before .before .before .before .before .loop .inv in
     let out = out-of-turn _ _ _ _ _ _ (g .holds) (sym (c .before .before .before .before .before .in-turn .ensures) ∙ not-true _ (c .before .before .before .before .if1 .taken)) in
     stopped _ _ _ _ _ _ _ _ _ g _ _ (sym (c .before .before .before .before .before .before .before .before .before .read-at .ensures) ∙ c .before .before .before .before .before .before .before .command .given .1) _ _ _ _ out refl (c .before .before .put-no2 .ensures)
@@ -143,7 +126,7 @@ put-no-requires-3 : tie.Need-put-no-requires-3 Inv-loop μ-loop
 put-no-requires-3 c κs = search needs
 
 returns-4 : tie.Need-returns-4 Inv-loop μ-loop
-returns-4 c = 
+returns-4 c =
     let g = c .before .before .before .before .before .before .before .before .before .before .before .before .before .before .before .before .before .before .before .before .loop .inv in
     let turn = (turn-known _ _ _ _ _ _ (c .before .before .before .before .before .before .before .before .before .before .before .before .before .before .before .in-turn .ensures) (not-false _ (c .before .before .before .before .before .before .before .before .before .before .before .before .before .before .if1 .left)) (c .before .before .before .before .before .before .before .before .before .before .before .before .enum-told2 .given .1)) in
     let not = compile-refused _ _ _ _ _ (c .before .before .before .before .before .before .open2 .ensures) _ (g .holds) turn (c .before .before .before .before .if2 .taken) in
@@ -153,7 +136,7 @@ same-length-4 : tie.Need-same-length-4 Inv-loop μ-loop
 same-length-4 c = puts-length (returns-4 c)
 
 array-share-prefix-map : tie.Need-array-share-prefix-map Inv-loop μ-loop
-array-share-prefix-map c = 
+array-share-prefix-map c =
     let few = compile-few (c .before .before .before .before .before .before .before .before .before .before .before .before .before .before .before .before .before .before .before .loop .drawing) (c .before .before .before .before .before .before .before .before .before .before .before .before .before .before .before .before .before .before .before .loop .path) (c .before .before .before .before .before .before .before .before .before .before .before .before .before .before .before .before .before .before .before .loop .opened) (c .before .before .before .before .before .before .before .before .before .before .before .before .before .before .before .before .before .before .before .loop .pair) (c .before .before .before .before .before .open2 .result) (c .before .before .before .before .before .open2 .ensures) (c .before .before .before .before .before .before .before .before .before .before .before .before .before .before .before .before .before .before .before .loop .inv .sheet) (c .before .before .before .before .before .before .before .before .before .before .before .before .before .before .before .before .before .before .before .loop .inv .holds) (turn-known _ _ _ _ _ _ (c .before .before .before .before .before .before .before .before .before .before .before .before .before .before .in-turn .ensures) (not-false _ (c .before .before .before .before .before .before .before .before .before .before .before .before .before .if1 .left)) (c .before .before .before .before .before .before .before .before .before .before .before .enum-told2 .given .1)) (c .before .before .before .if2 .left) in
     let long = map-room _ _ _ (c .before .before .before .before .before .open2 .ensures .map) in
     omega (arith, few, long)
@@ -198,12 +181,12 @@ stops-requires : tie.Need-stops-requires Inv-loop μ-loop
 stops-requires c κs = search needs
 
 returns-5 : tie.Need-returns-5 Inv-loop μ-loop
-returns-5 c = 
+returns-5 c =
     let g = c .before .before .before .before .before .before .before .before .before .before .before .before .before .before .before .before .before .before .before .before .before .loop .inv in
     let read = (read-known _ _ _ _ _ _ (c .before .before .before .before .before .before .before .before .before .before .before .before .before .before .before .before .before .before .before .before .read-at .ensures) (c .before .before .before .before .before .before .before .before .before .before .before .before .before .before .before .before .before .before .command .given .1) (c .before .before .before .before .before .before .before .before .before .before .before .before .before .command6 .given .1)) in
     let turn = (turn-known _ _ _ _ _ _ (c .before .before .before .before .before .before .before .before .before .before .before .before .before .before .before .before .in-turn .ensures) (not-false _ (c .before .before .before .before .before .before .before .before .before .before .before .before .before .before .before .if1 .left)) (c .before .before .before .before .before .before .before .before .before .before .before .before .before .command6 .given .1)) in
     let push = push-turned _ _ _ _ _ _ _ (g .holds) turn _ (c .before .before .before .before .before .before .before .before .before .before .before .ended .ensures) _ (c .before .before .before .before .before .before .before .before .before .before .push .result .source) (c .before .before .before .before .before .before .before .before .before .before .push .result .chip) (c .before .before .before .before .before .before .before .before .before .before .push .ensures) _ (c .before .before .before .before .before .before .before .held .ensures) (c .before .before .before .before .before .before .before .before .before .no-steps2 .result)
-      (c .before .before .before .before .before .before .before .before .before .no-steps2 .ensures .0) (c .before .before .before .before .before .before .before .before .before .no-steps2 .ensures .1) in
+    (c .before .before .before .before .before .before .before .before .before .no-steps2 .ensures .0) (c .before .before .before .before .before .before .before .before .before .no-steps2 .ensures .1) in
     let line = rw (c .before .before .before .before .before .before .push-reply .ensures) at (c .before .before .before .before .put-reply .ensures) in
     let stop = rw (c .before .before .before .before .before .before .push-reply .ensures) at (c .before .stops .ensures) in
     stopped _ _ _ _ _ _ _ _ _ g _ _ read _ _ _ _ (push .is) (sym stop ∙ c .if3 .taken) line
@@ -227,7 +210,7 @@ stops-requires-2 : tie.Need-stops-requires-2 Inv-loop μ-loop
 stops-requires-2 c κs = search needs
 
 returns-6 : tie.Need-returns-6 Inv-loop μ-loop
-returns-6 c = 
+returns-6 c =
     let g = c .before .before .before .before .before .before .before .before .before .before .before .before .before .before .before .before .before .loop .inv in
     let read = (read-known _ _ _ _ _ _ (c .before .before .before .before .before .before .before .before .before .before .before .before .before .before .before .before .read-at .ensures) (c .before .before .before .before .before .before .before .before .before .before .before .before .before .before .command .given .1) (c .before .before .before .before .before .before .before .before .before .enum-told3 .given .1)) in
     let turn = (turn-known _ _ _ _ _ _ (c .before .before .before .before .before .before .before .before .before .before .before .before .in-turn .ensures) (not-false _ (c .before .before .before .before .before .before .before .before .before .before .before .if1 .left)) (c .before .before .before .before .before .before .before .before .before .enum-told3 .given .1)) in
@@ -243,7 +226,7 @@ loop-less : tie.Need-loop-less Inv-loop μ-loop
 loop-less c = nearer _ _ _ _ (read-known _ _ _ _ _ _ (c .before .before .before .before .before .before .before .before .before .read-at .ensures) (c .before .before .before .before .before .before .before .command .given .1) (c .before .before .command2 .given .1))
 
 loop-again : tie.Need-loop-again Inv-loop μ-loop
-loop-again c = 
+loop-again c =
     let g = c .before .before .before .before .before .before .before .before .before .before .loop .inv in
     let read = (read-known _ _ _ _ _ _ (c .before .before .before .before .before .before .before .before .before .read-at .ensures) (c .before .before .before .before .before .before .before .command .given .1) (c .before .before .command2 .given .1)) in
     let turn = (turn-known _ _ _ _ _ _ (c .before .before .before .before .before .in-turn .ensures) (not-false _ (c .before .before .before .before .if1 .left)) (c .before .before .command2 .given .1)) in
@@ -253,7 +236,7 @@ loop-less-2 : tie.Need-loop-less-2 Inv-loop μ-loop
 loop-less-2 c = nearer _ _ _ _ (read-known _ _ _ _ _ _ (c .before .before .before .before .before .before .before .before .before .read-at .ensures) (c .before .before .before .before .before .before .before .command .given .1) (c .before .before .command3 .given .1))
 
 loop-again-2 : tie.Need-loop-again-2 Inv-loop μ-loop
-loop-again-2 c = 
+loop-again-2 c =
     let g = c .before .before .before .before .before .before .before .before .before .before .loop .inv in
     let read = (read-known _ _ _ _ _ _ (c .before .before .before .before .before .before .before .before .before .read-at .ensures) (c .before .before .before .before .before .before .before .command .given .1) (c .before .before .command3 .given .1)) in
     let turn = (turn-known _ _ _ _ _ _ (c .before .before .before .before .before .in-turn .ensures) (not-false _ (c .before .before .before .before .if1 .left)) (c .before .before .command3 .given .1)) in
@@ -263,7 +246,7 @@ loop-less-3 : tie.Need-loop-less-3 Inv-loop μ-loop
 loop-less-3 c = nearer _ _ _ _ (read-known _ _ _ _ _ _ (c .before .before .before .before .before .before .before .before .before .read-at .ensures) (c .before .before .before .before .before .before .before .command .given .1) (c .before .before .command4 .given .1))
 
 loop-again-3 : tie.Need-loop-again-3 Inv-loop μ-loop
-loop-again-3 c = 
+loop-again-3 c =
     let g = c .before .before .before .before .before .before .before .before .before .before .loop .inv in
     let read = (read-known _ _ _ _ _ _ (c .before .before .before .before .before .before .before .before .before .read-at .ensures) (c .before .before .before .before .before .before .before .command .given .1) (c .before .before .command4 .given .1)) in
     let turn = (turn-known _ _ _ _ _ _ (c .before .before .before .before .before .in-turn .ensures) (not-false _ (c .before .before .before .before .if1 .left)) (c .before .before .command4 .given .1)) in
@@ -273,7 +256,7 @@ loop-less-4 : tie.Need-loop-less-4 Inv-loop μ-loop
 loop-less-4 c = nearer _ _ _ _ (read-known _ _ _ _ _ _ (c .before .before .before .before .before .before .before .before .before .before .before .before .before .before .before .before .before .before .before .before .before .before .read-at .ensures) (c .before .before .before .before .before .before .before .before .before .before .before .before .before .before .before .before .before .before .before .before .command .given .1) (c .before .before .before .before .before .before .before .before .before .before .before .before .before .before .before .enum-told2 .given .1))
 
 loop-again-4 : tie.Need-loop-again-4 Inv-loop μ-loop
-loop-again-4 c = 
+loop-again-4 c =
     let g = c .before .before .before .before .before .before .before .before .before .before .before .before .before .before .before .before .before .before .before .before .before .before .before .loop .inv in
     let turn = (turn-known _ _ _ _ _ _ (c .before .before .before .before .before .before .before .before .before .before .before .before .before .before .before .before .before .before .in-turn .ensures) (not-false _ (c .before .before .before .before .before .before .before .before .before .before .before .before .before .before .before .before .before .if1 .left)) (c .before .before .before .before .before .before .before .before .before .before .before .before .before .before .before .enum-told2 .given .1)) in
     goes-on _ _ _ _ _ _ _ _ _ g _ _ (read-known _ _ _ _ _ _ (c .before .before .before .before .before .before .before .before .before .before .before .before .before .before .before .before .before .before .before .before .before .before .read-at .ensures) (c .before .before .before .before .before .before .before .before .before .before .before .before .before .before .before .before .before .before .before .before .command .given .1) (c .before .before .before .before .before .before .before .before .before .before .before .before .before .before .before .enum-told2 .given .1)) _ _ _ _ _ _ _
@@ -283,7 +266,7 @@ loop-less-5 : tie.Need-loop-less-5 Inv-loop μ-loop
 loop-less-5 c = nearer _ _ _ _ (read-known _ _ _ _ _ _ (c .before .before .before .before .before .before .before .before .before .read-at .ensures) (c .before .before .before .before .before .before .before .command .given .1) (c .before .before .command5 .given .1))
 
 loop-again-5 : tie.Need-loop-again-5 Inv-loop μ-loop
-loop-again-5 c = 
+loop-again-5 c =
     let g = c .before .before .before .before .before .before .before .before .before .before .loop .inv in
     let read = (read-known _ _ _ _ _ _ (c .before .before .before .before .before .before .before .before .before .read-at .ensures) (c .before .before .before .before .before .before .before .command .given .1) (c .before .before .command5 .given .1)) in
     let turn = (turn-known _ _ _ _ _ _ (c .before .before .before .before .before .in-turn .ensures) (not-false _ (c .before .before .before .before .if1 .left)) (c .before .before .command5 .given .1)) in
@@ -293,12 +276,12 @@ loop-less-6 : tie.Need-loop-less-6 Inv-loop μ-loop
 loop-less-6 c = nearer _ _ _ _ (read-known _ _ _ _ _ _ (c .before .before .before .before .before .before .before .before .before .before .before .before .before .before .before .before .before .before .before .before .read-at .ensures) (c .before .before .before .before .before .before .before .before .before .before .before .before .before .before .before .before .before .before .command .given .1) (c .before .before .before .before .before .before .before .before .before .before .before .before .before .command6 .given .1))
 
 loop-again-6 : tie.Need-loop-again-6 Inv-loop μ-loop
-loop-again-6 c = 
+loop-again-6 c =
     let g = c .before .before .before .before .before .before .before .before .before .before .before .before .before .before .before .before .before .before .before .before .before .loop .inv in
     let read = (read-known _ _ _ _ _ _ (c .before .before .before .before .before .before .before .before .before .before .before .before .before .before .before .before .before .before .before .before .read-at .ensures) (c .before .before .before .before .before .before .before .before .before .before .before .before .before .before .before .before .before .before .command .given .1) (c .before .before .before .before .before .before .before .before .before .before .before .before .before .command6 .given .1)) in
     let turn = (turn-known _ _ _ _ _ _ (c .before .before .before .before .before .before .before .before .before .before .before .before .before .before .before .before .in-turn .ensures) (not-false _ (c .before .before .before .before .before .before .before .before .before .before .before .before .before .before .before .if1 .left)) (c .before .before .before .before .before .before .before .before .before .before .before .before .before .command6 .given .1)) in
     let push = push-turned _ _ _ _ _ _ _ (g .holds) turn _ (c .before .before .before .before .before .before .before .before .before .before .before .ended .ensures) _ (c .before .before .before .before .before .before .before .before .before .before .push .result .source) (c .before .before .before .before .before .before .before .before .before .before .push .result .chip) (c .before .before .before .before .before .before .before .before .before .before .push .ensures) _ (c .before .before .before .before .before .before .before .held .ensures) (c .before .before .before .before .before .before .before .before .before .no-steps2 .result)
-      (c .before .before .before .before .before .before .before .before .before .no-steps2 .ensures .0) (c .before .before .before .before .before .before .before .before .before .no-steps2 .ensures .1) in
+    (c .before .before .before .before .before .before .before .before .before .no-steps2 .ensures .0) (c .before .before .before .before .before .before .before .before .before .no-steps2 .ensures .1) in
     let line = rw (c .before .before .before .before .before .before .push-reply .ensures) at (c .before .before .before .before .put-reply .ensures) in
     let stop = rw (c .before .before .before .before .before .before .push-reply .ensures) at (c .before .stops .ensures) in
     goes-on _ _ _ _ _ _ _ _ _ g _ _ read _ _ _ _ _ _ _ push (sym stop ∙ c .if3 .left) line
@@ -307,7 +290,7 @@ loop-less-7 : tie.Need-loop-less-7 Inv-loop μ-loop
 loop-less-7 c = nearer _ _ _ _ (read-known _ _ _ _ _ _ (c .before .before .before .before .before .before .before .before .before .before .before .before .before .before .before .before .read-at .ensures) (c .before .before .before .before .before .before .before .before .before .before .before .before .before .before .command .given .1) (c .before .before .before .before .before .before .before .before .before .enum-told3 .given .1))
 
 loop-again-7 : tie.Need-loop-again-7 Inv-loop μ-loop
-loop-again-7 c = 
+loop-again-7 c =
     let g = c .before .before .before .before .before .before .before .before .before .before .before .before .before .before .before .before .before .loop .inv in
     let read = (read-known _ _ _ _ _ _ (c .before .before .before .before .before .before .before .before .before .before .before .before .before .before .before .before .read-at .ensures) (c .before .before .before .before .before .before .before .before .before .before .before .before .before .before .command .given .1) (c .before .before .before .before .before .before .before .before .before .enum-told3 .given .1)) in
     let turn = (turn-known _ _ _ _ _ _ (c .before .before .before .before .before .before .before .before .before .before .before .before .in-turn .ensures) (not-false _ (c .before .before .before .before .before .before .before .before .before .before .before .if1 .left)) (c .before .before .before .before .before .before .before .before .before .enum-told3 .given .1)) in
