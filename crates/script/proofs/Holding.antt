@@ -2,21 +2,21 @@
 -- for the sheet after it.
 use mathlib.Core.Path.{_≡_, refl, sym, ap, _∙_}
 use mathlib.Core.Logic.{_≢_}
-use Prim.Native.Nat.{ℕ, zero, suc, _+_, _≤_, _<_}
+use Prim.Native.Nat.{ℕ, zero, suc, _≤_, _<_}
 use native.Mathlib.Omega.{arith}
 use mathlib.Core.List.{List, [], _∷_, _++_}
-use mathlib.Core.Bool.{Bool, true, false, not}
+use mathlib.Core.Bool.{Bool, true, false}
 use mathlib.Core.Option.{Option, none, some}
 use lib.ListN.{length, take, length-set, length-take}
 use lib.Dec.{ltb}
 use borrow.Author.Tests.{ltb-true}
 use Rattle.topology.specs.Reader.{pick, tree}
 use Rattle.pifo.specs.Tree.{Step, step, held}
-use Rattle.pifo.specs.Machine.{Machine, Call, Answer, accepted, departed, refused, full, pushing, popping, serve, opened}
+use Rattle.pifo.specs.Machine.{Machine, Call, pushing, popping, serve, opened}
 use Rattle.embedding_laws.specs.Least.{searchMap}
-use Rattle.queue_tree.specs.State.{machine, treeOf, wellFormed}
+use Rattle.queue_tree.specs.State.{machine, treeOf}
 use Rattle.queue_tree.specs.Arrivals.{stepsOf}
-use Rattle.queue_tree.specs.Calls.{amount, pushAnswer, popAnswer}
+use Rattle.queue_tree.specs.Calls.{pushAnswer, popAnswer}
 use Rattle.queue_tree.specs.declared.Path.{Path}
 use Rattle.queue_tree.specs.declared.Amount.{Amount}
 use Rattle.queue_tree.specs.declared.Amount.the-variants.{Count}
@@ -24,7 +24,7 @@ use Rattle.queue_tree.specs.declared.PushAnswer.{PushAnswer}
 use Rattle.queue_tree.specs.declared.PushAnswer.the-variants.{Accepted, Refused as NoPush, Full}
 use Rattle.queue_tree.specs.declared.PopAnswer.{PopAnswer}
 use Rattle.queue_tree.specs.declared.PopAnswer.the-variants.{Departed, Refused as NoPop}
-use Rattle.paired.specs.Pair.{wellPaired, InStep}
+use Rattle.paired.specs.Pair.{InStep}
 use Rattle.paired.specs.Calls.{bothFault, OpensBoth, ServesBoth, CountsBoth}
 use Rattle.paired.specs.declared.Pair.{Pair}
 use Rattle.paired.specs.declared.PairOpened.{PairOpened}
@@ -34,9 +34,9 @@ use Rattle.paired.proofs.Counts.{held-both}
 use Rattle.script.specs.declared.Command.{Command}
 use Rattle.script.specs.declared.Command.the-variants.{Source, Target, Limit, Compile, Step as StepTo, Push, Pop}
 use Rattle.script.specs.declared.gathering.Drawing.{Drawing}
-use Rattle.script.specs.Gathering.{inTurn, Kept, limitOf, Draws, sourceAdded, targetAdded, limitGiven, stepAdded, endedBy}
+use Rattle.script.specs.Gathering.{inTurn, limitOf, Draws, sourceAdded, targetAdded, limitGiven, stepAdded, endedBy}
 use Rattle.script.specs.Replies.{replyOf, pushReply, popReply}
-use Rattle.script.specs.Sheet.{Sheet, drawing, serving, Reply, silent, mapped, entered, left, no-by, stops, compiled, replied, obey}
+use Rattle.script.specs.Sheet.{Sheet, drawing, serving, Reply, silent, mapped, no-by, stops, compiled, replied, obey}
 use Rattle.script.proofs.Drawings.{both-kept, both-whole, both-few, stops-opening}
 use Rattle.script.proofs.Keeping.{draws-source, draws-target, draws-limit, no-steps, steps-count, steps-added}
 

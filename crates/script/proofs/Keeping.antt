@@ -1,6 +1,6 @@
 -- What is gathered, byte by byte and step by step: an array keeps the bytes for which it has places, and a path its steps.
 use mathlib.Core.Path.{_≡_, refl, sym, ap, _∙_}
-use Prim.Native.Nat.{ℕ, zero, suc, _+_, _≤_, _<_, min}
+use Prim.Native.Nat.{ℕ, _+_, _≤_, _<_}
 use native.Mathlib.Omega.{arith}
 use native.Mathlib.Numerals.{add-one}
 use mathlib.Core.List.{List, [], _∷_, _++_, map, map-append}
@@ -11,11 +11,11 @@ use lib.Dec.{ltb}
 use Rattle.lists.proofs.Map.{length-map}
 use borrow.Author.Tests.{ltb-true, ltb-false}
 use Rattle.topology.specs.Reader.{pick}
-use Rattle.pifo.specs.Tree.{Step, step}
+use Rattle.pifo.specs.Tree.{step}
 use Rattle.queue_tree.specs.Arrivals.{stepOf, stepsOf}
 use Rattle.queue_tree.specs.declared.Path.{Path}
 use Rattle.script.specs.declared.gathering.Drawing.{Drawing}
-use Rattle.script.specs.Gathering.{Kept, limitOf, Draws, Undrawn, sourceAdded, targetAdded, limitGiven, stepAdded, endedBy}
+use Rattle.script.specs.Gathering.{Kept, Draws, Undrawn, sourceAdded, targetAdded, limitGiven, stepAdded}
 use mathlib.Core.Option.{Option, none, some}
 
 module _ (array : List ℕ) (n most : ℕ) (bytes : List ℕ) (b : ℕ) (k : Kept array n most bytes) where

@@ -1,6 +1,6 @@
 -- Operands as the code reads them: byte by byte, where they are all there. And what an answer of the operands' reader says: it found the
 -- number and the bytes are there, or they are cut short.
-use mathlib.Core.Path.{_≡_, refl, sym, ap, _∙_}
+use mathlib.Core.Path.{_≡_, refl, sym, _∙_}
 use Prim.Native.Nat.{ℕ, zero, suc, _+_, _*_, _-_, _≤_, _<_}
 use native.Mathlib.Nat.{not-suc-le-zero, le-of-suc-le-suc}
 use native.Mathlib.Omega.{arith}

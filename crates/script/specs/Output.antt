@@ -1,7 +1,6 @@
 -- The text that a script prints, byte by byte, as a definition over the script's bytes.
 use Prim.Native.Nat.{ℕ, zero, suc}
-use mathlib.Core.List.{List, [], _∷_, _++_}
-use mathlib.Core.Bool.{Bool, true, false}
+use mathlib.Core.List.{List, [], _++_}
 use mathlib.Core.Option.{none}
 use lib.ListN.{length}
 use Rattle.topology.specs.Reader.{pick}

@@ -1,5 +1,4 @@
 -- What the private functions of the replies promise.
-use Prim.Native.Nat.{ℕ}
 use Rattle.queue_tree.specs.declared.Amount.{Amount}
 use Rattle.queue_tree.specs.declared.Amount.the-variants.{Count, Refused as NoAmount}
 use Rattle.queue_tree.specs.declared.PushAnswer.{PushAnswer}

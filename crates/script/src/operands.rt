@@ -3,7 +3,7 @@ use super::Command;
 use super::Read;
 ghost use mathlib.Core.Path.{_≡_};
 ghost use Prim.Native.Nat.{_+_, _<_, _≤_, _^_};
-ghost use lib.ListN.{length, getD};
+ghost use lib.ListN.{length};
 ghost use Rattle.script.specs.Reading.{readAt, commandBy};
 ghost use Rattle.script.specs.Operands.{byteAt, wordAt};
 

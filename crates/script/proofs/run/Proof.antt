@@ -1,3 +1,7 @@
+-- `run` meets its contract. The loop knows (`Going`) a sheet for which the code has what it should, the text printed so far, and that the
+-- text from here on completes the output. The reader ends the script, or refuses a command, or gives one. A command out of turn is refused
+-- by 22. Every other command is answered as the definition has it (laws of `Holding`), and then the script goes on at the next offset,
+-- which is further on, or it stops.
 use Prim.Native.Nat.{_-_}
 use borrow.Author.Needs.{needs}
 use lib.ListN.{length}
@@ -11,27 +15,6 @@ use Rattle.script.proofs.Holding.{out-of-turn, source-turned, target-tu
 use Rattle.script.proofs.Going.{Going, start, at-end, at-fault, goes-on, silently, stopped, read-known, turn-known, nearer}
 use Rattle.script.proofs.run.Statement.{statement}
 use Rattle.script.proofs.run.Tie as tie
-use Rattle.script.proofs.run.Reads as reads
-use Rattle.script.proofs.run.Lts as lts
-use Rattle.paired.proofs.held.Reads as held-reads
-use Rattle.paired.proofs.open.Reads as open-reads
-use Rattle.paired.proofs.pop.Reads as pop-reads
-use Rattle.paired.proofs.push.Reads as push-reads
-use Rattle.script.proofs.gathering.add_source.Reads as add-source-reads
-use Rattle.script.proofs.gathering.add_step.Reads as add-step-reads
-use Rattle.script.proofs.gathering.add_target.Reads as add-target-reads
-use Rattle.script.proofs.gathering.ended.Reads as ended-reads
-use Rattle.script.proofs.gathering.give_limit.Reads as give-limit-reads
-use Rattle.script.proofs.gathering.in_turn.Reads as in-turn-reads
-use Rattle.script.proofs.gathering.no_steps.Reads as no-steps-reads
-use Rattle.script.proofs.gathering.undrawn.Reads as undrawn-reads
-use Rattle.script.proofs.read_at.Reads as read-at-reads
-use Rattle.script.proofs.replies.pop_reply.Reads as pop-reply-reads
-use Rattle.script.proofs.replies.push_reply.Reads as push-reply-reads
-use Rattle.script.proofs.replies.put_reply.Reads as put-reply-reads
-use Rattle.script.proofs.replies.stops.Reads as stops-reads
-use Rattle.text.proofs.lines.put_map.Reads as put-map-reads
-use Rattle.text.proofs.lines.put_no.Reads as put-no-reads
 
 abbrev Inv-loop : tie.InvT-loop
 Inv-loop script out₀ pair₀ drawing₀ path₀ opened₀ at₀ end₀ out pair drawing path opened at end =

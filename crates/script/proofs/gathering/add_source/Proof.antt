@@ -4,8 +4,6 @@ use Rattle.script.specs.Gathering.{sourceAdded}
 use borrow.Author.Needs.{needs}
 use Rattle.script.proofs.gathering.add_source.Statement.{statement}
 use Rattle.script.proofs.gathering.add_source.Tie as tie
-use Rattle.script.proofs.gathering.add_source.Reads as reads
-use Rattle.script.proofs.gathering.add_source.Lts as lts
 
 element-write-next : tie.Need-element-write-next
 element-write-next c = search needs

@@ -1,10 +1,9 @@
+-- The step stands behind those gathered.
 use mathlib.Core.Path.{refl}
 use Rattle.script.specs.Gathering.{stepAdded}
 use borrow.Author.Needs.{needs}
 use Rattle.script.proofs.gathering.add_step.Statement.{statement}
 use Rattle.script.proofs.gathering.add_step.Tie as tie
-use Rattle.script.proofs.gathering.add_step.Reads as reads
-use Rattle.script.proofs.gathering.add_step.Lts as lts
 
 mul-t7 : tie.Need-mul-t7
 mul-t7 c = search needs

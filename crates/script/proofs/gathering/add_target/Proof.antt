@@ -4,8 +4,6 @@ use Rattle.script.specs.Gathering.{targetAdded}
 use borrow.Author.Needs.{needs}
 use Rattle.script.proofs.gathering.add_target.Statement.{statement}
 use Rattle.script.proofs.gathering.add_target.Tie as tie
-use Rattle.script.proofs.gathering.add_target.Reads as reads
-use Rattle.script.proofs.gathering.add_target.Lts as lts
 
 element-write-next : tie.Need-element-write-next
 element-write-next c = search needs

@@ -1,9 +1,8 @@
+-- Only the rank at the leaf is another.
 use mathlib.Core.Path.{refl}
 use Rattle.script.specs.Gathering.{endedBy}
 use Rattle.script.proofs.gathering.ended.Statement.{statement}
 use Rattle.script.proofs.gathering.ended.Tie as tie
-use Rattle.script.proofs.gathering.ended.Reads as reads
-use Rattle.script.proofs.gathering.ended.Lts as lts
 
 returns : tie.Need-returns
 unfolding endedBy

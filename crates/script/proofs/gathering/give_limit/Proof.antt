@@ -1,9 +1,8 @@
+-- Only the limit is another.
 use mathlib.Core.Path.{refl}
 use Rattle.script.specs.Gathering.{limitGiven}
 use Rattle.script.proofs.gathering.give_limit.Statement.{statement}
 use Rattle.script.proofs.gathering.give_limit.Tie as tie
-use Rattle.script.proofs.gathering.give_limit.Reads as reads
-use Rattle.script.proofs.gathering.give_limit.Lts as lts
 
 returns : tie.Need-returns
 unfolding limitGiven

@@ -4,8 +4,6 @@ use Rattle.script.specs.Gathering.{inTurn}
 use borrow.Author.Needs.{needs}
 use Rattle.script.proofs.gathering.in_turn.Statement.{statement}
 use Rattle.script.proofs.gathering.in_turn.Tie as tie
-use Rattle.script.proofs.gathering.in_turn.Reads as reads
-use Rattle.script.proofs.gathering.in_turn.Lts as lts
 
 enum-told : tie.Need-enum-told
 enum-told c = search needs

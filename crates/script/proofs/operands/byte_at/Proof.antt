@@ -1,9 +1,8 @@
+-- The byte is there, or the command is cut short.
 use Rattle.script.proofs.Numbers.{byte-cut, byte-found}
 use borrow.Author.Needs.{needs}
 use Rattle.script.proofs.operands.byte_at.Statement.{statement}
 use Rattle.script.proofs.operands.byte_at.Tie as tie
-use Rattle.script.proofs.operands.byte_at.Reads as reads
-use Rattle.script.proofs.operands.byte_at.Lts as lts
 
 returns : tie.Need-returns
 returns c = byte-cut _ _ (c .if1 .taken)

@@ -1,10 +1,8 @@
+-- The script has ended, or its bytes from the offset on are the command.
 use Rattle.script.proofs.Numbers.{read-end, read-command}
 use borrow.Author.Needs.{needs}
 use Rattle.script.proofs.operands.command_at.Statement.{statement}
 use Rattle.script.proofs.operands.command_at.Tie as tie
-use Rattle.script.proofs.operands.command_at.Reads as reads
-use Rattle.script.proofs.operands.command_at.Lts as lts
-use Rattle.script.proofs.operands.command_by.Reads as command-by-reads
 
 returns : tie.Need-returns
 returns c = read-end _ _ (c .if1 .taken)

@@ -1,14 +1,10 @@
-use mathlib.Core.Path.{_≡_}
+-- The cases of the command's first byte. Where an operand is missing the command is cut short; where the last one is there, the command is
+-- whole.
 use native.Mathlib.Omega.{arith}
 use Rattle.script.proofs.Numbers.{byte-there, byte-missing, word-there, word-missing, unknown, source-cut, source-read, target-cut, target-read, limit-cut, limit-read, compile-read, step-cut, step-read, push-cut, push-read, pop-read}
 use borrow.Author.Needs.{needs}
 use Rattle.script.proofs.operands.command_by.Statement.{statement}
 use Rattle.script.proofs.operands.command_by.Tie as tie
-use Rattle.script.proofs.operands.command_by.Reads as reads
-use Rattle.script.proofs.operands.command_by.Lts as lts
-use Rattle.script.proofs.operands.byte_at.Reads as byte-at-reads
-use Rattle.script.proofs.operands.half_at.Reads as half-at-reads
-use Rattle.script.proofs.operands.word_at.Reads as word-at-reads
 
 byte-at-requires : tie.Need-byte-at-requires
 byte-at-requires c κs = search needs

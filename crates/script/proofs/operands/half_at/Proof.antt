@@ -1,10 +1,8 @@
+-- Both bytes are there, or the command is cut short.
 use Rattle.script.proofs.Numbers.{word-cut, half-found}
 use borrow.Author.Needs.{needs}
 use Rattle.script.proofs.operands.half_at.Statement.{statement}
 use Rattle.script.proofs.operands.half_at.Tie as tie
-use Rattle.script.proofs.operands.half_at.Reads as reads
-use Rattle.script.proofs.operands.half_at.Lts as lts
-use Rattle.script.proofs.operands.wide.Reads as wide-reads
 
 add-if1 : tie.Need-add-if1
 add-if1 c = search needs

@@ -1,8 +1,7 @@
+-- Below 13, or the test of 16.
 use borrow.Author.Tests.{lt-leb, le-leb}
 use Rattle.script.proofs.replies.goes_on.Statement.{statement}
 use Rattle.script.proofs.replies.goes_on.Tie as tie
-use Rattle.script.proofs.replies.goes_on.Reads as reads
-use Rattle.script.proofs.replies.goes_on.Lts as lts
 
 returns : tie.Need-returns
 returns c = simp (lt-leb 13 _ (c .if1 .taken))

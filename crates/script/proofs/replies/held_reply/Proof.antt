@@ -1,10 +1,9 @@
+-- The cases of the answer.
 use mathlib.Core.Path.{sym, ap}
 use Rattle.script.specs.Replies.{heldReply}
 use borrow.Author.Needs.{needs}
 use Rattle.script.proofs.replies.held_reply.Statement.{statement}
 use Rattle.script.proofs.replies.held_reply.Tie as tie
-use Rattle.script.proofs.replies.held_reply.Reads as reads
-use Rattle.script.proofs.replies.held_reply.Lts as lts
 
 enum-known-held : tie.Need-enum-known-held
 enum-known-held c = search needs

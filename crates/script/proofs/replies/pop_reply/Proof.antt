@@ -1,10 +1,9 @@
+-- The cases of the answer.
 use mathlib.Core.Path.{sym, ap}
 use Rattle.script.specs.Replies.{popReply}
 use borrow.Author.Needs.{needs}
 use Rattle.script.proofs.replies.pop_reply.Statement.{statement}
 use Rattle.script.proofs.replies.pop_reply.Tie as tie
-use Rattle.script.proofs.replies.pop_reply.Reads as reads
-use Rattle.script.proofs.replies.pop_reply.Lts as lts
 
 enum-known-answer : tie.Need-enum-known-answer
 enum-known-answer c = search needs

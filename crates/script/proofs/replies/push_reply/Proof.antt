@@ -1,9 +1,7 @@
+-- The cases of the answer.
 use borrow.Author.Needs.{needs}
 use Rattle.script.proofs.replies.push_reply.Statement.{statement}
 use Rattle.script.proofs.replies.push_reply.Tie as tie
-use Rattle.script.proofs.replies.push_reply.Reads as reads
-use Rattle.script.proofs.replies.push_reply.Lts as lts
-use Rattle.script.proofs.replies.held_reply.Reads as held-reply-reads
 
 enum-told : tie.Need-enum-told
 enum-told c = search needs

@@ -1,11 +1,7 @@
+-- The cases of the reply, each with its line.
 use borrow.Author.Needs.{needs}
 use Rattle.script.proofs.replies.put_reply.Statement.{statement}
 use Rattle.script.proofs.replies.put_reply.Tie as tie
-use Rattle.script.proofs.replies.put_reply.Reads as reads
-use Rattle.script.proofs.replies.put_reply.Lts as lts
-use Rattle.text.proofs.lines.put_in.Reads as put-in-reads
-use Rattle.text.proofs.lines.put_no.Reads as put-no-reads
-use Rattle.text.proofs.lines.put_out.Reads as put-out-reads
 
 enum-known-reply : tie.Need-enum-known-reply
 enum-known-reply c = search needs

@@ -1,9 +1,7 @@
+-- The cases of the reply.
 use borrow.Author.Needs.{needs}
 use Rattle.script.proofs.replies.stops.Statement.{statement}
 use Rattle.script.proofs.replies.stops.Tie as tie
-use Rattle.script.proofs.replies.stops.Reads as reads
-use Rattle.script.proofs.replies.stops.Lts as lts
-use Rattle.script.proofs.replies.goes_on.Reads as goes-on-reads
 
 enum-told : tie.Need-enum-told
 enum-told c = search needs
