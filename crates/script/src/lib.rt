@@ -59,7 +59,8 @@ pub fn read_at(script: &[u8], at: usize) -> Read
     next(reader_at(script, at))
 }
 
-// Runs a script: the text that it prints goes into `out`, as far as that goes, and the answer is where it ends there.
+// Runs a script: the text that it prints goes into `out`, as far as that goes, and the answer is where it ends there. What is printed of a
+// push or a pop is what the chip's side answers. Until 04 the pair is one that every call refuses, and no call reaches it.
 pub fn run(script: &[u8], out: &mut [u8]) -> usize
     ensures { λ r. ⌜ Puts (now (out .entry)) 0 (output (now (script .entry))) (now (out .exit)) r ⌝ }
 {

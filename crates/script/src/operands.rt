@@ -40,7 +40,9 @@ fn half_at(bytes: &[u8], place: usize) -> Word
     if bytes.len() < place + 2 {
         return Word::Missing;
     }
-    Word::Is(wide(bytes[place]) * 256 + wide(bytes[place + 1]))
+    let first = wide(bytes[place]);
+    let second = wide(bytes[place + 1]);
+    Word::Is(first * 256 + second)
 }
 
 fn word_at(bytes: &[u8], place: usize) -> Word

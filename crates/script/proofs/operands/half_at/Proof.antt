@@ -16,9 +16,6 @@ shared-slice-read-wide c = search needs
 wide-requires : tie.Need-wide-requires
 wide-requires c κs = search needs
 
-mul-t9 : tie.Need-mul-t9
-mul-t9 c = search needs
-
 add-wide : tie.Need-add-wide
 add-wide c = search needs
 
@@ -28,8 +25,11 @@ shared-slice-read-wide-2 c = search needs
 wide-requires-2 : tie.Need-wide-requires-2
 wide-requires-2 c κs = search needs
 
-add-t13 : tie.Need-add-t13
-add-t13 c = search needs
+mul-t11 : tie.Need-mul-t11
+mul-t11 c = search needs
+
+add-t12 : tie.Need-add-t12
+add-t12 c = search needs
 
 returns-2 : tie.Need-returns-2
 returns-2 c = half-found _ _ _ _ (c .before .before .before .before .if1 .left) (c .before .before .wide .ensures .0) (c .wide2 .ensures .0)
@@ -42,9 +42,9 @@ half-at-spec =
     returns
     shared-slice-read-wide
     wide-requires
-    mul-t9
     add-wide
     shared-slice-read-wide-2
     wide-requires-2
-    add-t13
+    mul-t11
+    add-t12
     returns-2)
