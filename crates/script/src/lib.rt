@@ -10,7 +10,7 @@ ghost use Rattle.script.specs.Output.{output};
 ghost use Rattle.script.specs.Reading.{readAt};
 
 // A command with its operands.
-pub enum Command {
+pub(crate) enum Command {
     // a node of the source, and of the target: its number of children
     Source(u8),
     Target(u8),
@@ -25,7 +25,7 @@ pub enum Command {
 }
 
 // What the reader finds: the end of the script; a command, and the offset of the next; or a refusal's number and the command's offset.
-pub enum Read {
+pub(crate) enum Read {
     End,
     Next(Command, usize),
     Refused(u8, usize),
@@ -33,27 +33,27 @@ pub enum Read {
 
 // The script reader: the script, and the offset of its next command. The borrow checker covers no function over a struct that holds a
 // slice, so there are three of them, thin, and `operands::command_at` does the work.
-pub struct Reader<'a> {
+struct Reader<'a> {
     pub script: &'a [u8],
     pub at: usize,
 }
 
 // A reader whose next command is at an offset.
-pub fn reader_at<'a>(script: &'a [u8], at: usize) -> Reader<'a>
+fn reader_at<'a>(script: &'a [u8], at: usize) -> Reader<'a>
     ensures { λ r. ⌜ (r .script ≡ script .entry) × (r .at ≡ at) ⌝ }
 {
     Reader { script, at }
 }
 
 // The reader's next command.
-pub fn next<'a>(reader: Reader<'a>) -> Read
+fn next<'a>(reader: Reader<'a>) -> Read
     ensures { λ r. ⌜ r ≡ readAt (now (reader .entry .script)) (reader .entry .at) ⌝ }
 {
     operands::command_at(reader.script, reader.at)
 }
 
 // The command at an offset of a script.
-pub fn read_at(script: &[u8], at: usize) -> Read
+fn read_at(script: &[u8], at: usize) -> Read
     ensures { λ r. ⌜ r ≡ readAt (now (script .entry)) at ⌝ }
 {
     next(reader_at(script, at))
