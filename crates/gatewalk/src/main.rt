@@ -8,7 +8,7 @@ fn walk(input: &mut [u8], text: &mut [u8]) {
     io::write_all(OUT, &text[..end]);
 }
 
-// A command is at least one byte and prints at most 13, `out` and a packet, but for one map of at most 100: so the text fits.
+// The text fits: at most 13 bytes for each command, and 100 for a map (`output-fits` in script/proofs/Lengths).
 fn main() {
     let mut input = [0u8; 65536];
     let mut text = [0u8; 852068];

@@ -8,18 +8,16 @@ use mathlib.Core.List.{List, [], _∷_}
 use mathlib.Core.Bool.{Bool, true, false, not, _&&_}
 use lib.ListN.{length, take, replicate, length-append, length-replicate}
 use lib.Seq.{take-all}
-use lib.Dec.{leb, eqb, ltb}
+use lib.Dec.{leb}
 use borrow.Author.Tests.{lt-leb}
 use Rattle.topology.specs.Reader.{pick, orElse, faultAt, faultFrom, fault, after}
 use Rattle.topology.proofs.Reader.{sound}
+use Rattle.topology.proofs.Lookup.{valid-length}
+use Rattle.topology.proofs.Refusals.{orElse-none, fault-most}
 use Rattle.embedding_laws.specs.Least.{Found, nothing, list, noneFault, leastMap, searchFault, padded, unlessRefused, searchMap}
 use Rattle.queue_tree.specs.Calls.{limitFault}
 use Rattle.paired.specs.Calls.{bothFault}
 use Rattle.script.specs.Sheet.{no-by, stops}
-
-orElse-none : (f r : ℕ) → orElse f r ≡ 0 → (f ≡ 0) × (r ≡ 0)
-orElse-none zero r e = (refl, e)
-orElse-none (suc f) r e = absurd (omega arith)
 
 -- what comes after matters only where the first is 0
 orElse-same : (f r s : ℕ) → (f ≡ 0 → r ≡ s) → orElse f r ≡ orElse f s
@@ -37,15 +35,8 @@ fault-kept : (limit : ℕ) (bytes : List ℕ) → fault limit (take (suc limit) 
 unfolding fault
 fault-kept limit bytes = fault-part limit 0 (suc limit) (1 ∷ []) bytes (omega arith) (omega arith)
 
-length-part : (limit n : ℕ) (owed bs : List ℕ) → n ≤ limit → faultFrom limit n owed bs ≡ 0 → n + length bs ≤ limit
-length-part limit n owed [] l e = omega arith
-length-part limit n owed (b ∷ bs) l e =
-    let o = orElse-none (faultAt limit n (length owed) b) (faultFrom limit (suc n) (after b owed) bs) e in
-    omega (arith, length-part limit (suc n) (after b owed) bs (sound limit n (length owed) b (o .0) .nodes) (o .1))
-
 whole : (limit : ℕ) (bytes : List ℕ) → fault limit bytes ≡ 0 → take (suc limit) bytes ≡ bytes
-unfolding fault
-whole limit bytes e = take-all (suc limit) bytes (omega (arith, length-part limit 0 (1 ∷ []) bytes (omega arith) e))
+whole limit bytes e = take-all (suc limit) bytes (omega (arith, valid-length limit bytes e))
 
 search-kept : (s t : List ℕ) → searchFault (take 33 s) (take 65 t) ≡ searchFault s t
 unfolding searchFault
@@ -68,11 +59,11 @@ module _ (s t : List ℕ) (limit : ℕ) where
       (whole 32 s (g .0), whole 64 t (orElse-none (fault 64 t) (noneFault (leastMap s t)) (g .1) .0))
 
   pub both-few : bothFault s t limit ≡ 0 → length s ≤ 32
-  unfolding bothFault searchFault fault
+  unfolding bothFault searchFault
   both-few e =
       let f = orElse-none (searchFault s t) (limitFault limit) e .0 in
       let g = orElse-none (fault 32 s) (orElse (fault 64 t) (noneFault (leastMap s t))) f in
-      omega (arith, length-part 32 0 (1 ∷ []) s (omega arith) (g .0))
+      valid-length 32 s (g .0)
 
 -- a number that is not 13 to 16
 abbrev Beside : ℕ → Type 0
@@ -86,26 +77,8 @@ beside-pick : (b : Bool) (f g : ℕ) → Beside f → Beside g → Beside (pick 
 beside-pick true f g h k = h
 beside-pick false f g h k = k
 
-small-pick : (b : Bool) (f g : ℕ) → f ≤ 5 → g ≤ 5 → pick b f g ≤ 5
-small-pick true f g h k = h
-small-pick false f g h k = k
-
-small-or : (f g : ℕ) → f ≤ 5 → g ≤ 5 → orElse f g ≤ 5
-small-or zero g h k = k
-small-or (suc f) g h k = h
-
-small-at : (limit n levels b : ℕ) → faultAt limit n levels b ≤ 5
-small-at limit n levels b =
-    small-pick (eqb levels 0) _ _ (omega arith)
-    (small-pick (leb limit n) _ _ (omega arith) (small-pick (ltb 8 b) _ _ (omega arith) (small-pick (ltb 9 levels) _ _ (omega arith) (omega arith))))
-
-small-from : (limit n : ℕ) (owed bs : List ℕ) → faultFrom limit n owed bs ≤ 5
-small-from limit n owed [] = small-pick (eqb (length owed) 0) _ _ (omega arith) (omega arith)
-small-from limit n owed (b ∷ bs) = small-or _ _ (small-at limit n (length owed) b) (small-from limit (suc n) (after b owed) bs)
-
 beside-fault : (limit : ℕ) (bytes : List ℕ) → Beside (fault limit bytes)
-unfolding fault
-beside-fault limit bytes = inl (omega (arith, small-from limit 0 (1 ∷ []) bytes))
+beside-fault limit bytes = inl (omega (arith, fault-most limit bytes))
 
 beside-none : (f : Found) → Beside (noneFault f)
 beside-none nothing = inl (omega arith)
