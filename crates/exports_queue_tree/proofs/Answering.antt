@@ -6,11 +6,12 @@ use mathlib.Core.List.{List}
 use Rattle.topology.specs.Reader.{pick}
 use Rattle.pifo.specs.Machine.{Call, Answer, refused, serve}
 use Rattle.pifo.specs.Tree.{held}
-use Rattle.queue_tree.specs.State.{machine, wellFormed, treeOf}
-use Rattle.queue_tree.specs.Calls.{Opens, Serves, amount}
-use Rattle.queue_tree.specs.declared.State.{State}
-use Rattle.queue_tree.specs.declared.Opened.{Opened}
-use Rattle.queue_tree.specs.declared.Amount.{Amount}
+use Rattle.queue_state.specs.State.{machine, wellFormed, treeOf}
+use Rattle.queue_state.specs.Opening.{Opens, amount}
+use Rattle.queue_tree.specs.Calls.{Serves}
+use Rattle.queue_state.specs.declared.State.{State}
+use Rattle.queue_state.specs.declared.Opened.{Opened}
+use Rattle.queue_state.specs.declared.Amount.{Amount}
 use Rattle.exports_queue_tree.specs.Plain.{stateOf, plainOf, Written}
 use Rattle.exports_queue_tree.specs.Answers.{opening, plainAmount, numberOf, valueOf, answered, Served}
 use Rattle.exports_queue_tree.specs.declared.PlainState.{PlainState}

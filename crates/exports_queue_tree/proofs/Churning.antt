@@ -8,10 +8,10 @@ use borrow.Author.Tests.{eq-eqb, ne-eqb}
 use Rattle.topology.specs.Reader.{pick}
 use Rattle.pifo.specs.Machine.{Machine, Answer, pushing, popping, after, serve}
 use Rattle.queue_tree.specs.Arrivals.{stepsOf}
-use Rattle.queue_tree.specs.State.{machine, wellFormed}
+use Rattle.queue_state.specs.State.{machine, wellFormed}
 use Rattle.queue_tree.specs.Calls.{Serves}
 use Rattle.queue_tree.specs.declared.Path.{Path}
-use Rattle.queue_tree.specs.declared.State.{State}
+use Rattle.queue_state.specs.declared.State.{State}
 use Rattle.exports_queue_tree.specs.Churn.{inTurn, roundOf, churned, Rounded, Churned}
 
 pub round-served : (s t u : State) (path : Path) (k : ℕ) (a b : Answer ℕ) → Serves s popping a t

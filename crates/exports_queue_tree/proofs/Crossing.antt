@@ -7,10 +7,10 @@ use native.Mathlib.Nat.{not-suc-le-zero, le-of-suc-le-suc}
 use native.Mathlib.Omega.{arith}
 use mathlib.Core.List.{List, [], _∷_, map}
 use lib.ListN.{length, getD}
-use Rattle.queue_tree.specs.declared.Item.{Item}
-use Rattle.queue_tree.specs.declared.Item.the-variants.{Child, Packet}
-use Rattle.queue_tree.specs.declared.Entry.{Entry}
-use Rattle.queue_tree.specs.declared.State.{State}
+use Rattle.queue_state.specs.declared.Item.{Item}
+use Rattle.queue_state.specs.declared.Item.the-variants.{Child, Packet}
+use Rattle.queue_state.specs.declared.Entry.{Entry}
+use Rattle.queue_state.specs.declared.State.{State}
 use Rattle.exports_queue_tree.specs.declared.PlainState.{PlainState}
 use Rattle.exports_queue_tree.specs.Plain.{stateOf, plainOf, Written, itemFrom, entryFrom, entriesFrom, rankOf, tagOf, childOf, packetOf, itemTag, itemChild, itemPacket}
 

@@ -3,12 +3,12 @@ use mathlib.Core.Path.{_≡_}
 use Prim.Native.Nat.{ℕ}
 use Rattle.topology.specs.Reader.{pick}
 use Rattle.pifo.specs.Machine.{Call, Answer, accepted, departed, refused, full, serve}
-use Rattle.queue_tree.specs.State.{machine, wellFormed}
+use Rattle.queue_state.specs.State.{machine, wellFormed}
 use Rattle.queue_tree.specs.Calls.{Serves}
-use Rattle.queue_tree.specs.declared.State.{State}
-use Rattle.queue_tree.specs.declared.Opened.{Opened}
-use Rattle.queue_tree.specs.declared.Amount.{Amount}
-use Rattle.queue_tree.specs.declared.Amount.the-variants.{Count, Refused}
+use Rattle.queue_state.specs.declared.State.{State}
+use Rattle.queue_state.specs.declared.Opened.{Opened}
+use Rattle.queue_state.specs.declared.Amount.{Amount}
+use Rattle.queue_state.specs.declared.Amount.the-variants.{Count, Refused}
 use Rattle.exports_queue_tree.specs.Plain.{stateOf, Written}
 use Rattle.exports_queue_tree.specs.declared.PlainState.{PlainState}
 use Rattle.exports_queue_tree.specs.declared.PlainOpened.{PlainOpened}

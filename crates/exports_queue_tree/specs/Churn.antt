@@ -7,9 +7,9 @@ use lib.Dec.{eqb}
 use Rattle.topology.specs.Reader.{pick}
 use Rattle.pifo.specs.Machine.{Machine, Call, pushing, popping, after}
 use Rattle.queue_tree.specs.Arrivals.{stepsOf}
-use Rattle.queue_tree.specs.State.{machine, wellFormed}
+use Rattle.queue_state.specs.State.{machine, wellFormed}
 use Rattle.queue_tree.specs.declared.Path.{Path}
-use Rattle.queue_tree.specs.declared.State.{State}
+use Rattle.queue_state.specs.declared.State.{State}
 
 -- one round: a pop, then the packet k along a path
 abbrev pub roundOf : Path → ℕ → List (Call ℕ)

@@ -2,10 +2,10 @@
 use mathlib.Core.Path.{_≡_}
 use Prim.Native.Nat.{ℕ, zero, suc}
 use mathlib.Core.List.{List, [], _∷_, map}
-use Rattle.queue_tree.specs.declared.Item.{Item}
-use Rattle.queue_tree.specs.declared.Item.the-variants.{Child, Packet}
-use Rattle.queue_tree.specs.declared.Entry.{Entry}
-use Rattle.queue_tree.specs.declared.State.{State}
+use Rattle.queue_state.specs.declared.Item.{Item}
+use Rattle.queue_state.specs.declared.Item.the-variants.{Child, Packet}
+use Rattle.queue_state.specs.declared.Entry.{Entry}
+use Rattle.queue_state.specs.declared.State.{State}
 use Rattle.exports_queue_tree.specs.declared.PlainState.{PlainState}
 
 -- a tag, a child and a packet as one item: the child where the tag is 0

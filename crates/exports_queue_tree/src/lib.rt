@@ -1,19 +1,20 @@
 // The queue tree's calls for a program in C or Rust: what `tests/` links and compares. An exported function can take or return no struct
 // that holds an enum, so a state crosses as plain numbers; `PlainState` says how.
-use queue_tree::Amount;
-use queue_tree::Entry;
-use queue_tree::Item;
+use queue_state::Amount;
+use queue_state::Entry;
+use queue_state::Item;
 use queue_tree::Path;
 use queue_tree::PopAnswer;
 use queue_tree::PushAnswer;
-use queue_tree::State;
+use queue_state::State;
 ghost use mathlib.Core.Path.{_≡_};
 ghost use mathlib.Core.List.{map};
 ghost use Rattle.pifo.specs.Machine.{pushing, popping};
 ghost use Rattle.pifo.specs.Tree.{held};
 ghost use Rattle.queue_tree.specs.Arrivals.{stepsOf};
-ghost use Rattle.queue_tree.specs.Calls.{Opens, amount, pushAnswer, popAnswer};
-ghost use Rattle.queue_tree.specs.State.{wellFormed, treeOf};
+ghost use Rattle.queue_state.specs.Opening.{Opens, amount};
+ghost use Rattle.queue_tree.specs.Calls.{pushAnswer, popAnswer};
+ghost use Rattle.queue_state.specs.State.{wellFormed, treeOf};
 ghost use Rattle.exports_queue_tree.specs.Plain.{itemFrom, entriesFrom, stateOf, plainOf, Written, tagOf, childOf, packetOf, rankOf};
 ghost use Rattle.exports_queue_tree.specs.Answers.{opening, plainAmount, numberOf, valueOf, Served};
 ghost use Rattle.exports_queue_tree.specs.Churn.{inTurn, Rounded, Churned};
@@ -225,7 +226,7 @@ fn amount_of(amount: Amount) -> PlainAmount
 pub extern "C" fn linduvar_open(bytes: &[u8], limit: usize) -> PlainOpened
     ensures { λ r. ⌜ Opens (now (bytes .entry)) limit (opening r) × Written (r .state) ⌝ }
 {
-    let opened = queue_tree::open(bytes, limit);
+    let opened = queue_state::open(bytes, limit);
     PlainOpened {
         state: plain(opened.state),
         refusal: opened.refusal,
@@ -237,7 +238,7 @@ pub extern "C" fn linduvar_open(bytes: &[u8], limit: usize) -> PlainOpened
 pub extern "C" fn linduvar_held(state: PlainState) -> PlainAmount
     ensures { λ r. ⌜ r ≡ plainAmount (amount (wellFormed (stateOf state)) (held (treeOf (stateOf state)))) ⌝ }
 {
-    amount_of(queue_tree::held(state_of(state)))
+    amount_of(queue_state::held(state_of(state)))
 }
 
 // How many pushes a tree has refused because it was full.
@@ -245,7 +246,7 @@ pub extern "C" fn linduvar_held(state: PlainState) -> PlainAmount
 pub extern "C" fn linduvar_refusals(state: PlainState) -> PlainAmount
     ensures { λ r. ⌜ r ≡ plainAmount (amount (wellFormed (stateOf state)) (state .refused)) ⌝ }
 {
-    amount_of(queue_tree::refusals(state_of(state)))
+    amount_of(queue_state::refusals(state_of(state)))
 }
 
 fn push_number(answer: PushAnswer) -> u8

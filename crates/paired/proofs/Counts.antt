@@ -5,10 +5,10 @@ use native.Mathlib.Omega.{arith}
 use mathlib.Core.Bool.{Bool, true, false}
 use Rattle.pifo.specs.Tree.{held}
 use Rattle.simulation.proofs.Simulation.{held-alike}
-use Rattle.queue_tree.specs.State.{treeOf, machine, wellFormed}
-use Rattle.queue_tree.specs.Calls.{amount}
-use Rattle.queue_tree.specs.declared.Amount.the-variants.{Count, Refused}
-use Rattle.queue_tree.proofs.Matches.{off}
+use Rattle.queue_state.specs.State.{treeOf, machine, wellFormed}
+use Rattle.queue_state.specs.Opening.{amount}
+use Rattle.queue_state.specs.declared.Amount.the-variants.{Count, Refused}
+use Rattle.queue_state.proofs.Matches.{off}
 use Rattle.paired.specs.Pair.{sourceTree, chipTree, images, mapped, wellPaired, InStep}
 use Rattle.paired.specs.Calls.{CountsBoth}
 use Rattle.paired.specs.declared.Pair.{Pair}

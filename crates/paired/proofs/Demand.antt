@@ -21,13 +21,14 @@ use Rattle.pifo.proofs.Runs.{served}
 use Rattle.pifo.proofs.Wellness.{packets-empty}
 use Rattle.embedding_laws.specs.Rules.{Passes}
 use Rattle.embedding_laws.proofs.Searching.{search-twelve}
-use Rattle.queue_tree.specs.State.{bytes, treeOf, machine, wellFormed}
+use Rattle.queue_state.specs.State.{bytes, treeOf, machine, wellFormed}
 use Rattle.queue_tree.specs.Arrivals.{stepsOf}
-use Rattle.queue_tree.specs.Calls.{limitFault, Serves}
-use Rattle.queue_tree.specs.declared.State.{State}
+use Rattle.queue_state.specs.Opening.{limitFault}
+use Rattle.queue_tree.specs.Calls.{Serves}
+use Rattle.queue_state.specs.declared.State.{State}
 use Rattle.queue_tree.specs.declared.Path.{Path}
-use Rattle.queue_tree.specs.declared.Amount.the-variants.{Count}
-use Rattle.queue_tree.proofs.Verdict.{formed}
+use Rattle.queue_state.specs.declared.Amount.the-variants.{Count}
+use Rattle.queue_state.proofs.Verdict.{formed}
 use Rattle.translator.specs.Carry.{carryFault, Carries}
 use Rattle.translator.specs.declared.Carried.{Carried}
 use Rattle.translator.proofs.Outcome.{carried-steps}

@@ -19,10 +19,10 @@ use Rattle.embedding_laws.proofs.Rules.{mapFault-none, mapFault-most}
 use Rattle.embedding.specs.Answers.{checked}
 use Rattle.embedding.specs.declared.Checked.{Checked}
 use Rattle.embedding.specs.declared.Checked.the-variants.{Passes, Refused}
-use Rattle.queue_tree.specs.State.{bytes}
+use Rattle.queue_state.specs.State.{bytes}
 use Rattle.queue_tree.specs.Arrivals.{stepsOf}
 use Rattle.queue_tree.specs.declared.Path.{Path}
-use Rattle.queue_tree.proofs.Verdict.{formed}
+use Rattle.queue_state.proofs.Verdict.{formed}
 use Rattle.translator.specs.Carry.{carryFault, Carries}
 use Rattle.translator.specs.declared.Carried.{Carried}
 use Rattle.translator.proofs.Outcome.{map-passes, carry-none, carried-steps}

@@ -9,10 +9,10 @@ use Rattle.pifo.proofs.Order.{both, join}
 use Rattle.embedding_laws.specs.Rules.{Passes}
 use Rattle.embedding_laws.specs.Check.{mapFault}
 use Rattle.embedding_laws.proofs.Rules.{mapFault-none}
-use Rattle.queue_tree.specs.State.{bytes, wellFormed}
-use Rattle.queue_tree.specs.declared.State.{State}
-use Rattle.queue_tree.proofs.Verdict.{formed}
-use Rattle.queue_tree.proofs.Matches.{off}
+use Rattle.queue_state.specs.State.{bytes, wellFormed}
+use Rattle.queue_state.specs.declared.State.{State}
+use Rattle.queue_state.proofs.Verdict.{formed}
+use Rattle.queue_state.proofs.Matches.{off}
 use Rattle.paired.specs.Pair.{sourceTree, chipTree, images, mapped, wellPaired}
 use Rattle.paired.specs.declared.Pair.{Pair}
 

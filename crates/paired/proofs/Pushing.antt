@@ -8,10 +8,10 @@ use Rattle.topology.proofs.Cases.{clash}
 use Rattle.pifo.specs.Tree.{pathFault}
 use Rattle.pifo.specs.Machine.{Call, pushing, popping, Answer, accepted, departed, refused, full}
 use Rattle.pifo.proofs.Answers.{push-fault}
-use Rattle.queue_tree.specs.State.{machine, wellFormed}
+use Rattle.queue_state.specs.State.{machine, wellFormed}
 use Rattle.queue_tree.specs.Arrivals.{stepsOf}
 use Rattle.queue_tree.specs.Calls.{Serves}
-use Rattle.queue_tree.specs.declared.State.{State}
+use Rattle.queue_state.specs.declared.State.{State}
 use Rattle.queue_tree.specs.declared.Path.{Path}
 use Rattle.translator.specs.declared.Carried.{Carried}
 use Rattle.paired.specs.Pair.{sourceTree, mapped, wellPaired}

@@ -20,10 +20,10 @@ use Rattle.embedding_laws.specs.Least.{leastMap, noneFault, searchFault, search
 use Rattle.embedding_laws.proofs.Rules.{mapFault-none}
 use Rattle.embedding_laws.proofs.Searching.{search-map}
 use Rattle.simulation.proofs.Simulation.{paired-opened}
-use Rattle.queue_tree.specs.State.{bytes, machine}
-use Rattle.queue_tree.specs.Calls.{limitFault, openFault, Opens}
-use Rattle.queue_tree.specs.declared.Opened.{Opened}
-use Rattle.queue_tree.proofs.Verdict.{formed}
+use Rattle.queue_state.specs.State.{bytes, machine}
+use Rattle.queue_state.specs.Opening.{limitFault, openFault, Opens}
+use Rattle.queue_state.specs.declared.Opened.{Opened}
+use Rattle.queue_state.proofs.Verdict.{formed}
 use Rattle.paired.specs.Pair.{mapped, InStep}
 use Rattle.paired.specs.Calls.{bothFault, OpensBoth}
 use Rattle.paired.proofs.Parts.{joined, not-source}

@@ -11,10 +11,11 @@ use Rattle.pifo.specs.Machine.{Call, Answer, accepted, departed, refused, full,
 use Rattle.embedding_laws.specs.Least.{searchFault, searchMap}
 use Rattle.simulation.specs.Carrying.{carry}
 use Rattle.simulation.specs.Sheet.{serveCarried}
-use Rattle.queue_tree.specs.State.{machine, wellFormed}
+use Rattle.queue_state.specs.State.{machine, wellFormed}
 use Rattle.queue_tree.specs.Arrivals.{stepsOf}
-use Rattle.queue_tree.specs.Calls.{limitFault, amount, counting, Serves}
-use Rattle.queue_tree.specs.declared.State.{State}
+use Rattle.queue_state.specs.Opening.{limitFault, amount}
+use Rattle.queue_tree.specs.Calls.{counting, Serves}
+use Rattle.queue_state.specs.declared.State.{State}
 use Rattle.queue_tree.specs.declared.Path.{Path}
 use Rattle.translator.specs.declared.Carried.{Carried}
 use Rattle.paired.specs.Pair.{sourceTree, chipTree, images, mapped, wellPaired, InStep}

@@ -13,14 +13,15 @@ use Rattle.pifo.specs.Machine.{pushing, popping, Answer, refused, most}
 use Rattle.pifo.specs.Runs.{acceptedBy, departedBy, fullBy}
 use Rattle.embedding_laws.specs.Rules.{Passes}
 use Rattle.embedding_laws.specs.Least.{searchFault}
-use Rattle.queue_tree.specs.State.{treeOf, wellFormed}
+use Rattle.queue_state.specs.State.{treeOf, wellFormed}
 use Rattle.queue_tree.specs.Arrivals.{stepsOf}
-use Rattle.queue_tree.specs.Calls.{amount, Opens, Serves}
-use Rattle.queue_tree.specs.declared.State.{State}
+use Rattle.queue_state.specs.Opening.{amount, Opens}
+use Rattle.queue_tree.specs.Calls.{Serves}
+use Rattle.queue_state.specs.declared.State.{State}
 use Rattle.queue_tree.specs.declared.Path.{Path}
-use Rattle.queue_tree.specs.declared.Opened.{Opened}
-use Rattle.queue_tree.specs.declared.Amount.{Amount}
-use Rattle.queue_tree.specs.declared.Amount.the-variants.{Count}
+use Rattle.queue_state.specs.declared.Opened.{Opened}
+use Rattle.queue_state.specs.declared.Amount.{Amount}
+use Rattle.queue_state.specs.declared.Amount.the-variants.{Count}
 use Rattle.translator.specs.Carry.{Carries}
 use Rattle.translator.specs.declared.Carried.{Carried}
 

@@ -9,7 +9,7 @@ use Rattle.topology.specs.Tree.{Topo}
 use Rattle.topology.specs.Reader.{tree}
 use Rattle.embedding_laws.specs.Check.{mapFault}
 use Rattle.simulation.specs.Sheet.{Paired}
-use Rattle.queue_tree.specs.State.{bytes, machine, wellFormed}
+use Rattle.queue_state.specs.State.{bytes, machine, wellFormed}
 use Rattle.paired.specs.declared.Pair.{Pair}
 
 -- the two topologies

@@ -1,11 +1,11 @@
 // Both trees on one sheet: the tree that a park draws and the tree of a gateway's chip, served together. Each call goes to both; a push
 // gives the drawn tree the path as it is and the chip's tree the path carried over.
 use embedding::Checked;
-use queue_tree::Amount;
+use queue_state::Amount;
 use queue_tree::Path;
 use queue_tree::PopAnswer;
 use queue_tree::PushAnswer;
-use queue_tree::State;
+use queue_state::State;
 use topology::SOURCE_NODES;
 use topology::TARGET_NODES;
 use translator::Carried;
@@ -13,10 +13,10 @@ ghost use mathlib.Core.Path.{_≡_};
 ghost use mathlib.Core.Bool.{true, false};
 ghost use Rattle.pifo.specs.Machine.{pushing, popping, refused};
 ghost use Rattle.pifo.specs.Tree.{held};
-ghost use Rattle.queue_tree.specs.State.{treeOf};
+ghost use Rattle.queue_state.specs.State.{treeOf};
 ghost use Rattle.queue_tree.specs.Arrivals.{stepsOf};
 ghost use Rattle.queue_tree.specs.Calls.{pushAnswer, popAnswer};
-ghost use Rattle.queue_tree.specs.declared.Amount.the-variants.{Refused};
+ghost use Rattle.queue_state.specs.declared.Amount.the-variants.{Refused};
 ghost use Rattle.paired.specs.Pair.{mapped, wellPaired};
 ghost use Rattle.paired.specs.Calls.{OpensBoth, ServesBoth, CountsBoth, isIll, CarriesFor};
 
@@ -82,7 +82,7 @@ pub fn open(source: &[u8], target: &[u8], limit: usize) -> PairOpened
     let map = found.map;
     let number = found.number;
     if number != 0 {
-        let none = queue_tree::open(&source[..0], limit);
+        let none = queue_state::open(&source[..0], limit);
         let state = none.state;
         return PairOpened {
             pair: Pair {
@@ -93,9 +93,9 @@ pub fn open(source: &[u8], target: &[u8], limit: usize) -> PairOpened
             refusal: number,
         };
     }
-    let drawn = queue_tree::open(source, limit);
+    let drawn = queue_state::open(source, limit);
     let drawn_state = drawn.state;
-    let chip = queue_tree::open(target, limit);
+    let chip = queue_state::open(target, limit);
     let chip_state = chip.state;
     PairOpened {
         pair: Pair {
@@ -174,7 +174,7 @@ pub fn push(pair: Pair, path: Path, packet: u32) -> PairPushed
     }
     let chip = pair.chip;
     if fault != 0 {
-        let Amount::Count(_) = queue_tree::held(chip) else {
+        let Amount::Count(_) = queue_state::held(chip) else {
             return no_push(pair);
         };
         return PairPushed {
@@ -274,11 +274,11 @@ pub fn held(pair: Pair) -> PairAmount
         return no_amount();
     }
     let source = pair.source;
-    let Amount::Count(source_held) = queue_tree::held(source) else {
+    let Amount::Count(source_held) = queue_state::held(source) else {
         return no_amount();
     };
     let chip = pair.chip;
-    let Amount::Count(chip_held) = queue_tree::held(chip) else {
+    let Amount::Count(chip_held) = queue_state::held(chip) else {
         return no_amount();
     };
     PairAmount {
@@ -295,11 +295,11 @@ pub fn refusals(pair: Pair) -> PairAmount
         return no_amount();
     }
     let source = pair.source;
-    let Amount::Count(source_refused) = queue_tree::refusals(source) else {
+    let Amount::Count(source_refused) = queue_state::refusals(source) else {
         return no_amount();
     };
     let chip = pair.chip;
-    let Amount::Count(chip_refused) = queue_tree::refusals(chip) else {
+    let Amount::Count(chip_refused) = queue_state::refusals(chip) else {
         return no_amount();
     };
     PairAmount {

@@ -21,15 +21,15 @@ use Rattle.topology.proofs.Children.{HasChild, childOf-lt, childOf-ahead, subtr
 use Rattle.topology.proofs.Lookup.{valid-size, valid-length, valid-child, valid-missing}
 use Rattle.pifo.specs.Queue.{Entry, entry, child, packet}
 use Rattle.pifo.specs.Numbered.{Queues, kidAt, through, descentBy, descent, isIn}
-use Rattle.queue_tree.specs.State.{entryOf, itemOf}
-use Rattle.queue_tree.specs.Sound.{noEntry}
+use Rattle.queue_state.specs.State.{entryOf, itemOf}
+use Rattle.queue_state.specs.Sound.{noEntry}
 use Rattle.queue_tree.specs.Arrivals.{marked}
 use Rattle.queue_tree.specs.Departures.{headOf, Heading, Down}
-use Rattle.queue_tree.specs.declared.Item.{Item as CodeItem}
-use Rattle.queue_tree.specs.declared.Item.the-variants.{Child, Packet}
+use Rattle.queue_state.specs.declared.Item.{Item as CodeItem}
+use Rattle.queue_state.specs.declared.Item.the-variants.{Child, Packet}
 use Rattle.queue_tree.specs.declared.departures.Heads.{Heads}
 use Rattle.queue_tree.specs.declared.departures.Trail.{Trail}
-use Rattle.queue_tree.proofs.Matches.{off}
+use Rattle.queue_state.proofs.Matches.{off}
 use Rattle.queue_tree.proofs.Walking.{zeros-at}
 
 -- ---- heads

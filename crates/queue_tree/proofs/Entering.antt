@@ -17,14 +17,14 @@ use Rattle.pifo.specs.Queue.{Entry, rank, insert, risesFrom}
 use Rattle.pifo.specs.Numbered.{insertSome}
 use Rattle.pifo.proofs.Append.{lastFrom, rises-append, last-append, insert-last, insert-before}
 use Rattle.pifo.proofs.Order.{both, join}
-use Rattle.queue_tree.specs.State.{entryOf, owned, queueIn, allBelow}
-use Rattle.queue_tree.specs.Sound.{noEntry}
+use Rattle.queue_state.specs.State.{entryOf, owned, queueIn, allBelow}
+use Rattle.queue_state.specs.Sound.{noEntry}
 use Rattle.queue_tree.specs.Arrivals.{sum, marked, addedAt, Ready, Entered}
-use Rattle.queue_tree.specs.declared.Entry.{Entry as CodeEntry}
+use Rattle.queue_state.specs.declared.Entry.{Entry as CodeEntry}
 use Rattle.queue_tree.specs.declared.arrivals.Added.{Added}
 use Rattle.queue_tree.specs.declared.arrivals.Lists.{Lists}
-use Rattle.queue_tree.proofs.Owned.{queue-own, queue-other, queue-front}
-use Rattle.queue_tree.proofs.Pass.{below-at, below-append}
+use Rattle.queue_state.proofs.Owned.{queue-own, queue-other, queue-front}
+use Rattle.queue_state.proofs.Pass.{below-at, below-append}
 use Rattle.queue_tree.proofs.Ranges.{range, queue-split, range-empty, stored-own, stored-other}
 use Rattle.queue_tree.proofs.Walking.{sum-set}
 

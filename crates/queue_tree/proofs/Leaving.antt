@@ -13,12 +13,12 @@ use lib.Seq.{take-suc-set, drop-drop, drop-set-lt, getD-set-same, getD-set-other
 use borrow.Author.Tests.{lt-ltb}
 use Rattle.pifo.specs.Queue.{Entry}
 use Rattle.pifo.proofs.Order.{join}
-use Rattle.queue_tree.specs.State.{entryOf, owned, queueIn, allBelow}
-use Rattle.queue_tree.specs.Sound.{noEntry}
+use Rattle.queue_state.specs.State.{entryOf, owned, queueIn, allBelow}
+use Rattle.queue_state.specs.Sound.{noEntry}
 use Rattle.queue_tree.specs.Departures.{unless, Stays}
-use Rattle.queue_tree.specs.declared.Entry.{Entry as CodeEntry}
-use Rattle.queue_tree.proofs.Owned.{queue-own, queue-other}
-use Rattle.queue_tree.proofs.Pass.{below-at, below-append}
+use Rattle.queue_state.specs.declared.Entry.{Entry as CodeEntry}
+use Rattle.queue_state.proofs.Owned.{queue-own, queue-other}
+use Rattle.queue_state.proofs.Pass.{below-at, below-append}
 use Rattle.queue_tree.proofs.Ranges.{range, range-empty, range-own, range-other}
 
 pub record Leaving (os : List ℕ) (es : List CodeEntry) (used nodes : ℕ) (lost : List ℕ) (marks owners : List ℕ) (entries : List CodeEntry) (kept i : ℕ) : Type 0 where

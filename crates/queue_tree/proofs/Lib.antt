@@ -1,8 +1,3 @@
-pub mod Owned
-pub mod Slots
-pub mod Pass
-pub mod Matches
-pub mod Verdict
 pub mod Paths
 pub mod Walking
 pub mod Ranges
@@ -13,4 +8,3 @@ pub mod Tops
 pub mod Leaving
 pub mod Descending
 pub mod Popping
-pub mod Fresh

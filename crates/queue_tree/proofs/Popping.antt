@@ -23,13 +23,13 @@ use Rattle.pifo.specs.Machine.{popping, Answer, departed, refused, full, serveP
 use Rattle.pifo.proofs.Numbered.{taken, assemble-same, pop-assemble}
 use Rattle.pifo.proofs.Pop.{pop-none, pop-some}
 use Rattle.pifo.proofs.Answers.{pop-refused}
-use Rattle.queue_tree.specs.State.{queueIn, queues, bytes, treeOf, machine, allBelow, wellFormed}
+use Rattle.queue_state.specs.State.{queueIn, queues, bytes, treeOf, machine, allBelow, wellFormed}
 use Rattle.queue_tree.specs.Departures.{Down, unless, Stays}
 use Rattle.queue_tree.specs.Calls.{Serves}
-use Rattle.queue_tree.specs.declared.State.{State}
+use Rattle.queue_state.specs.declared.State.{State}
 use Rattle.queue_tree.specs.declared.departures.Trail.{Trail}
 use Rattle.queue_tree.specs.declared.departures.Rest.{Rest}
-use Rattle.queue_tree.proofs.Verdict.{Formed, Arrays, formed, form}
+use Rattle.queue_state.proofs.Verdict.{Formed, Arrays, formed, form}
 use Rattle.queue_tree.proofs.Served.{apart, served}
 
 wider : (k n : ℕ) (l : List ℕ) → k ≤ n → allBelow k l ≡ true → allBelow n l ≡ true

@@ -12,9 +12,9 @@ use Rattle.lists.proofs.Slice.{take-slice, slice-set}
 use borrow.Author.Tests.{eq-eqb, ne-eqb}
 use Rattle.topology.specs.Reader.{pick}
 use Rattle.pifo.specs.Queue.{Entry}
-use Rattle.queue_tree.specs.State.{entryOf, owned, queueIn}
-use Rattle.queue_tree.specs.Sound.{noEntry}
-use Rattle.queue_tree.specs.declared.Entry.{Entry as CodeEntry}
+use Rattle.queue_state.specs.State.{entryOf, owned, queueIn}
+use Rattle.queue_state.specs.Sound.{noEntry}
+use Rattle.queue_state.specs.declared.Entry.{Entry as CodeEntry}
 
 -- the queue of node n among the entries from index k up to, not including, index b
 abbrev pub range : List ℕ → List CodeEntry → ℕ → ℕ → ℕ → List (Entry ℕ)

@@ -19,9 +19,9 @@ use Rattle.pifo.specs.Tree.{shape, held}
 use Rattle.pifo.proofs.Order.{both}
 use Rattle.pifo.proofs.Numbered.{shape-assemble}
 use Rattle.pifo.proofs.Total.{total, total-held, total-assemble, sumFrom}
-use Rattle.queue_tree.specs.State.{entryOf, owned, queueIn, queues, bytes, treeOf, allBelow}
-use Rattle.queue_tree.specs.declared.State.{State}
-use Rattle.queue_tree.proofs.Verdict.{Formed, Arrays}
+use Rattle.queue_state.specs.State.{entryOf, owned, queueIn, queues, bytes, treeOf, allBelow}
+use Rattle.queue_state.specs.declared.State.{State}
+use Rattle.queue_state.proofs.Verdict.{Formed, Arrays}
 
 -- ---- each element has one owner
 

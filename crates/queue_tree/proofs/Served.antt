@@ -4,7 +4,7 @@ use mathlib.Core.Logic.{_≢_}
 use Prim.Native.Nat.{ℕ, zero, suc, _+_, _≤_, _<_, min}
 use native.Mathlib.Omega.{arith}
 use mathlib.Core.List.{List}
-use mathlib.Core.Bool.{Bool, true, false}
+use mathlib.Core.Bool.{true, false}
 use lib.ListN.{length, take}
 use lib.Seq.{length-take-le}
 use Rattle.topology.specs.Tree.{Topo}
@@ -20,17 +20,14 @@ use Rattle.pifo.specs.Machine.{Machine, Call, pushing, Answer, accepted, refuse
 use Rattle.pifo.proofs.Numbered.{shape-assemble, assemble-same, push-assemble}
 use Rattle.pifo.proofs.Push.{push-well, push-held}
 use Rattle.pifo.proofs.Answers.{push-fault, push-full, push-accepted}
-use Rattle.queue_tree.specs.State.{queueIn, queues, bytes, treeOf, machine, inBounds, wellFormed}
-use Rattle.queue_tree.specs.Sound.{Tests}
+use Rattle.queue_state.specs.State.{queueIn, queues, bytes, treeOf, machine, inBounds, wellFormed}
 use Rattle.queue_tree.specs.Arrivals.{Walked, Ready, Entered}
-use Rattle.queue_tree.specs.Calls.{amount, Serves, counting}
-use Rattle.queue_tree.specs.declared.Amount.the-variants.{Count, Refused}
-use Rattle.queue_tree.specs.declared.State.{State}
+use Rattle.queue_tree.specs.Calls.{Serves, counting}
+use Rattle.queue_state.specs.declared.State.{State}
 use Rattle.queue_tree.specs.declared.arrivals.Added.{Added}
 use Rattle.queue_tree.specs.declared.arrivals.Lists.{Lists}
-use Rattle.queue_tree.specs.declared.soundness.Test.{Test}
-use Rattle.queue_tree.proofs.Matches.{off}
-use Rattle.queue_tree.proofs.Verdict.{Formed, Arrays, formed, form}
+use Rattle.queue_state.proofs.Matches.{off}
+use Rattle.queue_state.proofs.Verdict.{Formed, Arrays, formed, form}
 use Rattle.queue_tree.proofs.Rooms.{room}
 
 full-same : {a b : ℕ} → _≡_ {A = Answer ℕ} (full a) (full b) → a ≡ b
@@ -55,14 +52,6 @@ ill-served s call f =
       kept = λ n _. refl;
       counted = λ c e. apart e;
     }
-
--- ---- a count
-
-pub counted-amount : (s : State) (r : Test) → Tests s r → r .sound ≡ true → (n : ℕ) → Count n ≡ amount (wellFormed s) n
-counted-amount s r t e n = ap (λ (b : Bool). amount b n) (sym e ∙ t .sound)
-
-pub ill-amount : (s : State) (r : Test) → Tests s r → r .sound ≡ false → (n : ℕ) → Refused 18 ≡ amount (wellFormed s) n
-ill-amount s r t e n = ap (λ (b : Bool). amount b n) (sym e ∙ t .sound)
 
 -- ---- a push
 

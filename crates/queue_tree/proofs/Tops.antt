@@ -10,12 +10,12 @@ use mathlib.Core.Option.{Option, none, some}
 use lib.ListN.{length, take, getD, set, replicate, length-set, length-replicate}
 use lib.Seq.{getD-set-same, getD-set-other, getD-take, length-take-le}
 use Rattle.pifo.specs.Queue.{Entry}
-use Rattle.queue_tree.specs.State.{entryOf, queueIn, allBelow}
-use Rattle.queue_tree.specs.Sound.{noEntry}
+use Rattle.queue_state.specs.State.{entryOf, queueIn, allBelow}
+use Rattle.queue_state.specs.Sound.{noEntry}
 use Rattle.queue_tree.specs.Arrivals.{marked}
 use Rattle.queue_tree.specs.Departures.{headOf, Heading}
-use Rattle.queue_tree.specs.declared.Entry.{Entry as CodeEntry}
-use Rattle.queue_tree.proofs.Pass.{below-at}
+use Rattle.queue_state.specs.declared.Entry.{Entry as CodeEntry}
+use Rattle.queue_state.proofs.Pass.{below-at}
 use Rattle.queue_tree.proofs.Ranges.{range, range-empty, range-own, range-other}
 use Rattle.queue_tree.proofs.Walking.{zeros-at}
 

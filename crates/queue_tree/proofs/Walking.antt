@@ -27,13 +27,13 @@ use Rattle.pifo.specs.Queue.{Entry, entry, child as childItem, packet}
 use Rattle.pifo.specs.Tree.{Step, step, pathFault}
 use Rattle.pifo.specs.Numbered.{kidAt, entered}
 use Rattle.pifo.proofs.Paths.{fault-above, fault-on, fault-off}
-use Rattle.queue_tree.specs.State.{entryOf}
-use Rattle.queue_tree.specs.Sound.{noEntry}
+use Rattle.queue_state.specs.State.{entryOf}
+use Rattle.queue_state.specs.Sound.{noEntry}
 use Rattle.queue_tree.specs.Arrivals.{stepOf, stepsOf, sum, marked, Walked}
 use Rattle.queue_tree.specs.declared.Path.{Path}
 use Rattle.queue_tree.specs.declared.Step.{Step as CodeStep}
-use Rattle.queue_tree.specs.declared.Item.the-variants.{Child, Packet}
-use Rattle.queue_tree.specs.declared.Entry.{Entry as CodeEntry}
+use Rattle.queue_state.specs.declared.Item.the-variants.{Child, Packet}
+use Rattle.queue_state.specs.declared.Entry.{Entry as CodeEntry}
 use Rattle.queue_tree.specs.declared.arrivals.Added.{Added}
 use Rattle.queue_tree.proofs.Paths.{step-at, steps-end}
 

@@ -9,11 +9,11 @@ use mathlib.Core.Bool.{true}
 use Rattle.pifo.specs.Queue.{Entry, risesFrom}
 use Rattle.pifo.specs.Tree.{Step, step, pathFault}
 use Rattle.pifo.specs.Numbered.{entered, insertSome}
-use Rattle.queue_tree.specs.State.{entryOf, queueIn, allBelow}
-use Rattle.queue_tree.specs.Sound.{noEntry}
+use Rattle.queue_state.specs.State.{entryOf, queueIn, allBelow}
+use Rattle.queue_state.specs.Sound.{noEntry}
 use Rattle.queue_tree.specs.declared.Step.{Step as CodeStep}
 use Rattle.queue_tree.specs.declared.Path.{Path}
-use Rattle.queue_tree.specs.declared.Entry.{Entry as CodeEntry}
+use Rattle.queue_state.specs.declared.Entry.{Entry as CodeEntry}
 use Rattle.queue_tree.specs.declared.arrivals.Added.{Added}
 use Rattle.queue_tree.specs.declared.arrivals.Lists.{Lists}
 

@@ -1,48 +1,14 @@
 -- What the calls promise: for every state and argument the answer, and the state after it.
 use mathlib.Core.Path.{_≡_}
-use mathlib.Core.Logic.{_≢_}
 use Prim.Native.Nat.{ℕ}
-use mathlib.Core.List.{List}
-use mathlib.Core.Bool.{Bool, true, false, _&&_}
-use lib.Dec.{leb}
-use Rattle.topology.specs.Reader.{pick, orElse, fault, tree}
-use Rattle.pifo.specs.Machine.{Call, Answer, accepted, departed, refused, full, serve, opened}
-use Rattle.queue_tree.specs.State.{machine, wellFormed}
-use Rattle.queue_tree.specs.declared.State.{State}
-use Rattle.queue_tree.specs.declared.Opened.{Opened}
-use Rattle.queue_tree.specs.declared.Amount.{Amount}
-use Rattle.queue_tree.specs.declared.Amount.the-variants.{Count, Refused as AmountRefused}
+use mathlib.Core.Bool.{true, false}
+use Rattle.pifo.specs.Machine.{Call, Answer, accepted, departed, refused, full, serve}
+use Rattle.queue_state.specs.State.{machine, wellFormed}
+use Rattle.queue_state.specs.declared.State.{State}
 use Rattle.queue_tree.specs.declared.PushAnswer.{PushAnswer}
 use Rattle.queue_tree.specs.declared.PushAnswer.the-variants.{Accepted, Refused, Full}
 use Rattle.queue_tree.specs.declared.PopAnswer.{PopAnswer}
 use Rattle.queue_tree.specs.declared.PopAnswer.the-variants.{Departed, Refused as PopRefused}
-
--- The number by which an opening is refused: a fault of the topology, or a limit that is not 1 to 256.
-abbrev pub limitFault : ℕ → ℕ
-limitFault limit = pick (leb 1 limit && leb limit 256) 0 17
-
-unfoldable pub openFault : List ℕ → ℕ → ℕ
-openFault bytes limit = orElse (fault 64 bytes) (limitFault limit)
-
--- An opening: the empty machine, well formed; where it is refused, a state that is not well formed.
-pub record Opens (bytes : List ℕ) (limit : ℕ) (r : Opened) : Type 0 where
-  pub refusal : r .refusal ≡ openFault bytes limit
-  pub machine : r .refusal ≡ 0 → machine (r .state) ≡ opened (tree bytes) limit
-  pub formed : r .refusal ≡ 0 → wellFormed (r .state) ≡ true
-  pub nothing : r .refusal ≢ 0 → wellFormed (r .state) ≡ false
-
--- a state with no entries and nothing counted
-pub record Empty (bytes : List ℕ) (count most : ℕ) (r : State) : Type 0 where
-  pub topology : r .topology ≡ bytes
-  pub nodes : r .nodes ≡ count
-  pub limit : r .limit ≡ most
-  pub refused : r .refused ≡ 0
-  pub used : r .used ≡ 0
-
--- a count where the state is well formed, else 18
-abbrev pub amount : Bool → ℕ → Amount
-amount true n = Count n
-amount false n = AmountRefused 18
 
 -- the paper's answer for each case of the code's
 abbrev pub pushAnswer : PushAnswer → Answer ℕ

@@ -8,10 +8,10 @@ use lib.ListN.{length, take, getD}
 use Rattle.topology.specs.Reader.{pick}
 use Rattle.pifo.specs.Queue.{Entry}
 use Rattle.pifo.specs.Numbered.{Queues, isIn, rest}
-use Rattle.queue_tree.specs.State.{entryOf, queueIn, allBelow}
-use Rattle.queue_tree.specs.Sound.{noEntry}
+use Rattle.queue_state.specs.State.{entryOf, queueIn, allBelow}
+use Rattle.queue_state.specs.Sound.{noEntry}
 use Rattle.queue_tree.specs.Arrivals.{marked}
-use Rattle.queue_tree.specs.declared.Entry.{Entry as CodeEntry}
+use Rattle.queue_state.specs.declared.Entry.{Entry as CodeEntry}
 use Rattle.queue_tree.specs.declared.departures.Heads.{Heads}
 use Rattle.queue_tree.specs.declared.departures.Trail.{Trail}
 use Rattle.queue_tree.specs.declared.departures.Rest.{Rest}

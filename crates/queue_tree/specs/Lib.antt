@@ -1,5 +1,3 @@
-pub mod State
-pub mod Sound
 pub mod Arrivals
 pub mod Departures
 pub mod Calls

@@ -1,15 +1,15 @@
 // A push: the walk down its path, and the new entries put among the old.
-use super::Entry;
-use super::Item;
+use queue_state::Entry;
+use queue_state::Item;
 use super::Path;
-use super::index::wide;
 use topology::Found;
+use topology::wide;
 ghost use mathlib.Core.Path.{_≡_};
 ghost use mathlib.Core.Logic.{_≢_, _⊎_};
 ghost use Prim.Native.Nat.{_≤_, _<_};
 ghost use lib.ListN.{length};
 ghost use Rattle.topology.specs.Reader.{fault, tree};
-ghost use Rattle.queue_tree.specs.Sound.{Decides};
+ghost use Rattle.queue_state.specs.Sound.{Decides};
 ghost use Rattle.queue_tree.specs.Arrivals.{stepsOf, Walked, Ready, Entered};
 
 // The fault of a path, or the new entry of each node that is marked as pending.

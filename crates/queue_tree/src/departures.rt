@@ -1,8 +1,8 @@
 // A pop: the head of every queue, the way down from the root by these heads, and the heads on the way taken out.
-use super::Entry;
-use super::Item;
-use super::index::wide;
+use queue_state::Entry;
+use queue_state::Item;
 use topology::Found;
+use topology::wide;
 ghost use mathlib.Core.Path.{_≡_};
 ghost use Prim.Native.Nat.{ℕ, _≤_, _<_};
 ghost use mathlib.Core.Bool.{true, false};
@@ -10,7 +10,7 @@ ghost use lib.ListN.{length, take};
 ghost use Rattle.topology.specs.Reader.{fault, tree};
 ghost use Rattle.topology.specs.Address.{subtree};
 ghost use Rattle.pifo.specs.Numbered.{Queues, descent};
-ghost use Rattle.queue_tree.specs.State.{queueIn, allBelow};
+ghost use Rattle.queue_state.specs.State.{queueIn, allBelow};
 ghost use Rattle.queue_tree.specs.Departures.{Heading, Down, Stays};
 
 // The head of each queue that is not empty.

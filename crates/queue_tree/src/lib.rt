@@ -1,41 +1,16 @@
-// The queue tree: a PIFO tree with a packet limit, by value. A call takes a state and gives back the state after it.
-//
-// Entries of all queues stand in one array, each with the number of the node that owns it; the queue of a node is the sub-list of its
-// own entries, head first. 256 packets on 9 nodes each make 2304 entries at the most.
+// The queue tree: a PIFO tree with a packet limit. A push and a pop take its state and give back the state after them. The crate
+// `queue_state` has the state, its opening and its test.
 mod arrivals;
 mod departures;
-mod index;
-mod opening;
-mod soundness;
+
+use queue_state::State;
+use queue_state::examine;
 
 ghost use mathlib.Core.Path.{_≡_};
 ghost use Prim.Native.Nat.{suc, min};
 ghost use Rattle.pifo.specs.Machine.{pushing, popping, most};
 ghost use Rattle.queue_tree.specs.Arrivals.{stepsOf};
-ghost use Rattle.queue_tree.specs.Calls.{Opens, amount, pushAnswer, popAnswer, Serves};
-ghost use Rattle.queue_tree.specs.State.{wellFormed, treeOf};
-ghost use Rattle.pifo.specs.Tree.{held};
-
-// What a queue orders: child numbers at inner nodes, packets at leaves.
-pub enum Item {
-    Child(u8),
-    Packet(u32),
-}
-
-pub struct Entry {
-    pub rank: u32,
-    pub item: Item,
-}
-
-pub struct State {
-    pub topology: [u8; 64],
-    pub nodes: usize,
-    pub limit: usize,
-    pub refused: u32,
-    pub owners: [u8; 2304],
-    pub entries: [Entry; 2304],
-    pub used: usize,
-}
+ghost use Rattle.queue_tree.specs.Calls.{pushAnswer, popAnswer, Serves};
 
 #[repr(C)]
 pub struct Step {
@@ -49,18 +24,6 @@ pub struct Path {
     pub steps: [Step; 9],
     pub count: usize,
     pub leaf_rank: u32,
-}
-
-// The answer to an opening: 0 and the empty tree, or a refusal's number and a state that every call refuses by 18.
-pub struct Opened {
-    pub state: State,
-    pub refusal: u8,
-}
-
-// The answer to a question about a state: a count, or a refusal by its number.
-pub enum Amount {
-    Count(u32),
-    Refused(u8),
 }
 
 // The answer to a push: a refusal by its number, or by 15 with the new count of refusals.
@@ -99,52 +62,11 @@ fn counted(refusals: u32) -> u32
     refusals + 1
 }
 
-// Opens an empty tree with a packet limit: 1 to 5 are tested, then 17.
-pub fn open(bytes: &[u8], limit: usize) -> Opened
-    ensures { λ r. ⌜ Opens (now (bytes .entry)) limit r ⌝ }
-{
-    let refusal = opening::refusal(bytes, limit);
-    if refusal != 0 {
-        return Opened {
-            state: opening::empty([0u8; 64], 0, 0),
-            refusal,
-        };
-    }
-    let topology = opening::copied(bytes);
-    Opened {
-        state: opening::empty(topology, bytes.len(), limit),
-        refusal: 0,
-    }
-}
-
-// How many packets a tree holds.
-pub fn held(state: State) -> Amount
-    ensures { λ r. ⌜ r ≡ amount (wellFormed state) (held (treeOf state)) ⌝ }
-{
-    let test = soundness::examine(state);
-    if test.sound {
-        Amount::Count(test.held as u32)
-    } else {
-        Amount::Refused(18)
-    }
-}
-
-// How many pushes a tree has refused because it was full.
-pub fn refusals(state: State) -> Amount
-    ensures { λ r. ⌜ r ≡ amount (wellFormed state) (state .refused) ⌝ }
-{
-    let test = soundness::examine(state);
-    if !test.sound {
-        return Amount::Refused(18);
-    }
-    Amount::Count(state.refused)
-}
-
 // Pushes a packet along a path: 18, 13, 14, 15 are tested in this order.
 pub fn push(state: State, path: Path, packet: u32) -> Pushed
     ensures { λ r. ⌜ Serves state (pushing (stepsOf path) (path .«leaf_rank») packet) (pushAnswer (r .answer)) (r .state) ⌝ }
 {
-    let test = soundness::examine(state);
+    let test = examine(state);
     if !test.sound {
         return Pushed {
             state,
@@ -197,7 +119,7 @@ pub fn push(state: State, path: Path, packet: u32) -> Pushed
 pub fn pop(state: State) -> Popped
     ensures { λ r. ⌜ Serves state popping (popAnswer (r .answer)) (r .state) ⌝ }
 {
-    let test = soundness::examine(state);
+    let test = examine(state);
     if !test.sound {
         return Popped {
             state,

@@ -2,12 +2,9 @@
 // the number after its branch's last; or `no` and the refusal's number.
 use topology::Reading;
 use topology::TARGET_NODES;
+use topology::wide;
 
 const OUT: i32 = 1;
-
-fn wide(b: u8) -> usize {
-    b as usize
-}
 
 fn print(n: usize, after: u8) {
     io::print_decimal(OUT, n as u64);

@@ -22,7 +22,7 @@ use Rattle.pifo.proofs.Order.{both}
 use Rattle.pifo.proofs.Runs.{served as serve-sound, opened-sound}
 use Rattle.pifo.proofs.Answers.{number, serve-number}
 use Rattle.embedding_laws.specs.Least.{Found, nothing, list, noneFault, leastMap, searchFault, searchMap}
-use Rattle.queue_tree.specs.Calls.{limitFault}
+use Rattle.queue_state.specs.Opening.{limitFault}
 use Rattle.paired.specs.Calls.{bothFault}
 use Rattle.paired.proofs.Start.{faultless, images-pass}
 use Rattle.text.specs.Text.{decimal, hex8}

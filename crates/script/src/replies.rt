@@ -1,5 +1,5 @@
 // Replies to calls on both trees: from the answers of the chip's side to a line of text.
-use queue_tree::Amount;
+use queue_state::Amount;
 use queue_tree::PopAnswer;
 use queue_tree::PushAnswer;
 use text::lines;

@@ -1,6 +1,6 @@
 // Topologies: trees drawn as one byte a node, its number of children, in preorder.
 //
-// `read` and `branch` are the calls of paper 01. `branch_end`, `child` and `is_above` serve the crates above; they take any bytes and
+// `read` and `branch` are the calls of paper 01. `branch_end`, `child`, `is_above` and `wide` serve the crates above; they take any bytes and
 // mean what their names say where `read` accepts those bytes.
 ghost use mathlib.Core.Path.{_≡_};
 ghost use Prim.Native.Nat.{_≤_, _<_};
@@ -185,4 +185,11 @@ pub fn branch<'a>(bytes: &'a [u8], node: usize, refusal: &mut u8) -> &'a [u8]
             }
         }
     }
+}
+
+// A byte as an index.
+pub fn wide(byte: u8) -> usize
+    ensures { λ r. ⌜ (r ≡ byte) × (r < 256) ⌝ }
+{
+    byte as usize
 }

@@ -4,7 +4,7 @@ use Prim.Native.Nat.{_-_}
 use native.Mathlib.Omega.{arith}
 use lib.ListN.{getD}
 use borrow.Author.Needs.{needs}
-use Rattle.queue_tree.specs.declared.Item.{Item}
+use Rattle.queue_state.specs.declared.Item.{Item}
 use Rattle.exports_queue_tree.specs.Plain.{entriesFrom}
 use Rattle.exports_queue_tree.proofs.Filling.{Filled, fill-none, fill-more, fill-all}
 use Rattle.exports_queue_tree.proofs.Crossing.{noEntry, entries-length, entries-at}

@@ -3,7 +3,7 @@ use borrow.Author.Needs.{needs}
 use mathlib.Core.Path.{sym}
 use native.Mathlib.Omega.{arith}
 use lib.Seq.{length-take-le}
-use Rattle.queue_tree.proofs.Verdict.{kept}
+use Rattle.queue_state.proofs.Verdict.{kept}
 use Rattle.paired.proofs.Mapped.{Arrays, too-many-nodes, too-many-places, passing, failing}
 use Rattle.paired.proofs.Parts.{yes, not}
 use Rattle.paired.proofs.is_mapped.Statement.{statement}

@@ -4,8 +4,8 @@ use native.Mathlib.Omega.{arith}
 use mathlib.Core.Path.{sym, _∙_}
 use lib.Seq.{length-take-le}
 use borrow.Author.Tests.{not-true, not-false}
-use Rattle.queue_tree.specs.State.{bytes}
-use Rattle.queue_tree.proofs.Verdict.{kept, Arrays, formed}
+use Rattle.queue_state.specs.State.{bytes}
+use Rattle.queue_state.proofs.Verdict.{kept, Arrays, formed}
 use Rattle.queue_tree.proofs.Served.{ill-served, fault-served, full-served, ready, accepted-served}
 use Rattle.queue_tree.proofs.push.Statement.{statement}
 use Rattle.queue_tree.proofs.push.Tie as tie
@@ -14,7 +14,7 @@ use Rattle.queue_tree.proofs.push.Lts as lts
 use Rattle.queue_tree.proofs.arrivals.enter.Reads as enter-reads
 use Rattle.queue_tree.proofs.arrivals.walk.Reads as walk-reads
 use Rattle.queue_tree.proofs.counted.Reads as counted-reads
-use Rattle.queue_tree.proofs.soundness.examine.Reads as examine-reads
+use Rattle.queue_state.proofs.examine.Reads as examine-reads
 
 arrays : (c : lts.Start (examine-reads.Asked, examine-reads.Learnt, walk-reads.Asked, walk-reads.Learnt, counted-reads.Asked, counted-reads.Learnt, enter-reads.Asked, enter-reads.Learnt) reads.Pre reads.Post) → Arrays (c .args .state)
 arrays c =

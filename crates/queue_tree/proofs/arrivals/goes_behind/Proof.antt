@@ -1,6 +1,6 @@
 -- The two tests, either way.
 use mathlib.Core.Logic.{inl, inr}
-use Rattle.queue_tree.proofs.Matches.{is-yes, is-not}
+use Rattle.queue_state.proofs.Matches.{is-yes, is-not}
 use Rattle.queue_tree.proofs.arrivals.goes_behind.Statement.{statement}
 use Rattle.queue_tree.proofs.arrivals.goes_behind.Tie as tie
 

@@ -5,7 +5,7 @@ use mathlib.Core.Path.{refl}
 use Prim.Native.Nat.{_-_}
 use denote.Ref.{now}
 use Rattle.topology.proofs.Lookup.{valid-size}
-use Rattle.queue_tree.proofs.Verdict.{kept}
+use Rattle.queue_state.proofs.Verdict.{kept}
 use Rattle.queue_tree.proofs.Walking.{Way, set-out, no-child, step-down, ends-above, at-leaf}
 use Rattle.queue_tree.proofs.arrivals.walk.Statement.{statement}
 use Rattle.queue_tree.proofs.arrivals.walk.Tie as tie

@@ -1,0 +1,195 @@
+-- The verdict on a state: `wellFormed` taken apart and put together, and how the pass and the comparison of the counts decide it.
+use mathlib.Core.Path.{_≡_, refl, sym, ap, _∙_, subst, subst₂}
+use mathlib.Core.Logic.{⊎-elim}
+use Prim.Native.Nat.{ℕ, suc, _+_, _≤_, _<_}
+use native.Mathlib.Nat.{zero-add}
+use native.Mathlib.Omega.{arith}
+use mathlib.Core.List.{List, map}
+use Rattle.lists.proofs.Map.{length-map}
+use mathlib.Core.Bool.{Bool, true, false, _&&_}
+use lib.ListN.{length, take, getD}
+use lib.Seq.{length-take-le}
+use lib.Dec.{leb, eqb}
+use borrow.Author.Tests.{leb-true, le-leb, eqb-true, eq-eqb}
+use Rattle.topology.specs.Tree.{Topo, node, width}
+use Rattle.topology.specs.Address.{subtree, childOf}
+use Rattle.topology.specs.Reader.{fault, tree}
+use Rattle.topology.specs.Branch.{start}
+use Rattle.topology.proofs.Lookup.{valid-size, valid-width, valid-byte, valid-start, start-lt}
+use Rattle.topology.proofs.Ancestry.{size-pos}
+use Rattle.pifo.specs.Queue.{risesFrom, allowed, every, occurs}
+use Rattle.pifo.specs.Tree.{well, held}
+use Rattle.pifo.specs.Numbered.{Queues, assemble, assembleAll}
+use Rattle.pifo.proofs.Order.{both, join}
+use Rattle.pifo.proofs.Wellness.{length-held}
+use Rattle.pifo.proofs.Local.{LocalAt, AllLocal, all-well, well-all}
+use Rattle.queue_state.specs.State.{queueIn, queues, bytes, treeOf, allBelow, inBounds, wellFormed}
+use Rattle.queue_state.specs.Sound.{Counts, fine, AllMatch, Mismatch, Tallied, Tests}
+use Rattle.queue_state.specs.declared.State.{State}
+use Rattle.queue_state.specs.declared.Test.{Test}
+use Rattle.queue_state.specs.declared.soundness.Counted.{Counted}
+use Rattle.queue_state.proofs.Matches.{off}
+
+-- the length of an array that is a field, as the checker hands it over
+pub kept {ℓ κ} : {A : Type ℓ} {B : Type κ} (f : A → B) (l : List A) {n : ℕ} → length (map f l) ≡ n → length l ≡ n
+kept f l e = sym (length-map f l) ∙ e
+
+-- the clauses of a well-formed state
+pub record Formed (s : State) : Type 0 where
+  pub nodes : s .nodes ≤ 64
+  pub used : s .used ≤ 2304
+  pub owned : allBelow (s .nodes) (take (s .used) (s .owners)) ≡ true
+  pub valid : fault 64 (bytes s) ≡ 0
+  pub least : 1 ≤ s .limit
+  pub most : s .limit ≤ 256
+  pub tree : well (treeOf s) ≡ true
+  pub room : held (treeOf s) ≤ s .limit
+
+pub formed : (s : State) → wellFormed s ≡ true → Formed s
+unfolding wellFormed inBounds
+formed s e =
+    let b = leb (s .nodes) 64 && leb (s .used) 2304 && allBelow (s .nodes) (take (s .used) (s .owners)) in
+    let l = leb 1 (s .limit) && leb (s .limit) 256 in
+    let a = both (b && eqb (fault 64 (bytes s)) 0 && l && well (treeOf s)) (leb (held (treeOf s)) (s .limit)) e in
+    let c = both (b && eqb (fault 64 (bytes s)) 0 && l) (well (treeOf s)) (a .0) in
+    let d = both (b && eqb (fault 64 (bytes s)) 0) l (c .0) in
+    let f = both b (eqb (fault 64 (bytes s)) 0) (d .0) in
+    let g = both (leb (s .nodes) 64 && leb (s .used) 2304) (allBelow (s .nodes) (take (s .used) (s .owners))) (f .0) in
+    let h = both (leb (s .nodes) 64) (leb (s .used) 2304) (g .0) in
+    let i = both (leb 1 (s .limit)) (leb (s .limit) 256) (d .1) in
+    record {
+      nodes = leb-true (s .nodes) 64 (h .0);
+      used = leb-true (s .used) 2304 (h .1);
+      owned = g .1;
+      valid = eqb-true (fault 64 (bytes s)) 0 (f .1);
+      least = leb-true 1 (s .limit) (i .0);
+      most = leb-true (s .limit) 256 (i .1);
+      tree = c .1;
+      room = leb-true (held (treeOf s)) (s .limit) (a .1);
+    }
+
+pub form : (s : State) → Formed s → wellFormed s ≡ true
+unfolding wellFormed inBounds
+form s f =
+    join
+    (join
+    (join
+    (join
+    (join (join (le-leb (s .nodes) 64 (f .nodes)) (le-leb (s .used) 2304 (f .used))) (f .owned))
+    (eq-eqb (fault 64 (bytes s)) 0 (f .valid)))
+    (join (le-leb 1 (s .limit) (f .least)) (le-leb (s .limit) 256 (f .most))))
+    (f .tree))
+    (le-leb (held (treeOf s)) (s .limit) (f .room))
+
+-- a test that says no, and one that says yes
+pub says-no : (s : State) (r : Test) → r .sound ≡ false → (Formed s → ⊥) → Tests s r
+says-no s r e f =
+    record { sound = e ∙ sym (never (wellFormed s) refl); count = λ t. absurd (off (sym e ∙ t)) }
+  where
+    never : (b : Bool) → wellFormed s ≡ b → wellFormed s ≡ false
+    never true t = absurd (f (formed s t))
+    never false t = t
+
+pub says-yes : (s : State) (r : Test) → r .sound ≡ true → Formed s → r .held ≡ held (treeOf s) → Tests s r
+says-yes s r e f h = record { sound = e ∙ sym (form s f); count = λ _. h }
+
+-- in a well-formed tree the root's queue is as long as packets are held
+pub held-root : {P : Type 0} (t : Topo) (q : Queues P) (k : ℕ) → well (assemble t q k) ≡ true → length (q k) ≡ held (assemble t q k)
+held-root (node ts) q k e = length-held (q k) (assembleAll ts q (suc k)) e
+
+module _ (bs : List ℕ) (v : fault 64 bs ≡ 0) (q : Queues ℕ) (lengths counts : List ℕ) where
+  -- each node is well formed by itself where its queue is fine and its children's counts match
+  pub locals : ((n : ℕ) → n < length bs → fine (getD bs n 0) (q n) ≡ true) → ((n : ℕ) → n < length bs → Counts lengths counts n (q n))
+      → ((n : ℕ) → n < length bs → AllMatch bs counts lengths n) → AllLocal (tree bs) q 0
+  locals may count match m g =
+      let h : m < length bs = omega (arith, valid-size 64 bs v) in
+      let w = valid-width 64 bs v m h in
+      let f = both (risesFrom 0 (q m)) (every (allowed (getD bs m 0)) (q m)) (may m h) in
+      record {
+        rises = subst (λ (x : ℕ). risesFrom 0 (q x) ≡ true) (sym (zero-add m)) (f .0);
+        own = subst₂ (λ (x y : ℕ). every (allowed x) (q y) ≡ true) (sym w) (sym (zero-add m)) (f .1);
+        counts = λ i l.
+            let j : i < getD bs m 0 = omega arith in
+            ap (λ (x : ℕ). occurs (suc i) (q x)) (zero-add m)
+            ∙ sym (count m h .children (suc i) (omega arith) (omega (arith, valid-byte 64 bs v m)))
+            ∙ match m h i j
+            ∙ count (start bs m i) (start-lt 64 bs v m i h j) .all
+            ∙ ap (λ (x : ℕ). length (q x)) (valid-start 64 bs v m i h j ∙ sym (zero-add (childOf (tree bs) m (suc i))));
+      }
+
+  module _ (a : AllLocal (tree bs) q 0) (n : ℕ) (h : n < length bs) where
+    at : LocalAt q (width (subtree (tree bs) n)) (0 + n) (λ i. 0 + childOf (tree bs) n (suc i))
+    at = a n (omega (arith, valid-size 64 bs v))
+
+    pub fine-local : fine (getD bs n 0) (q n) ≡ true
+    fine-local =
+        join
+        (subst (λ (x : ℕ). risesFrom 0 (q x) ≡ true) (zero-add n) (at .rises))
+        (subst₂ (λ (x y : ℕ). every (allowed x) (q y) ≡ true) (valid-width 64 bs v n h) (zero-add n) (at .own))
+
+    pub match-local : ((n : ℕ) → n < length bs → Counts lengths counts n (q n)) → Mismatch bs counts lengths n → ⊥
+    match-local count (i, j, d) =
+        d
+        (count n h .children (suc i) (omega arith) (omega (arith, valid-byte 64 bs v n))
+        ∙ ap (λ (x : ℕ). occurs (suc i) (q x)) (sym (zero-add n))
+        ∙ at .counts i (omega (arith, valid-width 64 bs v n h))
+        ∙ ap (λ (x : ℕ). length (q x)) (zero-add (childOf (tree bs) n (suc i)) ∙ sym (valid-start 64 bs v n i h j))
+        ∙ sym (count (start bs n i) (start-lt 64 bs v n i h j) .all))
+
+-- the lengths of a state's arrays
+pub record Arrays (s : State) : Type 0 where
+  pub topology : length (s .topology) ≡ 64
+  pub owners : length (s .owners) ≡ 2304
+  pub entries : length (s .entries) ≡ 2304
+
+module _ (s : State) (a : Arrays s) (hn : s .nodes ≤ 64) (r : Counted)
+    (t : Tallied (take (s .nodes) (s .topology)) (take (s .used) (s .owners)) (queueIn (s .owners) (s .entries) (s .used)) r) where
+  bytes-length : length (take (s .nodes) (s .topology)) ≡ s .nodes
+  bytes-length = length-take-le (s .nodes) (s .topology) (omega (arith, a .topology))
+
+  pub ill-tally : r .sound ≡ false → Formed s → ⊥
+  unfolding bytes queues treeOf
+  ill-tally e f =
+      ⊎-elim
+      (λ (o : allBelow (length (take (s .nodes) (s .topology))) (take (s .used) (s .owners)) ≡ false).
+      off (sym o ∙ ap (λ (k : ℕ). allBelow k (take (s .used) (s .owners))) bytes-length ∙ f .owned))
+      (λ x.
+      off
+      (sym (x .2)
+      ∙ fine-local (take (s .nodes) (s .topology)) (f .valid) (queueIn (s .owners) (s .entries) (s .used)) (r .lengths) (r .counts)
+      (well-all (tree (take (s .nodes) (s .topology))) (queueIn (s .owners) (s .entries) (s .used)) 0 (f .tree)) (x .0) (x .1)))
+      (t .unsound e)
+
+  module _ (e : r .sound ≡ true) (v : fault 64 (take (s .nodes) (s .topology)) ≡ 0) where
+    pub ill-match : (n : ℕ) × (n < length (take (s .nodes) (s .topology))) × Mismatch (take (s .nodes) (s .topology)) (r .counts) (r .lengths) n → Formed s → ⊥
+    unfolding bytes queues treeOf
+    ill-match (n, h, d) f =
+        match-local (take (s .nodes) (s .topology)) v (queueIn (s .owners) (s .entries) (s .used)) (r .lengths) (r .counts)
+        (well-all (tree (take (s .nodes) (s .topology))) (queueIn (s .owners) (s .entries) (s .used)) 0 (f .tree)) n h (t .counts e) d
+
+    module _ (m : (n : ℕ) → n < length (take (s .nodes) (s .topology)) → AllMatch (take (s .nodes) (s .topology)) (r .counts) (r .lengths) n) where
+      pub tree-well : well (treeOf s) ≡ true
+      unfolding bytes queues treeOf
+      tree-well =
+          all-well (tree (take (s .nodes) (s .topology))) (queueIn (s .owners) (s .entries) (s .used)) 0
+          (locals (take (s .nodes) (s .topology)) v (queueIn (s .owners) (s .entries) (s .used)) (r .lengths) (r .counts) (t .may e) (t .counts e) m)
+
+      pub root-held : getD (r .lengths) 0 0 ≡ held (treeOf s)
+      unfolding bytes queues treeOf
+      root-held =
+          t .counts e 0 (omega (arith, valid-size 64 (take (s .nodes) (s .topology)) v, size-pos (tree (take (s .nodes) (s .topology))))) .all
+          ∙ held-root (tree (take (s .nodes) (s .topology))) (queueIn (s .owners) (s .entries) (s .used)) 0 tree-well
+
+      pub all-formed : 1 ≤ s .limit → s .limit ≤ 256 → s .used ≤ 2304 → held (treeOf s) ≤ s .limit → Formed s
+      unfolding bytes
+      all-formed l u d g =
+          record {
+            nodes = hn;
+            used = d;
+            owned = ap (λ (k : ℕ). allBelow k (take (s .used) (s .owners))) (sym bytes-length) ∙ t .owned e;
+            valid = v;
+            least = l;
+            most = u;
+            tree = tree-well;
+            room = g;
+          }
