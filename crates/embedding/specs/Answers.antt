@@ -1,4 +1,4 @@
--- What the answers of the check and of the search stand for, and the table of branch ends.
+-- What the check's answers stand for, and the tests by tables of branch ends.
 use mathlib.Core.Path.{_≡_}
 use Prim.Native.Nat.{ℕ, zero, suc, _≤_, _<_}
 use mathlib.Core.List.{List}

@@ -1,11 +1,18 @@
--- The search of paper 01 as a definition: the first list in list order that meets the rules, found by plain backtracking.
+-- The least map of paper 01, and the search as a definition: the first list in list order that meets the rules, found by plain
+-- backtracking.
 use Prim.Native.Nat.{ℕ, zero, suc, _-_}
 use mathlib.Core.List.{List, [], _∷_, _++_}
 use mathlib.Core.Bool.{Bool, _&&_}
 use lib.ListN.{length, replicate}
 use Rattle.topology.specs.Tree.{Topo, code}
 use Rattle.topology.specs.Reader.{pick, orElse, fault}
+use Rattle.embedding_laws.specs.Rules.{Passes, Before}
 use Rattle.embedding_laws.specs.Check.{areNodes, rule1, rule2, rule3, rule4}
+
+-- A list that passes, with no list that passes before it.
+pub record LeastPassing (S T : Topo) (m : List ℕ) : Type 0 where
+  pub passes : Passes S T m
+  pub first : (l : List ℕ) → Passes S T l → Before l m → ⊥
 
 -- a list that was found, or none
 pub data Found : Type 0 where

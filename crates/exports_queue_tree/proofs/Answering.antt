@@ -4,7 +4,7 @@ use Prim.Native.Nat.{ℕ}
 use mathlib.Core.Bool.{Bool, true, false}
 use mathlib.Core.List.{List}
 use Rattle.topology.specs.Reader.{pick}
-use Rattle.pifo.specs.Machine.{Call, Answer, refused, serve}
+use Rattle.pifo.specs.Machine.{Call, Answer, refused, serve, numberOf}
 use Rattle.pifo.specs.Tree.{held}
 use Rattle.queue_state.specs.State.{machine, wellFormed, treeOf}
 use Rattle.queue_state.specs.Opening.{Opens, amount}
@@ -13,7 +13,7 @@ use Rattle.queue_state.specs.declared.State.{State}
 use Rattle.queue_state.specs.declared.Opened.{Opened}
 use Rattle.queue_state.specs.declared.Amount.{Amount}
 use Rattle.exports_queue_tree.specs.Plain.{stateOf, plainOf, Written}
-use Rattle.exports_queue_tree.specs.Answers.{opening, plainAmount, numberOf, valueOf, answered, Served}
+use Rattle.exports_queue_tree.specs.Answers.{opening, plainAmount, valueOf, answered, Served}
 use Rattle.exports_queue_tree.specs.declared.PlainState.{PlainState}
 use Rattle.exports_queue_tree.specs.declared.PlainOpened.{PlainOpened}
 use Rattle.exports_queue_tree.specs.declared.PlainAnswer.{PlainAnswer}

@@ -2,7 +2,7 @@
 use mathlib.Core.Path.{_≡_}
 use Prim.Native.Nat.{ℕ}
 use Rattle.topology.specs.Reader.{pick}
-use Rattle.pifo.specs.Machine.{Call, Answer, accepted, departed, refused, full, serve}
+use Rattle.pifo.specs.Machine.{Call, Answer, accepted, departed, refused, full, numberOf, serve}
 use Rattle.queue_state.specs.State.{machine, wellFormed}
 use Rattle.queue_tree.specs.Calls.{Serves}
 use Rattle.queue_state.specs.declared.State.{State}
@@ -21,13 +21,6 @@ opening r = record { state = stateOf (r .state); refusal = r .refusal }
 abbrev pub plainAmount : Amount → PlainAmount
 plainAmount (Count n) = record { number = 0; value = n }
 plainAmount (Refused n) = record { number = n; value = 0 }
-
--- the number of a refusal, 0 where there is none
-abbrev pub numberOf : Answer ℕ → ℕ
-numberOf accepted = 0
-numberOf (departed p) = 0
-numberOf (refused n) = n
-numberOf (full c) = 15
 
 -- the packet that departs, or the new count of refusals, else 0
 abbrev pub valueOf : Answer ℕ → ℕ

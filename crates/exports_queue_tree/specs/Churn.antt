@@ -6,7 +6,7 @@ use mathlib.Core.Bool.{true, false}
 use lib.Dec.{eqb}
 use Rattle.topology.specs.Reader.{pick}
 use Rattle.pifo.specs.Machine.{Machine, Call, pushing, popping, after}
-use Rattle.queue_tree.specs.Arrivals.{stepsOf}
+use Rattle.queue_tree.specs.Calls.{stepsOf}
 use Rattle.queue_state.specs.State.{machine, wellFormed}
 use Rattle.queue_tree.specs.declared.Path.{Path}
 use Rattle.queue_state.specs.declared.State.{State}

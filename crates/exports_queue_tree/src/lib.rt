@@ -3,20 +3,19 @@
 use queue_state::Amount;
 use queue_state::Entry;
 use queue_state::Item;
+use queue_state::State;
 use queue_tree::Path;
 use queue_tree::PopAnswer;
 use queue_tree::PushAnswer;
-use queue_state::State;
 ghost use mathlib.Core.Path.{_≡_};
 ghost use mathlib.Core.List.{map};
-ghost use Rattle.pifo.specs.Machine.{pushing, popping};
+ghost use Rattle.pifo.specs.Machine.{pushing, popping, numberOf};
 ghost use Rattle.pifo.specs.Tree.{held};
-ghost use Rattle.queue_tree.specs.Arrivals.{stepsOf};
 ghost use Rattle.queue_state.specs.Opening.{Opens, amount};
-ghost use Rattle.queue_tree.specs.Calls.{pushAnswer, popAnswer};
+ghost use Rattle.queue_tree.specs.Calls.{stepsOf, pushAnswer, popAnswer};
 ghost use Rattle.queue_state.specs.State.{wellFormed, treeOf};
 ghost use Rattle.exports_queue_tree.specs.Plain.{itemFrom, entriesFrom, stateOf, plainOf, Written, tagOf, childOf, packetOf, rankOf};
-ghost use Rattle.exports_queue_tree.specs.Answers.{opening, plainAmount, numberOf, valueOf, Served};
+ghost use Rattle.exports_queue_tree.specs.Answers.{opening, plainAmount, valueOf, Served};
 ghost use Rattle.exports_queue_tree.specs.Churn.{inTurn, Rounded, Churned};
 
 // A state as plain numbers. Entry i has the rank `ranks[i]`; where `tags[i]` is 0 it is the child `children[i]`, else the packet

@@ -5,7 +5,7 @@ use mathlib.Core.Path.{_≡_, refl, sym, ap, _∙_, subst, subst₂}
 use mathlib.Core.Logic.{_≢_}
 use Prim.Native.Nat.{ℕ, zero, suc, _+_, _-_, min}
 use native.Mathlib.Omega.{arith}
-use mathlib.Core.List.{List, [], _∷_}
+use mathlib.Core.List.{List, [], _∷_, map}
 use mathlib.Core.Bool.{true}
 use lib.ListN.{length, take, length-append}
 use lib.Seq.{take-all}
@@ -15,16 +15,16 @@ use Rattle.topology.specs.Reader.{orElse, tree}
 use Rattle.topology.proofs.Reader.{fault-wider}
 use Rattle.topology.proofs.Lookup.{valid-size}
 use Rattle.pifo.specs.Tree.{pathFault, held, packets}
-use Rattle.pifo.specs.Machine.{Machine, Call, pushing, popping, Answer, refused, opened, most}
+use Rattle.pifo.specs.Machine.{Machine, pushing, Answer, refused, most, serve, answersBy}
 use Rattle.pifo.specs.Runs.{Sound, acceptedBy, departedBy, fullBy, takenBy}
 use Rattle.pifo.proofs.Runs.{served}
 use Rattle.pifo.proofs.Wellness.{packets-empty}
 use Rattle.embedding_laws.specs.Rules.{Passes}
 use Rattle.embedding_laws.proofs.Searching.{search-twelve}
+use Rattle.simulation.specs.Sheet.{serveCarried}
 use Rattle.queue_state.specs.State.{bytes, treeOf, machine, wellFormed}
-use Rattle.queue_tree.specs.Arrivals.{stepsOf}
 use Rattle.queue_state.specs.Opening.{limitFault}
-use Rattle.queue_tree.specs.Calls.{Serves}
+use Rattle.queue_tree.specs.Calls.{stepsOf, Serves}
 use Rattle.queue_state.specs.declared.State.{State}
 use Rattle.queue_tree.specs.declared.Path.{Path}
 use Rattle.queue_state.specs.declared.Amount.the-variants.{Count}
@@ -34,17 +34,12 @@ use Rattle.translator.specs.declared.Carried.{Carried}
 use Rattle.translator.proofs.Outcome.{carried-steps}
 use Rattle.paired.specs.Pair.{images, mapped, InStep}
 use Rattle.paired.specs.Calls.{ServesChip}
-use Rattle.paired.specs.Demand.{Ask, push, pop, Look, look, SourceCall, Passed, ChipCall, Run, tally, Tallied, AllAlike, Demand3}
+use Rattle.paired.specs.Demand.{Ask, push, pop, Look, look, SourceCall, Passed, ChipCall, Run, Tally, Tallied, callOf, answersOf, AllAlike, Demand3}
 use Rattle.paired.specs.declared.Pair.{Pair}
 use Rattle.paired.proofs.Parts.{Parts, parts, map-fault}
 use Rattle.paired.proofs.Both.{source-bytes, chip-bytes, alike, chip-pop, chip-fault, chip-push}
 use Rattle.paired.proofs.Start.{source-opened, chip-opened, opened-in-step, open-number}
 use Rattle.paired.proofs.Counts.{held-both, refused-both}
-
--- the definition's call for a call of the list
-abbrev callOf : Ask → Call ℕ
-callOf (push path packet) = pushing (stepsOf path) (path .«leaf_rank») packet
-callOf pop = popping
 
 source-serves : (c : Ask) (s : State) (a : Answer ℕ) (r : State) → SourceCall s c a r → Serves s (callOf c) a r
 source-serves (push path packet) s a r v = v
@@ -62,10 +57,9 @@ record Counts (s : State) (i o f : ℕ) : Type 0 where
   held : held (treeOf s) + o ≡ i
   refused : s .refused ≡ min f most
 
-counts-look : (s : State) (i o f : ℕ) → Counts s i o f → look s ≡ tally i o f
+counts-look : (s : State) (i o f : ℕ) → Counts s i o f → Tally i o f (look s)
 counts-look s i o f k =
-    let h : held (treeOf s) ≡ i - o = omega (arith, k .held) in
-    look-formed s (k .formed) ∙ (λ n. (Count (h n), Count (k .refused n)))
+    (held (treeOf s), k .held, look-formed s (k .formed) ∙ (λ n. (Count (held (treeOf s)), Count (k .refused n))))
 
 counts-next : (c : Ask) (s : State) (a : Answer ℕ) (r : State) (i o f : ℕ) → Serves s (callOf c) a r → Counts s i o f
     → Counts r (i + acceptedBy a) (o + length (departedBy a)) (f + fullBy a)
@@ -93,10 +87,21 @@ tallied [] s i o f [] k run = tt
 tallied [] s i o f (l ∷ ls) k run = absurd run
 tallied (c ∷ cs) s i o f [] k run = tt
 tallied (c ∷ cs) s i o f ((a, v) ∷ ls) k (r, call, seen, rest) =
-    let n = counts-next c s a r i o f (source-serves c s a r call) k in (
-      seen ∙ counts-look r (i + acceptedBy a) (o + length (departedBy a)) (f + fullBy a) n,
-      tallied cs r (i + acceptedBy a) (o + length (departedBy a)) (f + fullBy a) ls n rest,
-    )
+    let n = counts-next c s a r i o f (source-serves c s a r call) k in
+    let w = counts-look r (i + acceptedBy a) (o + length (departedBy a)) (f + fullBy a) n in
+    ((w .0, w .1, seen ∙ w .2), tallied cs r (i + acceptedBy a) (o + length (departedBy a)) (f + fullBy a) ls n rest)
+
+-- the source's answers are its machine's
+source-answers : (calls : List Ask) (s : State) (ls : List (Answer ℕ × Look)) → wellFormed s ≡ true → Run SourceCall s calls ls
+    → answersOf ls ≡ answersBy serve (machine s) (map callOf calls)
+source-answers [] s [] t run = refl
+source-answers [] s (l ∷ ls) t run = absurd run
+source-answers (c ∷ cs) s [] t run = absurd run
+source-answers (c ∷ cs) s ((a, v) ∷ ls) t (r, call, seen, rest) =
+    let w = source-serves c s a r call in
+    let e = w .answer t in
+    let n = source-answers cs r ls (w .formed t) rest ∙ ap (λ (q : Machine ℕ). answersBy serve q (map callOf cs)) (w .machine t) in
+    λ k. e k ∷ n k
 
 -- ---- both alike
 
@@ -172,6 +177,24 @@ module _ (source target m : List ℕ) where
       let f = i ∙ looks-alike x y (n .1) ∙ sym j in
       λ k. (n .0 k, f k) ∷ rest k
 
+  -- the chip's answers are its machine's behind the carrying
+  chip-answers : (calls : List Ask) (s t : State) (ls ms : List (Answer ℕ × Look)) → Holds s t → Run SourceCall s calls ls
+      → Run (ChipCall source target m) t calls ms → answersOf ms ≡ answersBy (serveCarried (tree source) (tree target) m) (machine t) (map callOf calls)
+  chip-answers [] s t ls [] h v u = refl
+  chip-answers [] s t ls (l ∷ ms) h v u = absurd u
+  chip-answers (c ∷ cs) s t [] ms h v u = absurd v
+  chip-answers (c ∷ cs) s t (l ∷ ls) [] h v u = absurd u
+  chip-answers (c ∷ cs) s t ((a, d) ∷ ls) ((b, e) ∷ ms) h (x, v, i, vs) (y, u, j, us) =
+      let n = next s t c a b x y h v u in
+      let q = chip-serves s t c b y h u in
+      let f : b ≡ serveCarried (tree source) (tree target) m (machine t) (callOf c) .0 =
+      rw (sym (h .source-is), sym (h .chip-is), sym (h .images-are)) (q .answer) in
+      let g : machine y ≡ serveCarried (tree source) (tree target) m (machine t) (callOf c) .1 =
+      rw (sym (h .source-is), sym (h .chip-is), sym (h .images-are)) (q .machine) in
+      let rest = chip-answers cs x y ls ms (n .1) vs us
+      ∙ ap (λ (z : Machine ℕ). answersBy (serveCarried (tree source) (tree target) m) z (map callOf cs)) g in
+      λ k. f k ∷ rest k
+
 all-alike : AllAlike
 unfolding machine
 all-alike source target m limit f g E low high x y o u calls ls ms v w =
@@ -197,9 +220,15 @@ all-alike source target m limit f g E low high x y o u calls ls ms v w =
     } in
     record {
       before = looks-alike source target m (x .state) (y .state) h;
-      calls = same source target m calls (x .state) (y .state) ls ms h v w;
-      opened = counts-look (x .state) 0 0 0 k;
+      every = same source target m calls (x .state) (y .state) ls ms h v w;
+      empty = counts-look (x .state) 0 0 0 k;
       tallied = tallied calls (x .state) 0 0 0 ls k v;
+      source =
+          source-answers calls (x .state) ls (o .formed z) v
+          ∙ ap (λ (q : Machine ℕ). answersBy serve q (map callOf calls)) (o .machine z);
+      chip =
+          chip-answers source target m calls (x .state) (y .state) ls ms h v w
+          ∙ ap (λ (q : Machine ℕ). answersBy (serveCarried (tree source) (tree target) m) q (map callOf calls)) (u .machine n);
     }
 
 pub demand-3 : Demand3

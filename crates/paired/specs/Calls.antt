@@ -12,9 +12,8 @@ use Rattle.embedding_laws.specs.Least.{searchFault, searchMap}
 use Rattle.simulation.specs.Carrying.{carry}
 use Rattle.simulation.specs.Sheet.{serveCarried}
 use Rattle.queue_state.specs.State.{machine, wellFormed}
-use Rattle.queue_tree.specs.Arrivals.{stepsOf}
 use Rattle.queue_state.specs.Opening.{limitFault, amount}
-use Rattle.queue_tree.specs.Calls.{counting, Serves}
+use Rattle.queue_tree.specs.Calls.{stepsOf, counting, Serves}
 use Rattle.queue_state.specs.declared.State.{State}
 use Rattle.queue_tree.specs.declared.Path.{Path}
 use Rattle.translator.specs.declared.Carried.{Carried}

@@ -4,19 +4,20 @@
 -- `translator`'s calls allow, so that it holds of whatever the code does.
 use mathlib.Core.Path.{_≡_}
 use mathlib.Core.Logic.{_≢_, _↔_}
-use Prim.Native.Nat.{ℕ, _+_, _-_, _≤_, min}
-use mathlib.Core.List.{List, [], _∷_}
+use Prim.Native.Nat.{ℕ, _+_, _≤_, min}
+use mathlib.Core.List.{List, [], _∷_, map}
 use lib.ListN.{length}
+use Rattle.topology.specs.Tree.{Topo}
 use Rattle.topology.specs.Reader.{fault, tree}
 use Rattle.pifo.specs.Tree.{held}
-use Rattle.pifo.specs.Machine.{pushing, popping, Answer, refused, most}
+use Rattle.pifo.specs.Machine.{Call, pushing, popping, Answer, refused, most, opened, serve, answersBy}
 use Rattle.pifo.specs.Runs.{acceptedBy, departedBy, fullBy}
 use Rattle.embedding_laws.specs.Rules.{Passes}
 use Rattle.embedding_laws.specs.Least.{searchFault}
+use Rattle.simulation.specs.Sheet.{serveCarried}
 use Rattle.queue_state.specs.State.{treeOf, wellFormed}
-use Rattle.queue_tree.specs.Arrivals.{stepsOf}
 use Rattle.queue_state.specs.Opening.{amount, Opens}
-use Rattle.queue_tree.specs.Calls.{Serves}
+use Rattle.queue_tree.specs.Calls.{stepsOf, Serves}
 use Rattle.queue_state.specs.declared.State.{State}
 use Rattle.queue_tree.specs.declared.Path.{Path}
 use Rattle.queue_state.specs.declared.Opened.{Opened}
@@ -59,10 +60,10 @@ Run Calls s [] (l ∷ ls) = ⊥
 Run Calls s (c ∷ cs) [] = ⊥
 Run Calls s (c ∷ cs) ((a, v) ∷ ls) = (r : State) × Calls s c a r × (v ≡ look r) × Run Calls r cs ls
 
--- What the looks are, where i packets were accepted so far, o departed and f pushes were refused by 15: packets held are those accepted
--- less those that departed, and refusals counted the pushes refused by 15, up to the largest count.
-abbrev pub tally : ℕ → ℕ → ℕ → Look
-tally i o f = (Count (i - o), Count (min f most))
+-- What a look says, where i packets were accepted so far, o departed and f pushes were refused by 15: packets held are those accepted less
+-- those that departed, and refusals counted the pushes refused by 15, up to the largest count.
+abbrev pub Tally : ℕ → ℕ → ℕ → Look → Type 0
+Tally i o f v = (h : ℕ) × (h + o ≡ i) × (v ≡ (Count h, Count (min f most)))
 
 abbrev pub Tallied : ℕ → ℕ → ℕ → List (Answer ℕ × Look) → Type 0
 Tallied i o f [] = Unit
@@ -70,22 +71,35 @@ Tallied i o f ((a, v) ∷ ls) =
     let j = i + acceptedBy a in
     let p = o + length (departedBy a) in
     let g = f + fullBy a in
-    (v ≡ tally j p g) × Tallied j p g ls
+    Tally j p g v × Tallied j p g ls
 
--- Both trees are opened empty with one limit, and a list of calls goes to both. Alike are, before the first call and after every call, the
--- packets held and the refusals counted, and at every call the answer: accepted, departed with its packet, refused with its number, full
--- with the new count.
-pub record Alike (x y : State) (ls ms : List (Answer ℕ × Look)) : Type 0 where
+-- the definition's call for a call of the list, and the answers of a run
+abbrev pub callOf : Ask → Call ℕ
+callOf (push path packet) = pushing (stepsOf path) (path .«leaf_rank») packet
+callOf pop = popping
+
+abbrev pub answersOf : List (Answer ℕ × Look) → List (Answer ℕ)
+answersOf [] = []
+answersOf (l ∷ ls) = l .0 ∷ answersOf ls
+
+-- Both trees were opened empty with one limit, as x and y, and a list of calls went to both, with the runs ls and ms.
+pub record Alike (S T : Topo) (m : List ℕ) (limit : ℕ) (calls : List Ask) (x y : State) (ls ms : List (Answer ℕ × Look)) : Type 0 where
+  -- alike before the first call, in packets held and refusals counted
   pub before : look x ≡ look y
-  pub calls : ls ≡ ms
-  pub opened : look x ≡ tally 0 0 0
+  -- alike at every call, in the answer (accepted, departed with its packet, refused with its number, full with the new count), and after it
+  pub every : ls ≡ ms
+  -- what the two counts are
+  pub empty : Tally 0 0 0 (look x)
   pub tallied : Tallied 0 0 0 ls
+  -- each tree answers as its topology, the limit and the calls so far give
+  pub source : answersOf ls ≡ answersBy serve (opened S limit) (map callOf calls)
+  pub chip : answersOf ms ≡ answersBy (serveCarried S T m) (opened T limit) (map callOf calls)
 
 abbrev pub AllAlike : Type 0
 AllAlike =
     (source target m : List ℕ) (limit : ℕ) → fault 32 source ≡ 0 → fault 64 target ≡ 0 → Passes (tree source) (tree target) m → 1 ≤ limit → limit ≤ 256
     → (x y : Opened) → Opens source limit x → Opens target limit y → (calls : List Ask) (ls ms : List (Answer ℕ × Look)) → Run SourceCall (x .state) calls ls
-    → Run (ChipCall source target m) (y .state) calls ms → Alike (x .state) (y .state) ls ms
+    → Run (ChipCall source target m) (y .state) calls ms → Alike (tree source) (tree target) m limit calls (x .state) (y .state) ls ms
 
 -- The search's half: it answers 12 exactly when every list of numbers fails as the map of the pair.
 abbrev pub TwelveExactly : Type 0

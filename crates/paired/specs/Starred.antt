@@ -2,7 +2,7 @@
 -- `proofs/Starred.antt` proves the answers from the definitions. All pairs, the first three topologies and the two packets are the starred
 -- ones.
 use Prim.Native.Nat.{ℕ}
-use mathlib.Core.List.{List, [], _∷_, _++_, map}
+use mathlib.Core.List.{List, [], _∷_, map}
 use Rattle.topology.specs.Reader.{fault, tree}
 use Rattle.pifo.specs.Tree.{step}
 use Rattle.pifo.specs.Machine.{Call, pushing, popping, Answer, accepted, departed, opened, answers}

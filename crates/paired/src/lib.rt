@@ -2,10 +2,10 @@
 // gives the drawn tree the path as it is and the chip's tree the path carried over.
 use embedding::Checked;
 use queue_state::Amount;
+use queue_state::State;
 use queue_tree::Path;
 use queue_tree::PopAnswer;
 use queue_tree::PushAnswer;
-use queue_state::State;
 use topology::SOURCE_NODES;
 use topology::TARGET_NODES;
 use translator::Carried;
@@ -14,8 +14,7 @@ ghost use mathlib.Core.Bool.{true, false};
 ghost use Rattle.pifo.specs.Machine.{pushing, popping, refused};
 ghost use Rattle.pifo.specs.Tree.{held};
 ghost use Rattle.queue_state.specs.State.{treeOf};
-ghost use Rattle.queue_tree.specs.Arrivals.{stepsOf};
-ghost use Rattle.queue_tree.specs.Calls.{pushAnswer, popAnswer};
+ghost use Rattle.queue_tree.specs.Calls.{stepsOf, pushAnswer, popAnswer};
 ghost use Rattle.queue_state.specs.declared.Amount.the-variants.{Refused};
 ghost use Rattle.paired.specs.Pair.{mapped, wellPaired};
 ghost use Rattle.paired.specs.Calls.{OpensBoth, ServesBoth, CountsBoth, isIll, CarriesFor};

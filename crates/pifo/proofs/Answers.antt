@@ -11,7 +11,7 @@ use lib.Dec.{leb}
 use borrow.Author.Tests.{le-leb, lt-leb}
 use Rattle.topology.specs.Reader.{pick}
 use Rattle.pifo.specs.Tree.{Step, pathFault, PTree, push, pop, held, well}
-use Rattle.pifo.specs.Machine.{Machine, Call, pushing, popping, Answer, accepted, departed, refused, full, most, holding, counting, servePath, servePop, serve}
+use Rattle.pifo.specs.Machine.{Machine, Call, pushing, popping, Answer, accepted, departed, refused, full, most, holding, counting, servePath, servePop, serve, numberOf}
 use Rattle.pifo.proofs.Paths.{fault-number}
 use Rattle.pifo.proofs.Pop.{pop-none, none-pop}
 
@@ -63,28 +63,22 @@ module _ {P : Type 0} (m : Machine P) where
       by-pop none = refl
       by-pop (some (p, u)) = refl
 
-  abbrev pub number : Answer P → ℕ
-  number accepted = 0
-  number (departed p) = 0
-  number (refused n) = n
-  number (full n) = 15
-
-  pub serve-number : (c : Call P) → number (serve m c .0) ≤ 16
+  pub serve-number : (c : Call P) → numberOf (serve m c .0) ≤ 16
   serve-number (pushing ss l p) = by-fault (pathFault (m .topology) ss) (fault-number (m .topology) ss)
     where
-      by-test : (b : Bool) (c : ℕ) → number (pick {A = Answer P × Machine P} b (full c, counting m c) (accepted, holding m (push (m .tree) ss l p)) .0) ≤ 16
+      by-test : (b : Bool) (c : ℕ) → numberOf (pick {A = Answer P × Machine P} b (full c, counting m c) (accepted, holding m (push (m .tree) ss l p)) .0) ≤ 16
       by-test true c = omega arith
       by-test false c = omega arith
 
-      by-fault : (f : ℕ) → (f ≡ 0) ⊎ ((13 ≤ f) × (f ≤ 14)) → number (servePath f m ss l p .0) ≤ 16
+      by-fault : (f : ℕ) → (f ≡ 0) ⊎ ((13 ≤ f) × (f ≤ 14)) → numberOf (servePath f m ss l p .0) ≤ 16
       by-fault (suc f) (inl e) = absurd (omega arith)
       by-fault (suc f) (inr h) = omega arith
       by-fault zero h = by-test (leb (m .limit) (held (m .tree))) (min (suc (m .refusals)) most)
   serve-number popping = by-pop (pop (m .tree))
     where
-      by-pop : (o : Option (P × PTree P)) → number (servePop m o .0) ≤ 16
+      by-pop : (o : Option (P × PTree P)) → numberOf (servePop m o .0) ≤ 16
       by-pop none = omega arith
       by-pop (some (p, u)) = omega arith
 
   pub never-18 : (c : Call P) → serve m c .0 ≡ refused 18 → ⊥
-  never-18 c e = omega (arith, serve-number c, ap number e)
+  never-18 c e = omega (arith, serve-number c, ap numberOf e)

@@ -25,6 +25,13 @@ pub data Answer (P : Type 0) : Type 0 where
   refused : ℕ → Answer P
   full : ℕ → Answer P
 
+-- the number of a refusal, 0 where there is none
+abbrev pub numberOf : {P : Type 0} → Answer P → ℕ
+numberOf accepted = 0
+numberOf (departed p) = 0
+numberOf (refused n) = n
+numberOf (full c) = 15
+
 -- the largest count of refusals
 abbrev pub most : ℕ
 most = 4294967295
@@ -41,7 +48,7 @@ module _ {P : Type 0} where
   abbrev pub opened : Topo → ℕ → Machine P
   opened t limit = record { topology = t; limit = limit; refusals = 0; tree = empty t }
 
-  -- a push whose path has no fault
+  -- a push whose path has the given fault, 0 for none
   abbrev pub servePath : ℕ → Machine P → List Step → ℕ → P → Answer P × Machine P
   servePath (suc f) m ss l p = (refused (suc f), m)
   servePath zero m ss l p =

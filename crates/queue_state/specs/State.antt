@@ -53,7 +53,8 @@ allBelow k (o ∷ os) = ltb o k && allBelow k os
 unfoldable pub inBounds : State → Bool
 inBounds s = leb (s .nodes) 64 && leb (s .used) 2304 && allBelow (s .nodes) (take (s .used) (s .owners))
 
--- Paper 01: its topology is valid, its limit is 1 to 256, it holds no more packets than the limit, and its tree is well formed.
+-- Paper 01: its topology is valid, its limit is 1 to 256, it holds no more packets than the limit, and its tree is well formed. Before
+-- that the arrays must hold what is read from them.
 unfoldable pub wellFormed : State → Bool
 wellFormed s =
     inBounds s && eqb (fault 64 (bytes s)) 0 && (leb 1 (s .limit) && leb (s .limit) 256) && well (treeOf s) && leb (held (treeOf s)) (s .limit)

@@ -52,7 +52,12 @@ fn place(bytes: &[u8], node: usize, entry: Entry, last: u32) -> usize
 }
 
 // One pass over the entries: each is owned by a node, no rank falls within a queue, and each node may hold its items.
-pub(crate) fn tally(bytes: &[u8], owners: [u8; 2304], entries: [Entry; 2304], used: usize) -> Counted
+pub(crate) fn tally(
+    bytes: &[u8],
+    owners: [u8; 2304],
+    entries: [Entry; 2304],
+    used: usize,
+) -> Counted
     requires { ⌜ Small (now bytes) × (used ≤ 2304) ⌝ }
     ensures { λ r. ⌜ Tallied (now (bytes .entry)) (take used owners) (queueIn owners entries used) r ⌝ }
 {

@@ -7,7 +7,7 @@ use lib.ListN.{length, take, drop, getD, length-take}
 use lib.Seq.{drop-cons, getD-take}
 use Rattle.lists.proofs.Map.{length-map, getD-map}
 use Rattle.pifo.specs.Tree.{Step}
-use Rattle.queue_tree.specs.Arrivals.{stepOf, stepsOf}
+use Rattle.queue_tree.specs.Calls.{stepOf, stepsOf}
 use Rattle.queue_tree.specs.declared.Path.{Path}
 use Rattle.queue_tree.specs.declared.Step.{Step as CodeStep}
 

@@ -29,7 +29,8 @@ use Rattle.pifo.specs.Numbered.{kidAt, entered}
 use Rattle.pifo.proofs.Paths.{fault-above, fault-on, fault-off}
 use Rattle.queue_state.specs.State.{entryOf}
 use Rattle.queue_state.specs.Sound.{noEntry}
-use Rattle.queue_tree.specs.Arrivals.{stepOf, stepsOf, sum, marked, Walked}
+use Rattle.queue_tree.specs.Arrivals.{sum, marked, Walked}
+use Rattle.queue_tree.specs.Calls.{stepOf, stepsOf}
 use Rattle.queue_tree.specs.declared.Path.{Path}
 use Rattle.queue_tree.specs.declared.Step.{Step as CodeStep}
 use Rattle.queue_state.specs.declared.Item.the-variants.{Child, Packet}

@@ -1,28 +1,19 @@
 -- What the private functions of a push promise.
 use mathlib.Core.Path.{_≡_}
 use Prim.Native.Nat.{ℕ, zero, suc, _+_, _≤_, _<_}
-use mathlib.Core.List.{List, [], _∷_, map}
+use mathlib.Core.List.{List, [], _∷_}
 use mathlib.Core.Option.{Option, none, some}
 use lib.ListN.{length, take, getD}
 use Rattle.topology.specs.Tree.{Topo}
 use mathlib.Core.Bool.{true}
 use Rattle.pifo.specs.Queue.{Entry, risesFrom}
-use Rattle.pifo.specs.Tree.{Step, step, pathFault}
+use Rattle.pifo.specs.Tree.{Step, pathFault}
 use Rattle.pifo.specs.Numbered.{entered, insertSome}
 use Rattle.queue_state.specs.State.{entryOf, queueIn, allBelow}
 use Rattle.queue_state.specs.Sound.{noEntry}
-use Rattle.queue_tree.specs.declared.Step.{Step as CodeStep}
-use Rattle.queue_tree.specs.declared.Path.{Path}
 use Rattle.queue_state.specs.declared.Entry.{Entry as CodeEntry}
 use Rattle.queue_tree.specs.declared.arrivals.Added.{Added}
 use Rattle.queue_tree.specs.declared.arrivals.Lists.{Lists}
-
--- the definition's path for the code's
-abbrev pub stepOf : CodeStep → Step
-stepOf s = step (s .child) (s .rank)
-
-abbrev pub stepsOf : Path → List Step
-stepsOf p = map stepOf (take (p .count) (p .steps))
 
 abbrev pub sum : List ℕ → ℕ
 sum [] = 0

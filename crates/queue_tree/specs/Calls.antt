@@ -1,14 +1,26 @@
 -- What the calls promise: for every state and argument the answer, and the state after it.
 use mathlib.Core.Path.{_≡_}
 use Prim.Native.Nat.{ℕ}
+use mathlib.Core.List.{List, map}
 use mathlib.Core.Bool.{true, false}
+use lib.ListN.{take}
+use Rattle.pifo.specs.Tree.{Step, step}
 use Rattle.pifo.specs.Machine.{Call, Answer, accepted, departed, refused, full, serve}
 use Rattle.queue_state.specs.State.{machine, wellFormed}
 use Rattle.queue_state.specs.declared.State.{State}
+use Rattle.queue_tree.specs.declared.Step.{Step as CodeStep}
+use Rattle.queue_tree.specs.declared.Path.{Path}
 use Rattle.queue_tree.specs.declared.PushAnswer.{PushAnswer}
 use Rattle.queue_tree.specs.declared.PushAnswer.the-variants.{Accepted, Refused, Full}
 use Rattle.queue_tree.specs.declared.PopAnswer.{PopAnswer}
 use Rattle.queue_tree.specs.declared.PopAnswer.the-variants.{Departed, Refused as PopRefused}
+
+-- the definition's path for the code's
+abbrev pub stepOf : CodeStep → Step
+stepOf s = step (s .child) (s .rank)
+
+abbrev pub stepsOf : Path → List Step
+stepsOf p = map stepOf (take (p .count) (p .steps))
 
 -- the paper's answer for each case of the code's
 abbrev pub pushAnswer : PushAnswer → Answer ℕ
@@ -26,7 +38,8 @@ counting s c =
     record { topology = s .topology; nodes = s .nodes; limit = s .limit; refused = c; owners = s .owners; entries = s .entries; used = s .used }
 
 -- A call on a state: refused by 18 where the state is not well formed, else as the machine answers. A refusal leaves the state as it
--- was, but for the count where the tree is full.
+-- was, but for the count where the tree is full. Left free is how the arrays of a state after an accepted push or a pop have its machine:
+-- the order between queues, and what stands past `used` and `nodes`. Every call goes by the machine alone.
 pub record Serves (s : State) (call : Call ℕ) (a : Answer ℕ) (r : State) : Type 0 where
   pub ill : wellFormed s ≡ false → a ≡ refused 18
   pub answer : wellFormed s ≡ true → a ≡ serve (machine s) call .0

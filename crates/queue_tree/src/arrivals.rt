@@ -1,7 +1,7 @@
 // A push: the walk down its path, and the new entries put among the old.
+use super::Path;
 use queue_state::Entry;
 use queue_state::Item;
-use super::Path;
 use topology::Found;
 use topology::wide;
 ghost use mathlib.Core.Path.{_≡_};
@@ -10,7 +10,8 @@ ghost use Prim.Native.Nat.{_≤_, _<_};
 ghost use lib.ListN.{length};
 ghost use Rattle.topology.specs.Reader.{fault, tree};
 ghost use Rattle.queue_state.specs.Sound.{Decides};
-ghost use Rattle.queue_tree.specs.Arrivals.{stepsOf, Walked, Ready, Entered};
+ghost use Rattle.queue_tree.specs.Arrivals.{Walked, Ready, Entered};
+ghost use Rattle.queue_tree.specs.Calls.{stepsOf};
 
 // The fault of a path, or the new entry of each node that is marked as pending.
 pub(crate) struct Added {

@@ -5,12 +5,10 @@ mod departures;
 
 use queue_state::State;
 use queue_state::examine;
-
 ghost use mathlib.Core.Path.{_≡_};
 ghost use Prim.Native.Nat.{suc, min};
 ghost use Rattle.pifo.specs.Machine.{pushing, popping, most};
-ghost use Rattle.queue_tree.specs.Arrivals.{stepsOf};
-ghost use Rattle.queue_tree.specs.Calls.{pushAnswer, popAnswer, Serves};
+ghost use Rattle.queue_tree.specs.Calls.{stepsOf, pushAnswer, popAnswer, Serves};
 
 #[repr(C)]
 pub struct Step {

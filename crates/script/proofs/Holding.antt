@@ -15,8 +15,7 @@ use Rattle.pifo.specs.Tree.{Step, step, held}
 use Rattle.pifo.specs.Machine.{Machine, Call, pushing, popping, serve, opened}
 use Rattle.embedding_laws.specs.Least.{searchMap}
 use Rattle.queue_state.specs.State.{machine, treeOf}
-use Rattle.queue_tree.specs.Arrivals.{stepsOf}
-use Rattle.queue_tree.specs.Calls.{pushAnswer, popAnswer}
+use Rattle.queue_tree.specs.Calls.{stepsOf, pushAnswer, popAnswer}
 use Rattle.queue_tree.specs.declared.Path.{Path}
 use Rattle.queue_state.specs.declared.Amount.{Amount}
 use Rattle.queue_state.specs.declared.Amount.the-variants.{Count}

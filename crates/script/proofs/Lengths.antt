@@ -16,11 +16,11 @@ use Rattle.topology.specs.Reader.{pick, fault, tree}
 use Rattle.topology.proofs.Reader.{within}
 use Rattle.topology.proofs.Refusals.{orElse-none, orElse-most, pick-most, fault-most}
 use Rattle.pifo.specs.Tree.{Step, step, held}
-use Rattle.pifo.specs.Machine.{Machine, Call, pushing, popping, Answer, accepted, departed, refused, full, serve}
+use Rattle.pifo.specs.Machine.{Machine, Call, pushing, popping, Answer, accepted, departed, refused, full, numberOf, serve}
 use Rattle.pifo.specs.Runs.{Sound}
 use Rattle.pifo.proofs.Order.{both}
 use Rattle.pifo.proofs.Runs.{served as serve-sound, opened-sound}
-use Rattle.pifo.proofs.Answers.{number, serve-number}
+use Rattle.pifo.proofs.Answers.{serve-number}
 use Rattle.embedding_laws.specs.Least.{Found, nothing, list, noneFault, leastMap, searchFault, searchMap}
 use Rattle.queue_state.specs.Opening.{limitFault}
 use Rattle.paired.specs.Calls.{bothFault}
@@ -135,7 +135,7 @@ module _ (at : ℕ) (h : at < 65536) where
       let z = serve-sound m c s in
       by-answer (serve m c .0) (serve m c .1) (z .sound) (omega (arith, z .limit, g)) (serve-number m c)
     where
-      by-answer : (a : Answer ℕ) (n : Machine ℕ) → Sound n → n .limit ≤ 256 → number m a ≤ 16 → Short at (serving m steps) (served (a, n) after)
+      by-answer : (a : Answer ℕ) (n : Machine ℕ) → Sound n → n .limit ≤ 256 → numberOf a ≤ 16 → Short at (serving m steps) (served (a, n) after)
       by-answer accepted n t l k = record { good = (t, l); line = omega (arith, in-length (held (n .tree)) (omega (arith, t .limit, l))) }
       by-answer (departed p) n t l k = record { good = (t, l); line = omega (arith, out-length p) }
       by-answer (refused x) n t l k = record { good = (t, l); line = omega (arith, no-length x at (omega (arith, k)) h) }

@@ -40,7 +40,7 @@ stops (left p) = false
 abbrev pub outOfTurn : Sheet → Reply × Sheet
 outOfTurn sheet = (no-by 22, sheet)
 
--- 04, by the number of its refusal: the images of the source's nodes, and both trees opened empty
+-- 04, by the number of its refusal: the images of the source's nodes, and the source's machine opened empty
 abbrev pub compiled : ℕ → List ℕ → List ℕ → ℕ → Reply × Sheet
 compiled zero source target limit =
     (mapped (take (length source) (searchMap source target)), serving (opened (tree source) limit) [])

@@ -31,8 +31,8 @@ pub(crate) enum Read {
     Refused(u8, usize),
 }
 
-// The script reader: the script, and the offset of its next command. The borrow checker covers no function over a struct that holds a
-// slice, so there are three of them, thin, and `operands::command_at` does the work.
+// The script reader: the script, and the offset of its next command. A function over a struct that holds a slice is proved by hand, so
+// the two over this one are thin, and `operands::command_at`, on the slice and the number, does the work.
 struct Reader<'a> {
     pub script: &'a [u8],
     pub at: usize,

@@ -154,6 +154,6 @@ module _ (S T : Topo) (m : List ℕ) (E : Passes S T m) where
         let rest = lines-alike x y cs p in
         λ i. (v i, rest i)
 
-    -- Demand 3.
+    -- Demand 3 on the definitions. `demand-3` of the crate `paired` says it of the code.
     pub same-log : (limit : ℕ) (cs : List (Call P)) → log serve (opened S limit) cs ≡ log (serveCarried S T m) (opened T limit) cs
     same-log limit cs = log-alike (opened S limit) (opened T limit) cs (paired-opened limit)

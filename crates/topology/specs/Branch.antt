@@ -37,10 +37,11 @@ isAbove bytes a b = leb a b && ltb b (branchEnd bytes a)
 unfoldable pub branchFault : List ℕ → ℕ → ℕ
 branchFault bytes n = orElse (fault 64 bytes) (pick (ltb n (length bytes)) 0 19)
 
--- the branch under node n as a stretch of the bytes; nothing where it is refused
+-- a list, or nothing where there is a refusal
 abbrev pub unless : ℕ → List ℕ → List ℕ
 unless zero l = l
 unless (suc f) l = []
 
+-- the branch under node n as a stretch of the bytes; nothing where it is refused
 unfoldable pub branchPart : List ℕ → ℕ → List ℕ
 branchPart bytes n = unless (branchFault bytes n) (take (branchEnd bytes n - n) (drop n bytes))

@@ -15,7 +15,7 @@ use Rattle.embedding.specs.declared.Checked.{Checked}
 use Rattle.embedding.specs.declared.Checked.the-variants.{Passes, Refused}
 use Rattle.simulation.specs.Carrying.{carry}
 use Rattle.simulation.proofs.Simulation.{carry-fault, carry-length}
-use Rattle.queue_tree.specs.Arrivals.{stepsOf}
+use Rattle.queue_tree.specs.Calls.{stepsOf}
 use Rattle.queue_tree.specs.declared.Path.{Path}
 use Rattle.translator.specs.Carry.{carryFault, Carries, Arrives}
 use Rattle.translator.specs.declared.Carried.{Carried}

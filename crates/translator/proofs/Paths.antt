@@ -5,7 +5,7 @@ use native.Mathlib.Omega.{arith}
 use mathlib.Core.List.{List, [], _∷_, _++_, map}
 use lib.ListN.{length, take, set, replicate, length-append}
 use Rattle.pifo.specs.Tree.{Step, step}
-use Rattle.queue_tree.specs.Arrivals.{stepOf, stepsOf}
+use Rattle.queue_tree.specs.Calls.{stepOf, stepsOf}
 use Rattle.queue_tree.specs.declared.Step.{Step as CodeStep}
 use Rattle.queue_tree.specs.declared.Path.{Path}
 use Rattle.translator.specs.Carry.{codeStep, noStep, pathOf}

@@ -26,7 +26,7 @@ use Rattle.embedding_laws.specs.Check.{mapFault}
 use Rattle.embedding_laws.proofs.Rules.{mapFault-none}
 use Rattle.simulation.specs.Carrying.{steps, carry, route, carryNodes}
 use Rattle.simulation.proofs.Nodes.{image-below, carry-nodes}
-use Rattle.queue_tree.specs.Arrivals.{stepOf, stepsOf}
+use Rattle.queue_tree.specs.Calls.{stepOf, stepsOf}
 use Rattle.queue_tree.specs.declared.Step.{Step as CodeStep}
 use Rattle.queue_tree.specs.declared.Path.{Path}
 use Rattle.queue_tree.proofs.Paths.{step-at, steps-end}

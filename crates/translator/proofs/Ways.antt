@@ -7,7 +7,7 @@ use native.Mathlib.Omega.{arith}
 use mathlib.Core.List.{List, [], _∷_, _++_, append-nil, append-assoc}
 use lib.ListN.{length-append}
 use Rattle.topology.specs.Tree.{Topo, size}
-use Rattle.topology.specs.Address.{Above, addr, subtree, child, childOf, depth}
+use Rattle.topology.specs.Address.{Above, addr, subtree, childOf, depth}
 use Rattle.topology.specs.Reader.{tree}
 use Rattle.topology.specs.Branch.{branchEnd}
 use Rattle.topology.proofs.Numbering.{addr-in}
@@ -18,7 +18,7 @@ use Rattle.topology.proofs.Reader.{within}
 use Rattle.pifo.specs.Tree.{Step, step}
 use Rattle.simulation.specs.Carrying.{steps, route}
 use Rattle.simulation.proofs.Nodes.{route-self, route-step, route-child}
-use Rattle.queue_tree.specs.Arrivals.{stepsOf}
+use Rattle.queue_tree.specs.Calls.{stepsOf}
 use Rattle.queue_tree.specs.declared.Path.{Path}
 use Rattle.translator.specs.Carry.{pathOf}
 use Rattle.translator.specs.Ways.{Plain, Over, Toward}

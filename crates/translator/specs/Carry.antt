@@ -8,7 +8,7 @@ use Rattle.topology.specs.Reader.{orElse, tree}
 use Rattle.pifo.specs.Tree.{Step, step, pathFault}
 use Rattle.embedding_laws.specs.Check.{mapFault}
 use Rattle.simulation.specs.Carrying.{carry}
-use Rattle.queue_tree.specs.Arrivals.{stepsOf}
+use Rattle.queue_tree.specs.Calls.{stepsOf}
 use Rattle.queue_tree.specs.declared.Step.{Step as CodeStep}
 use Rattle.queue_tree.specs.declared.Path.{Path}
 use Rattle.translator.specs.declared.Carried.{Carried}

@@ -11,7 +11,7 @@ ghost use Rattle.topology.specs.Address.{depth};
 ghost use Rattle.pifo.specs.Tree.{step};
 ghost use Rattle.embedding_laws.specs.Check.{mapFault};
 ghost use Rattle.simulation.specs.Carrying.{steps, route};
-ghost use Rattle.queue_tree.specs.Arrivals.{stepsOf};
+ghost use Rattle.queue_tree.specs.Calls.{stepsOf};
 ghost use Rattle.translator.specs.Carry.{pathOf, Carries};
 ghost use Rattle.translator.specs.Ways.{Plain, Over, Toward};
 use embedding::Checked;

@@ -3,7 +3,6 @@ use mathlib.Core.Path.{sym, ap}
 use borrow.Author.Needs.{needs}
 use Rattle.queue_tree.specs.Calls.{popAnswer}
 use Rattle.queue_tree.specs.declared.PopAnswer.{PopAnswer}
-use Rattle.exports_queue_tree.specs.Answers.{numberOf}
 use Rattle.exports_queue_tree.proofs.pop_number.Statement.{statement}
 use Rattle.exports_queue_tree.proofs.pop_number.Tie as tie
 

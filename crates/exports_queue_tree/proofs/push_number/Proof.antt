@@ -3,7 +3,6 @@ use mathlib.Core.Path.{sym, ap}
 use borrow.Author.Needs.{needs}
 use Rattle.queue_tree.specs.Calls.{pushAnswer}
 use Rattle.queue_tree.specs.declared.PushAnswer.{PushAnswer}
-use Rattle.exports_queue_tree.specs.Answers.{numberOf}
 use Rattle.exports_queue_tree.proofs.push_number.Statement.{statement}
 use Rattle.exports_queue_tree.proofs.push_number.Tie as tie
 
