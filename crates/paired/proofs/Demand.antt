@@ -188,9 +188,9 @@ module _ (source target m : List ℕ) where
       let n = next s t c a b x y h v u in
       let q = chip-serves s t c b y h u in
       let f : b ≡ serveCarried (tree source) (tree target) m (machine t) (callOf c) .0 =
-      rw (sym (h .source-is), sym (h .chip-is), sym (h .images-are)) (q .answer) in
+      rw (sym (h .images-are), sym (h .source-is), sym (h .chip-is)) (q .answer) in
       let g : machine y ≡ serveCarried (tree source) (tree target) m (machine t) (callOf c) .1 =
-      rw (sym (h .source-is), sym (h .chip-is), sym (h .images-are)) (q .machine) in
+      rw (sym (h .images-are), sym (h .source-is), sym (h .chip-is)) (q .machine) in
       let rest = chip-answers cs x y ls ms (n .1) vs us
       ∙ ap (λ (z : Machine ℕ). answersBy (serveCarried (tree source) (tree target) m) z (map callOf cs)) g in
       λ k. f k ∷ rest k

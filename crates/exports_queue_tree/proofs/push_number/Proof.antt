@@ -1,6 +1,7 @@
 -- The number of each case.
 use mathlib.Core.Path.{sym, ap}
 use borrow.Author.Needs.{needs}
+use Rattle.pifo.specs.Machine.{numberOf}
 use Rattle.queue_tree.specs.Calls.{pushAnswer}
 use Rattle.queue_tree.specs.declared.PushAnswer.{PushAnswer}
 use Rattle.exports_queue_tree.proofs.push_number.Statement.{statement}
