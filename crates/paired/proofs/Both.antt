@@ -17,10 +17,10 @@ use Rattle.queue_tree.specs.Calls.{Serves}
 use Rattle.queue_state.specs.declared.State.{State}
 use Rattle.queue_state.proofs.Matches.{off}
 use Rattle.queue_tree.proofs.Served.{apart}
-use Rattle.paired.specs.Pair.{sourceTree, chipTree, images, mapped, wellPaired, InStep}
+use Rattle.pair_state.specs.Pair.{sourceTree, chipTree, images, mapped, wellPaired, InStep}
 use Rattle.paired.specs.Calls.{ServesChip, ServesBoth}
-use Rattle.paired.specs.declared.Pair.{Pair}
-use Rattle.paired.proofs.Parts.{parts, joined, passes, same-bytes}
+use Rattle.pair_state.specs.declared.Pair.{Pair}
+use Rattle.pair_state.proofs.Parts.{parts, joined, passes, same-bytes}
 
 -- the answer 18, and it alone, says that a state is not well formed
 pub served-ill : (s r : State) (call : Call ℕ) (a : Answer ℕ) → Serves s call a r → a ≡ refused 18 → wellFormed s ≡ false

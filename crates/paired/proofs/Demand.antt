@@ -32,14 +32,14 @@ use Rattle.queue_state.proofs.Verdict.{formed}
 use Rattle.translator.specs.Carry.{carryFault, Carries}
 use Rattle.translator.specs.declared.Carried.{Carried}
 use Rattle.translator.proofs.Outcome.{carried-steps}
-use Rattle.paired.specs.Pair.{images, mapped, InStep}
+use Rattle.pair_state.specs.Pair.{images, mapped, InStep}
 use Rattle.paired.specs.Calls.{ServesChip}
 use Rattle.paired.specs.Demand.{Ask, push, pop, Look, look, SourceCall, Passed, ChipCall, Run, Tally, Tallied, callOf, answersOf, AllAlike, Demand3}
-use Rattle.paired.specs.declared.Pair.{Pair}
-use Rattle.paired.proofs.Parts.{Parts, parts, map-fault}
+use Rattle.pair_state.specs.declared.Pair.{Pair}
+use Rattle.pair_state.proofs.Parts.{Parts, parts, map-fault}
 use Rattle.paired.proofs.Both.{source-bytes, chip-bytes, alike, chip-pop, chip-fault, chip-push}
-use Rattle.paired.proofs.Start.{source-opened, chip-opened, opened-in-step, open-number}
-use Rattle.paired.proofs.Counts.{held-both, refused-both}
+use Rattle.pair_state.proofs.Start.{source-opened, chip-opened, opened-in-step, open-number}
+use Rattle.pair_state.proofs.Counts.{held-both, refused-both}
 
 source-serves : (c : Ask) (s : State) (a : Answer ℕ) (r : State) → SourceCall s c a r → Serves s (callOf c) a r
 source-serves (push path packet) s a r v = v

@@ -1,8 +1,5 @@
-pub mod Parts
-pub mod Mapped
+pub mod Carrying
 pub mod Both
 pub mod Pushing
-pub mod Start
-pub mod Counts
 pub mod Demand
 pub mod Starred

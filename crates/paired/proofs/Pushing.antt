@@ -13,10 +13,11 @@ use Rattle.queue_tree.specs.Calls.{stepsOf, Serves}
 use Rattle.queue_state.specs.declared.State.{State}
 use Rattle.queue_tree.specs.declared.Path.{Path}
 use Rattle.translator.specs.declared.Carried.{Carried}
-use Rattle.paired.specs.Pair.{sourceTree, mapped, wellPaired}
-use Rattle.paired.specs.Calls.{ServesBoth, isIll, CarriesFor}
-use Rattle.paired.specs.declared.Pair.{Pair}
-use Rattle.paired.proofs.Parts.{joined, not-source, not-chip}
+use Rattle.pair_state.specs.Pair.{sourceTree, mapped, wellPaired}
+use Rattle.paired.specs.Calls.{ServesBoth}
+use Rattle.paired.specs.Steps.{isIll, CarriesFor}
+use Rattle.pair_state.specs.declared.Pair.{Pair}
+use Rattle.pair_state.proofs.Parts.{joined, not-source, not-chip}
 use Rattle.paired.proofs.Both.{served-ill, served-formed, serves-both, chip-pop, chip-fault, chip-push}
 
 -- 18, and no other answer, is `isIll`

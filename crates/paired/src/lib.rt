@@ -1,8 +1,8 @@
 // Both trees on one sheet: the tree that a park draws and the tree of a gateway's chip, served together. Each call goes to both; a push
 // gives the drawn tree the path as it is and the chip's tree the path carried over.
-use embedding::Checked;
+use pair_state::Pair;
+use pair_state::is_mapped;
 use queue_state::Amount;
-use queue_state::State;
 use queue_tree::Path;
 use queue_tree::PopAnswer;
 use queue_tree::PushAnswer;
@@ -10,27 +10,10 @@ use topology::SOURCE_NODES;
 use topology::TARGET_NODES;
 use translator::Carried;
 ghost use mathlib.Core.Path.{_≡_};
-ghost use mathlib.Core.Bool.{true, false};
 ghost use Rattle.pifo.specs.Machine.{pushing, popping, refused};
-ghost use Rattle.pifo.specs.Tree.{held};
-ghost use Rattle.queue_state.specs.State.{treeOf};
 ghost use Rattle.queue_tree.specs.Calls.{stepsOf, pushAnswer, popAnswer};
-ghost use Rattle.queue_state.specs.declared.Amount.the-variants.{Refused};
-ghost use Rattle.paired.specs.Pair.{mapped, wellPaired};
-ghost use Rattle.paired.specs.Calls.{OpensBoth, ServesBoth, CountsBoth, isIll, CarriesFor};
-
-// The tree as drawn, the chip's tree, and the map of the one into the other.
-pub struct Pair {
-    pub source: State,
-    pub chip: State,
-    pub map: [u8; 32],
-}
-
-// The answer to an opening: 0 and both trees, empty; or a refusal's number and a pair that every call refuses by 18.
-pub struct PairOpened {
-    pub pair: Pair,
-    pub refusal: u8,
-}
+ghost use Rattle.paired.specs.Calls.{ServesBoth};
+ghost use Rattle.paired.specs.Steps.{isIll, CarriesFor};
 
 // What each tree answers, and the pair after it.
 pub struct PairPushed {
@@ -43,67 +26,6 @@ pub struct PairPopped {
     pub pair: Pair,
     pub source: PopAnswer,
     pub chip: PopAnswer,
-}
-
-pub struct PairAmount {
-    pub source: Amount,
-    pub chip: Amount,
-}
-
-// Whether the map of a pair passes. A source of more nodes than it may have, or a state with more than its array, has none that does.
-fn is_mapped(pair: Pair) -> bool
-    ensures { λ r. ⌜ (r ≡ true → mapped pair ≡ true) × (r ≡ false → wellPaired pair ≡ false) ⌝ }
-{
-    let source = pair.source;
-    let chip = pair.chip;
-    let map = pair.map;
-    let nodes = source.nodes;
-    let places = chip.nodes;
-    if SOURCE_NODES < nodes {
-        return false;
-    }
-    if TARGET_NODES < places {
-        return false;
-    }
-    let drawing = source.topology;
-    let target = chip.topology;
-    match embedding::check(&drawing[..nodes], &target[..places], &map[..nodes]) {
-        Checked::Passes => true,
-        Checked::Refused(_) => false,
-    }
-}
-
-// Opens both trees, empty, with one packet limit and the least map: 1 to 5 of the source, 1 to 5 of the target, 12, 17.
-pub fn open(source: &[u8], target: &[u8], limit: usize) -> PairOpened
-    ensures { λ r. ⌜ OpensBoth (now (source .entry)) (now (target .entry)) limit r ⌝ }
-{
-    let found = embedding::search(source, target);
-    let map = found.map;
-    let number = found.number;
-    if number != 0 {
-        let none = queue_state::open(&source[..0], limit);
-        let state = none.state;
-        return PairOpened {
-            pair: Pair {
-                source: state,
-                chip: state,
-                map,
-            },
-            refusal: number,
-        };
-    }
-    let drawn = queue_state::open(source, limit);
-    let drawn_state = drawn.state;
-    let chip = queue_state::open(target, limit);
-    let chip_state = chip.state;
-    PairOpened {
-        pair: Pair {
-            source: drawn_state,
-            chip: chip_state,
-            map,
-        },
-        refusal: drawn.refusal,
-    }
 }
 
 // Carries a path over from the drawn tree to the chip's, or answers 18 where the map between them does not pass.
@@ -253,56 +175,5 @@ pub fn pop(pair: Pair) -> PairPopped
         },
         source: drawn_answer,
         chip: taken_answer,
-    }
-}
-
-fn no_amount() -> PairAmount
-    ensures { λ r. ⌜ (r .source ≡ Refused 18) × (r .chip ≡ Refused 18) ⌝ }
-{
-    PairAmount {
-        source: Amount::Refused(18),
-        chip: Amount::Refused(18),
-    }
-}
-
-// How many packets each tree holds.
-pub fn held(pair: Pair) -> PairAmount
-    ensures { λ r. ⌜ CountsBoth pair (held (treeOf (pair .source))) (held (treeOf (pair .chip))) r ⌝ }
-{
-    if !is_mapped(pair) {
-        return no_amount();
-    }
-    let source = pair.source;
-    let Amount::Count(source_held) = queue_state::held(source) else {
-        return no_amount();
-    };
-    let chip = pair.chip;
-    let Amount::Count(chip_held) = queue_state::held(chip) else {
-        return no_amount();
-    };
-    PairAmount {
-        source: Amount::Count(source_held),
-        chip: Amount::Count(chip_held),
-    }
-}
-
-// How many pushes each tree has refused because it was full.
-pub fn refusals(pair: Pair) -> PairAmount
-    ensures { λ r. ⌜ CountsBoth pair (pair .source .refused) (pair .chip .refused) r ⌝ }
-{
-    if !is_mapped(pair) {
-        return no_amount();
-    }
-    let source = pair.source;
-    let Amount::Count(source_refused) = queue_state::refusals(source) else {
-        return no_amount();
-    };
-    let chip = pair.chip;
-    let Amount::Count(chip_refused) = queue_state::refusals(chip) else {
-        return no_amount();
-    };
-    PairAmount {
-        source: Amount::Count(source_refused),
-        chip: Amount::Count(chip_refused),
     }
 }

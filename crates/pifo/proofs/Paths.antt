@@ -1,16 +1,19 @@
 -- Paths with no fault, taken apart: their last step ends at a leaf, and each step names a child that is there.
-use mathlib.Core.Path.{_≡_, refl}
+use mathlib.Core.Path.{_≡_, refl, _∙_}
 use mathlib.Core.Logic.{_≢_, _⊎_, inl, inr}
 use Prim.Native.Nat.{ℕ, zero, suc, _≤_, _<_}
 use native.Mathlib.Decide.{decLe}
 use native.Mathlib.Omega.{arith}
 use mathlib.Core.List.{List, [], _∷_}
 use mathlib.Core.Bool.{Bool, true, false, _&&_}
+use lib.ListN.{length}
 use lib.Dec.{leb, eqb}
 use borrow.Author.Tests.{leb-true, eqb-true, le-leb, lt-leb, eq-eqb, ne-eqb}
-use Rattle.topology.specs.Tree.{Topo, width}
-use Rattle.topology.specs.Address.{child}
-use Rattle.topology.specs.Reader.{pick}
+use Rattle.topology.specs.Tree.{Topo, node, count, width, height}
+use Rattle.topology.specs.Address.{nth, child}
+use Rattle.topology.specs.Reader.{pick, fault, tree}
+use Rattle.topology.proofs.Reader.{within}
+use Rattle.topology.proofs.Ancestry.{nth-height}
 use Rattle.pifo.specs.Tree.{Step, step, pathFault}
 use Rattle.pifo.proofs.Order.{both}
 
@@ -71,3 +74,17 @@ fault-number t (step i r ∷ ss) = by-test (leb 1 i && leb i (width t)) (fault-n
     by-test : (b : Bool) → (f ≡ 0) ⊎ ((13 ≤ f) × (f ≤ 14)) → (pick b f 13 ≡ 0) ⊎ ((13 ≤ pick b f 13) × (pick b f 13 ≤ 14))
     by-test true h = h
     by-test false h = inr (omega arith)
+
+-- More steps than the tree is high: one of them names a child that its node lacks. No tree that is read is higher than 8, so a path with a
+-- ninth step is refused by 13.
+pub too-long : (t : Topo) (ss : List Step) → height t < length ss → pathFault t ss ≡ 13
+too-long t [] h = absurd (omega arith)
+too-long t (step zero r ∷ ss) h = refl
+too-long (node ts) (step (suc k) r ∷ ss) h = by-width (decLe (suc k) (count ts)) (too-long (nth ts k) ss)
+  where
+    by-width : Dec (suc k ≤ count ts) → (height (nth ts k) < length ss → pathFault (nth ts k) ss ≡ 13) → pathFault (node ts) (step (suc k) r ∷ ss) ≡ 13
+    by-width (yes l) below = fault-on (node ts) (suc k) r ss (omega arith) l ∙ below (omega (arith, nth-height ts k l))
+    by-width (no l) below = fault-off (node ts) (suc k) r ss (λ e. l (e .1))
+
+pub ninth-step : (bytes : List ℕ) → fault 64 bytes ≡ 0 → (ss : List Step) → 9 ≤ length ss → pathFault (tree bytes) ss ≡ 13
+ninth-step bytes f ss h = too-long (tree bytes) ss (omega (arith, h, within 64 bytes f .steps))

@@ -16,7 +16,7 @@ use Rattle.topology.proofs.Lookup.{valid-length}
 use Rattle.topology.proofs.Refusals.{orElse-none, fault-most}
 use Rattle.embedding_laws.specs.Least.{Found, nothing, list, noneFault, leastMap, searchFault, padded, unlessRefused, searchMap}
 use Rattle.queue_state.specs.Opening.{limitFault}
-use Rattle.paired.specs.Calls.{bothFault}
+use Rattle.pair_state.specs.Opening.{bothFault}
 use Rattle.script.specs.Sheet.{no-by, stops}
 
 -- what comes after matters only where the first is 0

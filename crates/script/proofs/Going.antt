@@ -9,7 +9,7 @@ use mathlib.Core.Option.{none}
 use lib.ListN.{length}
 use Rattle.topology.specs.Reader.{pick}
 use Rattle.queue_tree.specs.declared.Path.{Path}
-use Rattle.paired.specs.declared.Pair.{Pair}
+use Rattle.pair_state.specs.declared.Pair.{Pair}
 use Rattle.text.specs.Text.{Puts}
 use Rattle.text.specs.Lines.{noLine}
 use Rattle.text.proofs.Writing.{puts-none, puts-length, puts-then}

@@ -23,13 +23,15 @@ use Rattle.queue_tree.specs.declared.PushAnswer.{PushAnswer}
 use Rattle.queue_tree.specs.declared.PushAnswer.the-variants.{Accepted, Refused as NoPush, Full}
 use Rattle.queue_tree.specs.declared.PopAnswer.{PopAnswer}
 use Rattle.queue_tree.specs.declared.PopAnswer.the-variants.{Departed, Refused as NoPop}
-use Rattle.paired.specs.Pair.{InStep}
-use Rattle.paired.specs.Calls.{bothFault, OpensBoth, ServesBoth, CountsBoth}
-use Rattle.paired.specs.declared.Pair.{Pair}
-use Rattle.paired.specs.declared.PairOpened.{PairOpened}
-use Rattle.paired.specs.declared.PairAmount.{PairAmount}
-use Rattle.paired.proofs.Parts.{parts}
-use Rattle.paired.proofs.Counts.{held-both}
+use Rattle.pair_state.specs.Pair.{InStep}
+use Rattle.pair_state.specs.Opening.{bothFault, OpensBoth}
+use Rattle.pair_state.specs.Counts.{CountsBoth}
+use Rattle.paired.specs.Calls.{ServesBoth}
+use Rattle.pair_state.specs.declared.Pair.{Pair}
+use Rattle.pair_state.specs.declared.PairOpened.{PairOpened}
+use Rattle.pair_state.specs.declared.PairAmount.{PairAmount}
+use Rattle.pair_state.proofs.Parts.{parts}
+use Rattle.pair_state.proofs.Counts.{held-both}
 use Rattle.script.specs.declared.Command.{Command}
 use Rattle.script.specs.declared.Command.the-variants.{Source, Target, Limit, Compile, Step as StepTo, Push, Pop}
 use Rattle.script.specs.declared.gathering.Drawing.{Drawing}

@@ -23,8 +23,8 @@ use Rattle.pifo.proofs.Runs.{served as serve-sound, opened-sound}
 use Rattle.pifo.proofs.Answers.{serve-number}
 use Rattle.embedding_laws.specs.Least.{Found, nothing, list, noneFault, leastMap, searchFault, searchMap}
 use Rattle.queue_state.specs.Opening.{limitFault}
-use Rattle.paired.specs.Calls.{bothFault}
-use Rattle.paired.proofs.Start.{faultless, images-pass}
+use Rattle.pair_state.specs.Opening.{bothFault}
+use Rattle.pair_state.proofs.Start.{faultless, images-pass}
 use Rattle.text.specs.Text.{decimal, hex8}
 use Rattle.text.specs.Lines.{allSpaced, inLine, outLine, noLine, mapLine}
 use Rattle.text.proofs.Digits.{length-decimal, length-hex8}

@@ -10,7 +10,7 @@ use Rattle.topology.specs.Reader.{pick, tree}
 use Rattle.pifo.specs.Tree.{Step, step, held}
 use Rattle.pifo.specs.Machine.{Machine, Answer, accepted, departed, refused, full, pushing, popping, serve, opened}
 use Rattle.embedding_laws.specs.Least.{searchMap}
-use Rattle.paired.specs.Calls.{bothFault}
+use Rattle.pair_state.specs.Opening.{bothFault}
 use Rattle.script.specs.declared.Command.{Command}
 use Rattle.script.specs.declared.Command.the-variants.{Source, Target, Limit, Compile, Step as StepTo, Push, Pop}
 

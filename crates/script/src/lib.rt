@@ -64,7 +64,7 @@ fn read_at(script: &[u8], at: usize) -> Read
 pub fn run(script: &[u8], out: &mut [u8]) -> usize
     ensures { λ r. ⌜ Puts (now (out .entry)) 0 (output (now (script .entry))) (now (out .exit)) r ⌝ }
 {
-    let closed = paired::open(&script[..0], &script[..0], 0);
+    let closed = pair_state::open(&script[..0], &script[..0], 0);
     let mut pair = closed.pair;
     let mut drawing = gathering::undrawn();
     let mut path = gathering::no_steps();
@@ -94,7 +94,7 @@ pub fn run(script: &[u8], out: &mut [u8]) -> usize
                         let nodes = drawing.nodes;
                         let target = drawing.target;
                         let places = drawing.places;
-                        let both = paired::open(
+                        let both = pair_state::open(
                             &source[..nodes],
                             &target[..places],
                             drawing.limit as usize,
@@ -115,7 +115,7 @@ pub fn run(script: &[u8], out: &mut [u8]) -> usize
                         path = gathering::no_steps();
                         pair = pushed.pair;
                         let answer = pushed.chip;
-                        let counts = paired::held(pair);
+                        let counts = pair_state::held(pair);
                         let held = counts.chip;
                         let reply = replies::push_reply(answer, held);
                         end = replies::put_reply(out, end, reply, at);

@@ -2,8 +2,8 @@
 -- at each target node the owner's entry, turned (`carried-along`). Push and pop both rest on this one law.
 use mathlib.Core.Path.{_≡_, refl, sym, ap, ap₂, _∙_, subst}
 use mathlib.Core.Logic.{_⊎_, inl, inr}
-use Prim.Native.Nat.{ℕ, suc, _≤_}
-use native.Mathlib.Decide.{ℕ-discrete}
+use Prim.Native.Nat.{ℕ, _≤_}
+use native.Mathlib.Decide.{ℕ-discrete, decLe}
 use native.Mathlib.Omega.{arith}
 use mathlib.Core.List.{List, [], _∷_, _++_, append-nil, append-assoc, append-cancel-left}
 use mathlib.Core.Option.{none, some}
@@ -13,10 +13,10 @@ use borrow.Author.Tests.{eq-eqb, ne-eqb}
 use Rattle.lists.proofs.Prefix.{Meet, below, over, apart, meet, apart-prefix}
 use Rattle.topology.specs.Tree.{Topo, width, height}
 use Rattle.topology.specs.Address.{Addr, child, In, sub, Above}
-use Rattle.topology.proofs.Ancestry.{in-below, in-join, sub-append, in-height}
+use Rattle.topology.proofs.Ancestry.{in-below, in-join, sub-append}
 use Rattle.pifo.specs.Queue.{entry, child as childItem}
 use Rattle.pifo.specs.Tree.{Step, step, pathFault}
-use Rattle.pifo.proofs.Paths.{fault-end, end-fault, fault-step, step-fault}
+use Rattle.pifo.proofs.Paths.{fault-end, end-fault, fault-step, step-fault, too-long}
 use Rattle.pifo.specs.Addressed.{along}
 use Rattle.simulation.specs.Mirror.{toward, Owns, ranked, turn}
 use Rattle.simulation.specs.Carrying.{steps, carryFrom}
@@ -33,16 +33,11 @@ fault-steps t r (k ∷ g) rest (p, l, i) h =
 
 -- a path with no fault is no longer than the tree is high
 pub fault-length : (t : Topo) (ss : List Step) → pathFault t ss ≡ 0 → length ss ≤ height t
-fault-length t ss h =
-    let w = way t ss h in
-    omega (arith, in-height t (w .0) (w .1), w .2)
+fault-length t ss h = by-length (decLe (length ss) (height t))
   where
-    way : (t : Topo) (ss : List Step) → pathFault t ss ≡ 0 → (a : Addr) × In t a × (length a ≡ length ss)
-    way t [] h = ([], tt, refl)
-    way t (step i r ∷ ss) h =
-        let f = fault-step t i r ss h in
-        let w = way (child t i) ss (f .rest) in
-        (i ∷ w .0, (f .low, f .high, w .1), ap suc (w .2))
+    by-length : Dec (length ss ≤ height t) → length ss ≤ height t
+    by-length (yes l) = l
+    by-length (no l) = absurd (omega (arith, h, too-long t ss (omega arith)))
 
 -- Below a leaf there is no node.
 leaf-only : (t : Topo) (a d : Addr) → width (sub t a) ≡ 0 → In t (a ++ d) → d ≡ []

@@ -4,7 +4,8 @@ use mathlib.Core.Path.{sym}
 use native.Mathlib.Omega.{arith}
 use lib.Seq.{length-take-le}
 use Rattle.queue_state.proofs.Verdict.{kept}
-use Rattle.paired.proofs.Mapped.{Arrays, too-many-nodes, too-many-places, no-carrying, as-pair, carrying, carrying-fault, carrying-ill}
+use Rattle.pair_state.proofs.Mapped.{Arrays, many-nodes, many-places, mapped-off}
+use Rattle.paired.proofs.Carrying.{no-carrying, as-pair, carrying, carrying-fault, carrying-ill}
 use Rattle.paired.proofs.carried.Statement.{statement}
 use Rattle.paired.proofs.carried.Tie as tie
 use Rattle.paired.proofs.carried.Reads as reads
@@ -20,10 +21,10 @@ arrays c =
     }
 
 returns : tie.Need-returns
-returns c = no-carrying _ _ (too-many-nodes _ (arrays (c .before .before .before .before)) (c .if1 .taken))
+returns c = no-carrying _ _ (mapped-off _ (many-nodes _ (arrays (c .before .before .before .before)) (c .if1 .taken)))
 
 returns-2 : tie.Need-returns-2
-returns-2 c = no-carrying _ _ (too-many-places _ (arrays (c .before .before .before .before .before)) (c .if2 .taken))
+returns-2 c = no-carrying _ _ (mapped-off _ (many-places _ (arrays (c .before .before .before .before .before)) (c .if2 .taken)))
 
 array-share-prefix-drawing : tie.Need-array-share-prefix-drawing
 array-share-prefix-drawing c =

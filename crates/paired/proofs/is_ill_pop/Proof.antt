@@ -3,7 +3,7 @@ use borrow.Author.Needs.{needs}
 use mathlib.Core.Path.{sym, ap}
 use Rattle.queue_tree.specs.Calls.{popAnswer}
 use Rattle.queue_tree.specs.declared.PopAnswer.{PopAnswer}
-use Rattle.paired.specs.Calls.{isIll}
+use Rattle.paired.specs.Steps.{isIll}
 use Rattle.paired.proofs.is_ill_pop.Statement.{statement}
 use Rattle.paired.proofs.is_ill_pop.Tie as tie
 

@@ -2,6 +2,7 @@
 use borrow.Author.Needs.{needs}
 use mathlib.Core.Path.{sym, _∙_}
 use borrow.Author.Tests.{not-true, not-false}
+use Rattle.pair_state.proofs.Mapped.{mapped-on, mapped-off}
 use Rattle.paired.proofs.Both.{ill-both}
 use Rattle.paired.proofs.Pushing.{source-ill, chip-ill, pop-both}
 use Rattle.paired.proofs.pop.Statement.{statement}
@@ -16,7 +17,7 @@ no-pop-requires c κs = search needs
 returns : tie.Need-returns
 returns c =
     let answer = c .no-pop .ensures in
-    ill-both _ _ _ _ _ (c .before .before .is-mapped .ensures .1 (not-true _ (c .before .if1 .taken))) (answer .0) (answer .1) (answer .2)
+    ill-both _ _ _ _ _ (mapped-off _ (sym (c .before .before .is-mapped .ensures) ∙ not-true _ (c .before .if1 .taken))) (answer .0) (answer .1) (answer .2)
 
 pop-requires : tie.Need-pop-requires
 pop-requires c κs = search needs
@@ -56,7 +57,7 @@ returns-4 c =
     let chip = sent .before .before .before in
     let drawn = chip .before .before in
     let mapped = drawn .before .before .before in
-    pop-both _ _ _ _ _ (mapped .before .is-mapped .ensures .0 (not-false _ (mapped .if1 .left))) (drawn .before .pop .ensures)
+    pop-both _ _ _ _ _ (mapped-on _ (sym (mapped .before .is-mapped .ensures) ∙ not-false _ (mapped .if1 .left))) (drawn .before .pop .ensures)
     (sym (drawn .is-ill-pop .ensures) ∙ chip .before .if2 .left) (sent .before .before .pop2 .ensures)
     (sym (sent .before .is-ill-pop2 .ensures) ∙ sent .if3 .left)
 

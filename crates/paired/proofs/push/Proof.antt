@@ -1,10 +1,10 @@
 -- The cases of a push on both trees: the map, the drawn tree's state, the path, the chip's state, and a push that both serve.
 use borrow.Author.Needs.{needs}
 use mathlib.Core.Path.{sym, _∙_}
-use Rattle.paired.proofs.Parts.{not-chip}
+use Rattle.pair_state.proofs.Parts.{not-chip}
 use Rattle.paired.proofs.Both.{ill-both}
 use Rattle.paired.proofs.Pushing.{source-ill, chip-ill, fault-both, push-both}
-use Rattle.paired.proofs.Counts.{refused-ill, count-formed}
+use Rattle.pair_state.proofs.Counts.{refused-ill, count-formed}
 use Rattle.paired.proofs.push.Statement.{statement}
 use Rattle.paired.proofs.push.Tie as tie
 

@@ -9,11 +9,11 @@ use Rattle.queue_state.specs.State.{treeOf, machine, wellFormed}
 use Rattle.queue_state.specs.Opening.{amount}
 use Rattle.queue_state.specs.declared.Amount.the-variants.{Count, Refused}
 use Rattle.queue_state.proofs.Matches.{off}
-use Rattle.paired.specs.Pair.{sourceTree, chipTree, images, mapped, wellPaired, InStep}
-use Rattle.paired.specs.Calls.{CountsBoth}
-use Rattle.paired.specs.declared.Pair.{Pair}
-use Rattle.paired.specs.declared.PairAmount.{PairAmount}
-use Rattle.paired.proofs.Parts.{parts, joined, passes}
+use Rattle.pair_state.specs.Pair.{sourceTree, chipTree, images, mapped, wellPaired, InStep}
+use Rattle.pair_state.specs.Counts.{CountsBoth}
+use Rattle.pair_state.specs.declared.Pair.{Pair}
+use Rattle.pair_state.specs.declared.PairAmount.{PairAmount}
+use Rattle.pair_state.proofs.Parts.{parts, joined, passes}
 
 -- what the case of an amount says of the test behind it
 pub count-formed : (b : Bool) (n k : ℕ) → Count n ≡ amount b k → (b ≡ true) × (n ≡ k)

@@ -4,12 +4,11 @@ use mathlib.Core.Path.{sym}
 use native.Mathlib.Omega.{arith}
 use lib.Seq.{length-take-le}
 use Rattle.queue_state.proofs.Verdict.{kept}
-use Rattle.paired.proofs.Mapped.{Arrays, too-many-nodes, too-many-places, passing, failing}
-use Rattle.paired.proofs.Parts.{yes, not}
-use Rattle.paired.proofs.is_mapped.Statement.{statement}
-use Rattle.paired.proofs.is_mapped.Tie as tie
-use Rattle.paired.proofs.is_mapped.Reads as reads
-use Rattle.paired.proofs.is_mapped.Lts as lts
+use Rattle.pair_state.proofs.Mapped.{Arrays, many-nodes, many-places, passing, failing}
+use Rattle.pair_state.proofs.is_mapped.Statement.{statement}
+use Rattle.pair_state.proofs.is_mapped.Tie as tie
+use Rattle.pair_state.proofs.is_mapped.Reads as reads
+use Rattle.pair_state.proofs.is_mapped.Lts as lts
 use Rattle.embedding.proofs.check.Reads as check-reads
 
 arrays : (c : lts.Start (check-reads.Asked, check-reads.Learnt) reads.Pre reads.Post) → Arrays (c .args .pair)
@@ -21,10 +20,10 @@ arrays c =
     }
 
 returns : tie.Need-returns
-returns c = not (too-many-nodes _ (arrays (c .before .before .before .before)) (c .if1 .taken))
+returns c = sym (many-nodes _ (arrays (c .before .before .before .before)) (c .if1 .taken))
 
 returns-2 : tie.Need-returns-2
-returns-2 c = not (too-many-places _ (arrays (c .before .before .before .before .before)) (c .if2 .taken))
+returns-2 c = sym (many-places _ (arrays (c .before .before .before .before .before)) (c .if2 .taken))
 
 array-share-prefix-drawing : tie.Need-array-share-prefix-drawing
 array-share-prefix-drawing c =
@@ -68,14 +67,16 @@ enum-told-2 c = search needs
 returns-3 : tie.Need-returns-3
 returns-3 c =
     let checked = c .before .before in
-    let tested = checked .before .before .before .before .before .before .before in
-    yes (passing _ (arrays (tested .before .before .before .before)) (omega (arith, tested .if1 .left)) _ (checked .check .ensures) (c .enum-told .given .1))
+    let tested = checked .before .before .before .before .before .before in
+    sym (passing _ (arrays (tested .before .before .before .before .before)) (omega (arith, tested .before .if1 .left)) (omega (arith, tested .if2 .left))
+    _ (checked .check .ensures) (c .enum-told .given .1))
 
 returns-4 : tie.Need-returns-4
 returns-4 c =
     let checked = c .before .before in
-    let tested = checked .before .before .before .before .before .before .before in
-    not (failing _ (arrays (tested .before .before .before .before)) (omega (arith, tested .if1 .left)) _ (checked .check .ensures) _ (c .enum-told2 .given .1))
+    let tested = checked .before .before .before .before .before .before in
+    sym (failing _ (arrays (tested .before .before .before .before .before)) (omega (arith, tested .before .if1 .left)) (omega (arith, tested .if2 .left))
+    _ (checked .check .ensures) _ (c .enum-told2 .given .1))
 
 pub is-mapped-spec : {M : Type 1} → statement M
 is-mapped-spec =

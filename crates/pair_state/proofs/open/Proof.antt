@@ -1,9 +1,9 @@
 -- Refused by the search, and opened.
 use borrow.Author.Needs.{needs}
-use Rattle.paired.proofs.Start.{search-refused, both-opened}
+use Rattle.pair_state.proofs.Start.{search-refused, both-opened}
 use mathlib.Core.Path.{sym, _∙_}
-use Rattle.paired.proofs.open.Statement.{statement}
-use Rattle.paired.proofs.open.Tie as tie
+use Rattle.pair_state.proofs.open.Statement.{statement}
+use Rattle.pair_state.proofs.open.Tie as tie
 
 search-requires : tie.Need-search-requires
 search-requires c κs = search needs

@@ -24,9 +24,9 @@ use Rattle.queue_state.specs.State.{bytes, machine}
 use Rattle.queue_state.specs.Opening.{limitFault, openFault, Opens}
 use Rattle.queue_state.specs.declared.Opened.{Opened}
 use Rattle.queue_state.proofs.Verdict.{formed}
-use Rattle.paired.specs.Pair.{mapped, InStep}
-use Rattle.paired.specs.Calls.{bothFault, OpensBoth}
-use Rattle.paired.proofs.Parts.{joined, not-source}
+use Rattle.pair_state.specs.Pair.{mapped, InStep}
+use Rattle.pair_state.specs.Opening.{bothFault, OpensBoth}
+use Rattle.pair_state.proofs.Parts.{joined, not-source}
 
 -- refused by the search: no tree is opened
 pub search-refused : (source target : List ℕ) (limit number : ℕ) (map : List ℕ) (none : Opened) → number ≡ searchFault source target → number ≢ 0

@@ -12,9 +12,8 @@ use Rattle.embedding_laws.proofs.Rules.{mapFault-none}
 use Rattle.queue_state.specs.State.{bytes, wellFormed}
 use Rattle.queue_state.specs.declared.State.{State}
 use Rattle.queue_state.proofs.Verdict.{formed}
-use Rattle.queue_state.proofs.Matches.{off}
-use Rattle.paired.specs.Pair.{sourceTree, chipTree, images, mapped, wellPaired}
-use Rattle.paired.specs.declared.Pair.{Pair}
+use Rattle.pair_state.specs.Pair.{sourceTree, chipTree, images, mapped, wellPaired}
+use Rattle.pair_state.specs.declared.Pair.{Pair}
 
 pub record Parts (p : Pair) : Type 0 where
   pub source : wellFormed (p .source) ≡ true
@@ -63,10 +62,3 @@ passes p e = mapFault-none (bytes (p .source)) (bytes (p .chip)) (images p) .0 (
 -- two well-formed states of one topology have the same bytes
 pub same-bytes : (s r : State) → wellFormed s ≡ true → wellFormed r ≡ true → tree (bytes r) ≡ tree (bytes s) → bytes r ≡ bytes s
 same-bytes s r f g e = sym (drawn 64 (bytes r) (formed r g .valid)) ∙ ap code e ∙ drawn 64 (bytes s) (formed s f .valid)
-
--- what an answer yes or no to a test says
-pub yes : {A B : Type 0} → A → (true ≡ true → A) × (true ≡ false → B)
-yes a = (λ _. a, λ e. absurd (off (sym e)))
-
-pub not : {A B : Type 0} → B → (false ≡ true → A) × (false ≡ false → B)
-not b = (λ e. absurd (off e), λ _. b)

@@ -2,10 +2,11 @@
 use borrow.Author.Needs.{needs}
 use mathlib.Core.Path.{sym, _∙_}
 use borrow.Author.Tests.{not-true, not-false}
-use Rattle.paired.proofs.Parts.{not-source, not-chip}
-use Rattle.paired.proofs.Counts.{refused-ill, no-counts, both-counts, refused-both}
-use Rattle.paired.proofs.refusals.Statement.{statement}
-use Rattle.paired.proofs.refusals.Tie as tie
+use Rattle.pair_state.proofs.Mapped.{mapped-on, mapped-off}
+use Rattle.pair_state.proofs.Parts.{not-source, not-chip}
+use Rattle.pair_state.proofs.Counts.{refused-ill, no-counts, both-counts, refused-both}
+use Rattle.pair_state.proofs.refusals.Statement.{statement}
+use Rattle.pair_state.proofs.refusals.Tie as tie
 
 is-mapped-requires : tie.Need-is-mapped-requires
 is-mapped-requires c κs = search needs
@@ -16,7 +17,7 @@ no-amount-requires c κs = search needs
 returns : tie.Need-returns
 returns c =
     let answer = c .no-amount .ensures in
-    no-counts _ _ _ _ (c .before .before .is-mapped .ensures .1 (not-true _ (c .before .if1 .taken))) (answer .0) (answer .1)
+    no-counts _ _ _ _ (mapped-off _ (sym (c .before .before .is-mapped .ensures) ∙ not-true _ (c .before .if1 .taken))) (answer .0) (answer .1)
 
 refusals-requires : tie.Need-refusals-requires
 refusals-requires c κs = search needs
@@ -59,7 +60,7 @@ returns-4 c =
     let chip = c .before in
     let source = chip .before .before .before .before .before in
     let mapped = source .before .before .before .before in
-    both-counts _ _ _ _ _ (mapped .before .is-mapped .ensures .0 (not-false _ (mapped .if1 .left)))
+    both-counts _ _ _ _ _ (mapped-on _ (sym (mapped .before .is-mapped .ensures) ∙ not-false _ (mapped .if1 .left)))
     (sym (source .source-refused .given .1) ∙ source .before .before .refusals .ensures)
     (sym (chip .chip-refused .given .1) ∙ chip .before .before .refusals2 .ensures) (refused-both _)
 

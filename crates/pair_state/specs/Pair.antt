@@ -4,13 +4,13 @@ use Prim.Native.Nat.{ℕ}
 use mathlib.Core.List.{List}
 use mathlib.Core.Bool.{Bool, true, _&&_}
 use lib.ListN.{length, take}
-use lib.Dec.{eqb}
+use lib.Dec.{eqb, leb}
 use Rattle.topology.specs.Tree.{Topo}
 use Rattle.topology.specs.Reader.{tree}
 use Rattle.embedding_laws.specs.Check.{mapFault}
 use Rattle.simulation.specs.Sheet.{Paired}
 use Rattle.queue_state.specs.State.{bytes, machine, wellFormed}
-use Rattle.paired.specs.declared.Pair.{Pair}
+use Rattle.pair_state.specs.declared.Pair.{Pair}
 
 -- the two topologies
 abbrev pub sourceTree : Pair → Topo
@@ -26,6 +26,10 @@ images p = take (length (bytes (p .source))) (p .map)
 -- the map between the two topologies passes
 unfoldable pub mapped : Pair → Bool
 mapped p = eqb (mapFault (bytes (p .source)) (bytes (p .chip)) (images p)) 0
+
+-- the same for a chip's tree of no more nodes than its array has
+unfoldable pub mapPasses : Pair → Bool
+mapPasses p = leb (p .chip .nodes) 64 && mapped p
 
 unfoldable pub wellPaired : Pair → Bool
 wellPaired p = wellFormed (p .source) && wellFormed (p .chip) && mapped p

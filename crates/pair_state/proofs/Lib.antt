@@ -1,0 +1,4 @@
+pub mod Parts
+pub mod Mapped
+pub mod Start
+pub mod Counts
