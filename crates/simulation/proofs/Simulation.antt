@@ -1,13 +1,11 @@
--- The simulation (Theorem 5.10 of document 001, demand 3 of paper 01): for every map that meets the rules, every limit and every list of
--- calls, the source's machine and the chip's machine behind the carrying of paths answer alike, and alike are the packets held and the
--- refusals counted before the first call and after every call.
---
--- What holds between the two machines from one call to the next is `Paired`: both sound, for one limit, the chip's tree the mirror of the
--- source's, as many refusals counted; so they hold as many packets. `paired-next` shows one call; the rest is induction over the list.
+-- The simulation (Theorem 5.10 of document 001): for every map that meets the rules, the source's machine and the chip's machine behind the
+-- carrying of paths answer every call alike. What holds between the two from one call to the next is `Paired`: both sound, for one limit, the
+-- chip's tree the mirror of the source's, as many refusals counted; so they hold as many packets. `paired-opened` is its start, `paired-next`
+-- one call. `demand-3` of the crate `paired` goes on from here, over lists of calls.
 use mathlib.Core.Path.{_≡_, refl, sym, ap, _∙_}
 use Prim.Native.Nat.{ℕ, zero, suc, _≤_, min}
 use native.Mathlib.Omega.{arith}
-use mathlib.Core.List.{List, [], _∷_}
+use mathlib.Core.List.{List}
 use mathlib.Core.Bool.{Bool, true, false}
 use mathlib.Core.Option.{Option, none, some}
 use lib.ListN.{length}
@@ -23,7 +21,7 @@ use Rattle.embedding_laws.specs.Rules.{Passes}
 use Rattle.simulation.specs.Embedding.{imageAt}
 use Rattle.simulation.specs.Carrying.{carry}
 use Rattle.simulation.specs.Mirror.{Mirrors}
-use Rattle.simulation.specs.Sheet.{pushCarried, serveCarried, Paired, view, lines, log}
+use Rattle.simulation.specs.Sheet.{pushCarried, serveCarried, Paired}
 use Rattle.simulation.proofs.Images.{keeps}
 use Rattle.simulation.proofs.Carried.{fault-length}
 use Rattle.simulation.proofs.Chip.{serves-carried}
@@ -135,25 +133,3 @@ module _ (S T : Topo) (m : List ℕ) (E : Passes S T m) where
 
       pub answers-alike : (c : Call P) → serve x c .0 ≡ serveCarried S T m y c .0
       answers-alike c = alike c .answer
-
-    views-alike : (x y : Machine P) → Paired S T m x y → view x ≡ view y
-    views-alike x y p = λ i. (sym (held-alike x y p) i, sym (p .refusals) i)
-
-    lines-alike : (x y : Machine P) (cs : List (Call P)) → Paired S T m x y → lines serve x cs ≡ lines (serveCarried S T m) y cs
-    lines-alike x y [] p = refl
-    lines-alike x y (c ∷ cs) p =
-        let n = paired-next x y p c in
-        let a = answers-alike x y p c in
-        let v = views-alike (serve x c .1) (serveCarried S T m y c .1) n in
-        let rest = lines-alike (serve x c .1) (serveCarried S T m y c .1) cs n in
-        λ i. (a i, v i) ∷ rest i
-
-    pub log-alike : (x y : Machine P) (cs : List (Call P)) → Paired S T m x y → log serve x cs ≡ log (serveCarried S T m) y cs
-    log-alike x y cs p =
-        let v = views-alike x y p in
-        let rest = lines-alike x y cs p in
-        λ i. (v i, rest i)
-
-    -- Demand 3 on the definitions. `demand-3` of the crate `paired` says it of the code.
-    pub same-log : (limit : ℕ) (cs : List (Call P)) → log serve (opened S limit) cs ≡ log (serveCarried S T m) (opened T limit) cs
-    same-log limit cs = log-alike (opened S limit) (opened T limit) cs (paired-opened limit)
