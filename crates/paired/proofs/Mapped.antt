@@ -20,8 +20,8 @@ use Rattle.embedding.specs.Answers.{checked}
 use Rattle.embedding.specs.declared.Checked.{Checked}
 use Rattle.embedding.specs.declared.Checked.the-variants.{Passes, Refused}
 use Rattle.queue_state.specs.State.{bytes}
-use Rattle.queue_tree.specs.Calls.{stepsOf}
-use Rattle.queue_tree.specs.declared.Path.{Path}
+use Rattle.queue_push.specs.Calls.{stepsOf}
+use Rattle.queue_push.specs.declared.Path.{Path}
 use Rattle.queue_state.proofs.Verdict.{formed}
 use Rattle.translator.specs.Carry.{carryFault, Carries}
 use Rattle.translator.specs.declared.Carried.{Carried}

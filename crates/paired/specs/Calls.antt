@@ -13,9 +13,10 @@ use Rattle.simulation.specs.Carrying.{carry}
 use Rattle.simulation.specs.Sheet.{serveCarried}
 use Rattle.queue_state.specs.State.{machine, wellFormed}
 use Rattle.queue_state.specs.Opening.{limitFault, amount}
-use Rattle.queue_tree.specs.Calls.{stepsOf, counting, Serves}
+use Rattle.queue_state.specs.Calls.{counting, Serves}
+use Rattle.queue_push.specs.Calls.{stepsOf}
 use Rattle.queue_state.specs.declared.State.{State}
-use Rattle.queue_tree.specs.declared.Path.{Path}
+use Rattle.queue_push.specs.declared.Path.{Path}
 use Rattle.translator.specs.declared.Carried.{Carried}
 use Rattle.paired.specs.Pair.{sourceTree, chipTree, images, mapped, wellPaired, InStep}
 use Rattle.paired.specs.declared.Pair.{Pair}

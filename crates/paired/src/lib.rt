@@ -1,11 +1,11 @@
 // Both trees on one sheet: the tree that a park draws and the tree of a gateway's chip, served together. Each call goes to both; a push
 // gives the drawn tree the path as it is and the chip's tree the path carried over.
 use embedding::Checked;
+use queue_pop::PopAnswer;
+use queue_push::Path;
+use queue_push::PushAnswer;
 use queue_state::Amount;
 use queue_state::State;
-use queue_tree::Path;
-use queue_tree::PopAnswer;
-use queue_tree::PushAnswer;
 use topology::SOURCE_NODES;
 use topology::TARGET_NODES;
 use translator::Carried;
@@ -14,7 +14,8 @@ ghost use mathlib.Core.Bool.{true, false};
 ghost use Rattle.pifo.specs.Machine.{pushing, popping, refused};
 ghost use Rattle.pifo.specs.Tree.{held};
 ghost use Rattle.queue_state.specs.State.{treeOf};
-ghost use Rattle.queue_tree.specs.Calls.{stepsOf, pushAnswer, popAnswer};
+ghost use Rattle.queue_push.specs.Calls.{stepsOf, pushAnswer};
+ghost use Rattle.queue_pop.specs.Calls.{popAnswer};
 ghost use Rattle.queue_state.specs.declared.Amount.the-variants.{Refused};
 ghost use Rattle.paired.specs.Pair.{mapped, wellPaired};
 ghost use Rattle.paired.specs.Calls.{OpensBoth, ServesBoth, CountsBoth, isIll, CarriesFor};
@@ -166,7 +167,7 @@ pub fn push(pair: Pair, path: Path, packet: u32) -> PairPushed
         return no_push(pair);
     }
     let source = pair.source;
-    let drawn = queue_tree::push(source, path, packet);
+    let drawn = queue_push::push(source, path, packet);
     let drawn_answer = drawn.answer;
     if is_ill_push(drawn_answer) {
         return no_push(pair);
@@ -183,7 +184,7 @@ pub fn push(pair: Pair, path: Path, packet: u32) -> PairPushed
         };
     }
     let chip_path = over.path;
-    let sent = queue_tree::push(chip, chip_path, packet);
+    let sent = queue_push::push(chip, chip_path, packet);
     let sent_answer = sent.answer;
     if is_ill_push(sent_answer) {
         return no_push(pair);
@@ -231,13 +232,13 @@ pub fn pop(pair: Pair) -> PairPopped
         return no_pop(pair);
     }
     let source = pair.source;
-    let drawn = queue_tree::pop(source);
+    let drawn = queue_pop::pop(source);
     let drawn_answer = drawn.answer;
     if is_ill_pop(drawn_answer) {
         return no_pop(pair);
     }
     let chip = pair.chip;
-    let taken = queue_tree::pop(chip);
+    let taken = queue_pop::pop(chip);
     let taken_answer = taken.answer;
     if is_ill_pop(taken_answer) {
         return no_pop(pair);
