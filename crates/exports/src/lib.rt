@@ -1,6 +1,6 @@
 // The libraries' calls for a program in C or Rust, on numbers and byte slices: what `tests/` links and compares.
 use embedding::Checked;
-use queue_tree::Path;
+use queue_push::Path;
 use topology::Found;
 use topology::Reading;
 use translator::Carried;

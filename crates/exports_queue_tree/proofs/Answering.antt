@@ -8,7 +8,7 @@ use Rattle.pifo.specs.Machine.{Call, Answer, refused, serve, numberOf}
 use Rattle.pifo.specs.Tree.{held}
 use Rattle.queue_state.specs.State.{machine, wellFormed, treeOf}
 use Rattle.queue_state.specs.Opening.{Opens, amount}
-use Rattle.queue_tree.specs.Calls.{Serves}
+use Rattle.queue_state.specs.Calls.{Serves}
 use Rattle.queue_state.specs.declared.State.{State}
 use Rattle.queue_state.specs.declared.Opened.{Opened}
 use Rattle.queue_state.specs.declared.Amount.{Amount}

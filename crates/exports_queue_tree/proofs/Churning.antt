@@ -8,8 +8,9 @@ use borrow.Author.Tests.{eq-eqb, ne-eqb}
 use Rattle.topology.specs.Reader.{pick}
 use Rattle.pifo.specs.Machine.{Machine, Answer, pushing, popping, after, serve}
 use Rattle.queue_state.specs.State.{machine, wellFormed}
-use Rattle.queue_tree.specs.Calls.{stepsOf, Serves}
-use Rattle.queue_tree.specs.declared.Path.{Path}
+use Rattle.queue_state.specs.Calls.{Serves}
+use Rattle.queue_push.specs.Calls.{stepsOf}
+use Rattle.queue_push.specs.declared.Path.{Path}
 use Rattle.queue_state.specs.declared.State.{State}
 use Rattle.exports_queue_tree.specs.Churn.{inTurn, roundOf, churned, Rounded, Churned}
 

@@ -4,7 +4,7 @@ use Prim.Native.Nat.{ℕ}
 use Rattle.topology.specs.Reader.{pick}
 use Rattle.pifo.specs.Machine.{Call, Answer, accepted, departed, refused, full, numberOf, serve}
 use Rattle.queue_state.specs.State.{machine, wellFormed}
-use Rattle.queue_tree.specs.Calls.{Serves}
+use Rattle.queue_state.specs.Calls.{Serves}
 use Rattle.queue_state.specs.declared.State.{State}
 use Rattle.queue_state.specs.declared.Opened.{Opened}
 use Rattle.queue_state.specs.declared.Amount.{Amount}

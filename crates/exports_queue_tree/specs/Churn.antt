@@ -6,9 +6,9 @@ use mathlib.Core.Bool.{true, false}
 use lib.Dec.{eqb}
 use Rattle.topology.specs.Reader.{pick}
 use Rattle.pifo.specs.Machine.{Machine, Call, pushing, popping, after}
-use Rattle.queue_tree.specs.Calls.{stepsOf}
+use Rattle.queue_push.specs.Calls.{stepsOf}
 use Rattle.queue_state.specs.State.{machine, wellFormed}
-use Rattle.queue_tree.specs.declared.Path.{Path}
+use Rattle.queue_push.specs.declared.Path.{Path}
 use Rattle.queue_state.specs.declared.State.{State}
 
 -- one round: a pop, then the packet k along a path

@@ -1,18 +1,19 @@
 // The queue tree's calls for a program in C or Rust: what `tests/` links and compares. An exported function can take or return no struct
 // that holds an enum, so a state crosses as plain numbers; `PlainState` says how.
+use queue_pop::PopAnswer;
+use queue_push::Path;
+use queue_push::PushAnswer;
 use queue_state::Amount;
 use queue_state::Entry;
 use queue_state::Item;
 use queue_state::State;
-use queue_tree::Path;
-use queue_tree::PopAnswer;
-use queue_tree::PushAnswer;
 ghost use mathlib.Core.Path.{_≡_};
 ghost use mathlib.Core.List.{map};
 ghost use Rattle.pifo.specs.Machine.{pushing, popping, numberOf};
 ghost use Rattle.pifo.specs.Tree.{held};
 ghost use Rattle.queue_state.specs.Opening.{Opens, amount};
-ghost use Rattle.queue_tree.specs.Calls.{stepsOf, pushAnswer, popAnswer};
+ghost use Rattle.queue_push.specs.Calls.{stepsOf, pushAnswer};
+ghost use Rattle.queue_pop.specs.Calls.{popAnswer};
 ghost use Rattle.queue_state.specs.State.{wellFormed, treeOf};
 ghost use Rattle.exports_queue_tree.specs.Plain.{itemFrom, entriesFrom, stateOf, plainOf, Written, tagOf, childOf, packetOf, rankOf};
 ghost use Rattle.exports_queue_tree.specs.Answers.{opening, plainAmount, valueOf, Served};
@@ -273,7 +274,7 @@ fn push_value(answer: PushAnswer) -> u32
 pub extern "C" fn linduvar_push(state: PlainState, path: Path, packet: u32) -> PlainAnswer
     ensures { λ r. ⌜ Served state (pushing (stepsOf path) (path .«leaf_rank») packet) r ⌝ }
 {
-    let pushed = queue_tree::push(state_of(state), path, packet);
+    let pushed = queue_push::push(state_of(state), path, packet);
     let answer = pushed.answer;
     PlainAnswer {
         state: plain(pushed.state),
@@ -305,7 +306,7 @@ fn pop_value(answer: PopAnswer) -> u32
 pub extern "C" fn linduvar_pop(state: PlainState) -> PlainAnswer
     ensures { λ r. ⌜ Served state popping r ⌝ }
 {
-    let popped = queue_tree::pop(state_of(state));
+    let popped = queue_pop::pop(state_of(state));
     let answer = popped.answer;
     PlainAnswer {
         state: plain(popped.state),
@@ -328,8 +329,8 @@ fn in_turn(even: Path, odd: Path, number: u32) -> Path
 fn round(state: State, path: Path, number: u32) -> State
     ensures { λ r. ⌜ Rounded state path number r ⌝ }
 {
-    let popped = queue_tree::pop(state);
-    let pushed = queue_tree::push(popped.state, path, number);
+    let popped = queue_pop::pop(state);
+    let pushed = queue_push::push(popped.state, path, number);
     pushed.state
 }
 

@@ -13,10 +13,10 @@ use Rattle.simulation.specs.Carrying.{carry}
 use Rattle.simulation.specs.Sheet.{pushCarried, serveCarried}
 use Rattle.simulation.proofs.Simulation.{paired-next, answers-alike}
 use Rattle.queue_state.specs.State.{bytes, machine, wellFormed}
-use Rattle.queue_tree.specs.Calls.{Serves}
+use Rattle.queue_state.specs.Calls.{Serves}
 use Rattle.queue_state.specs.declared.State.{State}
 use Rattle.queue_state.proofs.Matches.{off}
-use Rattle.queue_tree.proofs.Served.{apart}
+use Rattle.queue_state.proofs.Served.{apart}
 use Rattle.pair_state.specs.Pair.{sourceTree, chipTree, images, mapped, wellPaired, InStep}
 use Rattle.paired.specs.Calls.{ServesChip, ServesBoth}
 use Rattle.pair_state.specs.declared.Pair.{Pair}

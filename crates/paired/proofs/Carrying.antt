@@ -13,8 +13,8 @@ use Rattle.pifo.proofs.Paths.{fault-number}
 use Rattle.embedding_laws.specs.Check.{mapFault}
 use Rattle.embedding_laws.proofs.Rules.{mapFault-most}
 use Rattle.queue_state.specs.State.{bytes}
-use Rattle.queue_tree.specs.Calls.{stepsOf}
-use Rattle.queue_tree.specs.declared.Path.{Path}
+use Rattle.queue_push.specs.Calls.{stepsOf}
+use Rattle.queue_push.specs.declared.Path.{Path}
 use Rattle.translator.specs.Carry.{carryFault, Carries}
 use Rattle.translator.specs.declared.Carried.{Carried}
 use Rattle.translator.proofs.Outcome.{carry-none, carried-steps}

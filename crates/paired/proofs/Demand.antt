@@ -24,9 +24,10 @@ use Rattle.embedding_laws.proofs.Searching.{search-twelve}
 use Rattle.simulation.specs.Sheet.{serveCarried}
 use Rattle.queue_state.specs.State.{bytes, treeOf, machine, wellFormed}
 use Rattle.queue_state.specs.Opening.{limitFault}
-use Rattle.queue_tree.specs.Calls.{stepsOf, Serves}
+use Rattle.queue_state.specs.Calls.{Serves}
+use Rattle.queue_push.specs.Calls.{stepsOf}
 use Rattle.queue_state.specs.declared.State.{State}
-use Rattle.queue_tree.specs.declared.Path.{Path}
+use Rattle.queue_push.specs.declared.Path.{Path}
 use Rattle.queue_state.specs.declared.Amount.the-variants.{Count}
 use Rattle.queue_state.proofs.Verdict.{formed}
 use Rattle.translator.specs.Carry.{carryFault, Carries}

@@ -9,9 +9,10 @@ use Rattle.pifo.specs.Tree.{pathFault}
 use Rattle.pifo.specs.Machine.{Call, pushing, popping, Answer, accepted, departed, refused, full}
 use Rattle.pifo.proofs.Answers.{push-fault}
 use Rattle.queue_state.specs.State.{machine, wellFormed}
-use Rattle.queue_tree.specs.Calls.{stepsOf, Serves}
+use Rattle.queue_state.specs.Calls.{Serves}
+use Rattle.queue_push.specs.Calls.{stepsOf}
 use Rattle.queue_state.specs.declared.State.{State}
-use Rattle.queue_tree.specs.declared.Path.{Path}
+use Rattle.queue_push.specs.declared.Path.{Path}
 use Rattle.translator.specs.declared.Carried.{Carried}
 use Rattle.pair_state.specs.Pair.{sourceTree, mapped, wellPaired}
 use Rattle.paired.specs.Calls.{ServesBoth}

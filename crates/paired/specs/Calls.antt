@@ -5,7 +5,7 @@ use mathlib.Core.Bool.{true, false}
 use Rattle.pifo.specs.Machine.{Call, Answer, refused, full}
 use Rattle.simulation.specs.Sheet.{serveCarried}
 use Rattle.queue_state.specs.State.{machine, wellFormed}
-use Rattle.queue_tree.specs.Calls.{counting, Serves}
+use Rattle.queue_state.specs.Calls.{counting, Serves}
 use Rattle.queue_state.specs.declared.State.{State}
 use Rattle.pair_state.specs.Pair.{sourceTree, chipTree, images, wellPaired, InStep}
 use Rattle.pair_state.specs.declared.Pair.{Pair}

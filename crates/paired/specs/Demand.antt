@@ -1,6 +1,6 @@
 -- Demand 3 of paper 01 ("Both trees on one sheet"), one statement about whole lists of calls: `Demand3`. `proofs/Demand.antt` proves it.
 --
--- It speaks of the code by its contracts: a run is any sequence of states and answers that the contracts of `queue_tree`'s and
+-- It speaks of the code by its contracts: a run is any sequence of states and answers that the contracts of the queue tree's and
 -- `translator`'s calls allow, so that it holds of whatever the code does.
 use mathlib.Core.Path.{_≡_}
 use mathlib.Core.Logic.{_≢_, _↔_}
@@ -17,9 +17,10 @@ use Rattle.embedding_laws.specs.Least.{searchFault}
 use Rattle.simulation.specs.Sheet.{serveCarried}
 use Rattle.queue_state.specs.State.{treeOf, wellFormed}
 use Rattle.queue_state.specs.Opening.{amount, Opens}
-use Rattle.queue_tree.specs.Calls.{stepsOf, Serves}
+use Rattle.queue_state.specs.Calls.{Serves}
+use Rattle.queue_push.specs.Calls.{stepsOf}
 use Rattle.queue_state.specs.declared.State.{State}
-use Rattle.queue_tree.specs.declared.Path.{Path}
+use Rattle.queue_push.specs.declared.Path.{Path}
 use Rattle.queue_state.specs.declared.Opened.{Opened}
 use Rattle.queue_state.specs.declared.Amount.{Amount}
 use Rattle.queue_state.specs.declared.Amount.the-variants.{Count}

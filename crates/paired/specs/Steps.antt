@@ -7,8 +7,8 @@ use lib.Dec.{eqb}
 use Rattle.pifo.specs.Tree.{pathFault}
 use Rattle.pifo.specs.Machine.{Answer, accepted, departed, refused, full}
 use Rattle.simulation.specs.Carrying.{carry}
-use Rattle.queue_tree.specs.Calls.{stepsOf}
-use Rattle.queue_tree.specs.declared.Path.{Path}
+use Rattle.queue_push.specs.Calls.{stepsOf}
+use Rattle.queue_push.specs.declared.Path.{Path}
 use Rattle.translator.specs.declared.Carried.{Carried}
 use Rattle.pair_state.specs.Pair.{sourceTree, chipTree, images, mapped, wellPaired}
 use Rattle.pair_state.specs.declared.Pair.{Pair}

@@ -3,15 +3,16 @@
 use pair_state::Pair;
 use pair_state::is_mapped;
 use queue_state::Amount;
-use queue_tree::Path;
-use queue_tree::PopAnswer;
-use queue_tree::PushAnswer;
+use queue_push::Path;
+use queue_pop::PopAnswer;
+use queue_push::PushAnswer;
 use topology::SOURCE_NODES;
 use topology::TARGET_NODES;
 use translator::Carried;
 ghost use mathlib.Core.Path.{_≡_};
 ghost use Rattle.pifo.specs.Machine.{pushing, popping, refused};
-ghost use Rattle.queue_tree.specs.Calls.{stepsOf, pushAnswer, popAnswer};
+ghost use Rattle.queue_push.specs.Calls.{stepsOf, pushAnswer};
+ghost use Rattle.queue_pop.specs.Calls.{popAnswer};
 ghost use Rattle.paired.specs.Calls.{ServesBoth};
 ghost use Rattle.paired.specs.Steps.{isIll, CarriesFor};
 
@@ -88,7 +89,7 @@ pub fn push(pair: Pair, path: Path, packet: u32) -> PairPushed
         return no_push(pair);
     }
     let source = pair.source;
-    let drawn = queue_tree::push(source, path, packet);
+    let drawn = queue_push::push(source, path, packet);
     let drawn_answer = drawn.answer;
     if is_ill_push(drawn_answer) {
         return no_push(pair);
@@ -105,7 +106,7 @@ pub fn push(pair: Pair, path: Path, packet: u32) -> PairPushed
         };
     }
     let chip_path = over.path;
-    let sent = queue_tree::push(chip, chip_path, packet);
+    let sent = queue_push::push(chip, chip_path, packet);
     let sent_answer = sent.answer;
     if is_ill_push(sent_answer) {
         return no_push(pair);
@@ -153,13 +154,13 @@ pub fn pop(pair: Pair) -> PairPopped
         return no_pop(pair);
     }
     let source = pair.source;
-    let drawn = queue_tree::pop(source);
+    let drawn = queue_pop::pop(source);
     let drawn_answer = drawn.answer;
     if is_ill_pop(drawn_answer) {
         return no_pop(pair);
     }
     let chip = pair.chip;
-    let taken = queue_tree::pop(chip);
+    let taken = queue_pop::pop(chip);
     let taken_answer = taken.answer;
     if is_ill_pop(taken_answer) {
         return no_pop(pair);

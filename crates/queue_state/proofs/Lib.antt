@@ -5,3 +5,5 @@ pub mod Matches
 pub mod Verdict
 pub mod Fresh
 pub mod Counts
+pub mod Ranges
+pub mod Served

@@ -1,10 +1,11 @@
--- What the private functions of the state's test promise.
+-- What the private functions of the state's test promise, and what those of push and pop share with them.
 use mathlib.Core.Path.{_≡_}
 use mathlib.Core.Logic.{_⊎_}
-use Prim.Native.Nat.{ℕ, suc, _+_, _*_, _≤_, _<_}
+use Prim.Native.Nat.{ℕ, zero, suc, _+_, _*_, _≤_, _<_}
 use Rattle.topology.specs.Branch.{start}
 use mathlib.Core.List.{List}
 use mathlib.Core.Bool.{Bool, true, false, _&&_}
+use mathlib.Core.Option.{Option, some}
 use lib.ListN.{length, getD}
 use lib.Dec.{eqb}
 use Rattle.topology.specs.Reader.{pick}
@@ -57,6 +58,11 @@ pub record Tallied (bytes owners : List ℕ) (q : Queues ℕ) (r : Counted) : Ty
 -- the entry that stands where an array has none
 abbrev pub noEntry : CodeEntry
 noEntry = record { rank = 0; item = Child 0 }
+
+-- an entry where the mark is set, else another answer
+abbrev pub marked : ℕ → Entry ℕ → Option (Entry ℕ) → Option (Entry ℕ)
+marked zero e other = other
+marked (suc k) e other = some e
 
 -- what an answer means, yes and not
 pub record Decides (r : Bool) (yes not : Type 0) : Type 0 where

@@ -8,7 +8,7 @@ use mathlib.Core.Bool.{Bool, true, false}
 use mathlib.Core.Option.{none}
 use lib.ListN.{length}
 use Rattle.topology.specs.Reader.{pick}
-use Rattle.queue_tree.specs.declared.Path.{Path}
+use Rattle.queue_push.specs.declared.Path.{Path}
 use Rattle.pair_state.specs.declared.Pair.{Pair}
 use Rattle.text.specs.Text.{Puts}
 use Rattle.text.specs.Lines.{noLine}

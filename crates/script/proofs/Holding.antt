@@ -15,14 +15,15 @@ use Rattle.pifo.specs.Tree.{Step, step, held}
 use Rattle.pifo.specs.Machine.{Machine, Call, pushing, popping, serve, opened}
 use Rattle.embedding_laws.specs.Least.{searchMap}
 use Rattle.queue_state.specs.State.{machine, treeOf}
-use Rattle.queue_tree.specs.Calls.{stepsOf, pushAnswer, popAnswer}
-use Rattle.queue_tree.specs.declared.Path.{Path}
+use Rattle.queue_push.specs.Calls.{stepsOf, pushAnswer}
+use Rattle.queue_pop.specs.Calls.{popAnswer}
+use Rattle.queue_push.specs.declared.Path.{Path}
 use Rattle.queue_state.specs.declared.Amount.{Amount}
 use Rattle.queue_state.specs.declared.Amount.the-variants.{Count}
-use Rattle.queue_tree.specs.declared.PushAnswer.{PushAnswer}
-use Rattle.queue_tree.specs.declared.PushAnswer.the-variants.{Accepted, Refused as NoPush, Full}
-use Rattle.queue_tree.specs.declared.PopAnswer.{PopAnswer}
-use Rattle.queue_tree.specs.declared.PopAnswer.the-variants.{Departed, Refused as NoPop}
+use Rattle.queue_push.specs.declared.PushAnswer.{PushAnswer}
+use Rattle.queue_push.specs.declared.PushAnswer.the-variants.{Accepted, Refused as NoPush, Full}
+use Rattle.queue_pop.specs.declared.PopAnswer.{PopAnswer}
+use Rattle.queue_pop.specs.declared.PopAnswer.the-variants.{Departed, Refused as NoPop}
 use Rattle.pair_state.specs.Pair.{InStep}
 use Rattle.pair_state.specs.Opening.{bothFault, OpensBoth}
 use Rattle.pair_state.specs.Counts.{CountsBoth}

@@ -12,8 +12,8 @@ use Rattle.lists.proofs.Map.{length-map}
 use borrow.Author.Tests.{ltb-true, ltb-false}
 use Rattle.topology.specs.Reader.{pick}
 use Rattle.pifo.specs.Tree.{step}
-use Rattle.queue_tree.specs.Calls.{stepOf, stepsOf}
-use Rattle.queue_tree.specs.declared.Path.{Path}
+use Rattle.queue_push.specs.Calls.{stepOf, stepsOf}
+use Rattle.queue_push.specs.declared.Path.{Path}
 use Rattle.script.specs.declared.gathering.Drawing.{Drawing}
 use Rattle.script.specs.Gathering.{Kept, Draws, Undrawn, sourceAdded, targetAdded, limitGiven, stepAdded}
 use mathlib.Core.Option.{Option, none, some}

@@ -8,7 +8,7 @@ use mathlib.Core.Option.{Option, none, some}
 use lib.ListN.{length, take, set}
 use lib.Dec.{ltb}
 use Rattle.topology.specs.Reader.{pick}
-use Rattle.queue_tree.specs.declared.Path.{Path}
+use Rattle.queue_push.specs.declared.Path.{Path}
 use Rattle.script.specs.declared.Command.{Command}
 use Rattle.script.specs.declared.Command.the-variants.{Source, Target, Limit, Compile, Step, Push, Pop}
 use Rattle.script.specs.declared.gathering.Drawing.{Drawing}

@@ -1,10 +1,10 @@
 -- What the private functions of the replies promise.
 use Rattle.queue_state.specs.declared.Amount.{Amount}
 use Rattle.queue_state.specs.declared.Amount.the-variants.{Count, Refused as NoAmount}
-use Rattle.queue_tree.specs.declared.PushAnswer.{PushAnswer}
-use Rattle.queue_tree.specs.declared.PushAnswer.the-variants.{Accepted, Refused as NoPush, Full}
-use Rattle.queue_tree.specs.declared.PopAnswer.{PopAnswer}
-use Rattle.queue_tree.specs.declared.PopAnswer.the-variants.{Departed, Refused as NoPop}
+use Rattle.queue_push.specs.declared.PushAnswer.{PushAnswer}
+use Rattle.queue_push.specs.declared.PushAnswer.the-variants.{Accepted, Refused as NoPush, Full}
+use Rattle.queue_pop.specs.declared.PopAnswer.{PopAnswer}
+use Rattle.queue_pop.specs.declared.PopAnswer.the-variants.{Departed, Refused as NoPop}
 use Rattle.script.specs.Sheet.{Reply, entered, left, no-by}
 use Rattle.script.specs.declared.replies.Reply.{Reply as CodeReply}
 use Rattle.script.specs.declared.replies.Reply.the-variants.{Held, Packet, Refused}

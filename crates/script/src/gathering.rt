@@ -1,8 +1,8 @@
 // What a script has given so far: the two drawings and the limit before 04, the steps of the next push after it. And whether a command is
 // in turn.
 use super::Command;
-use queue_tree::Path;
-use queue_tree::Step;
+use queue_push::Path;
+use queue_push::Step;
 ghost use mathlib.Core.Path.{_≡_};
 ghost use Prim.Native.Nat.{_<_};
 ghost use lib.ListN.{length};

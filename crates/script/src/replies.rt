@@ -1,7 +1,7 @@
 // Replies to calls on both trees: from the answers of the chip's side to a line of text.
+use queue_pop::PopAnswer;
+use queue_push::PushAnswer;
 use queue_state::Amount;
-use queue_tree::PopAnswer;
-use queue_tree::PushAnswer;
 use text::lines;
 ghost use mathlib.Core.Path.{_≡_};
 ghost use mathlib.Core.Bool.{_&&_};

@@ -15,8 +15,8 @@ use Rattle.embedding.specs.declared.Checked.{Checked}
 use Rattle.embedding.specs.declared.Checked.the-variants.{Passes, Refused}
 use Rattle.simulation.specs.Carrying.{carry}
 use Rattle.simulation.proofs.Simulation.{carry-fault, carry-length}
-use Rattle.queue_tree.specs.Calls.{stepsOf}
-use Rattle.queue_tree.specs.declared.Path.{Path}
+use Rattle.queue_push.specs.Calls.{stepsOf}
+use Rattle.queue_push.specs.declared.Path.{Path}
 use Rattle.translator.specs.Carry.{carryFault, Carries, Arrives}
 use Rattle.translator.specs.declared.Carried.{Carried}
 use Rattle.translator.proofs.Paths.{steps-path}

@@ -5,9 +5,9 @@ use native.Mathlib.Omega.{arith}
 use mathlib.Core.List.{List, [], _∷_, _++_, map}
 use lib.ListN.{length, take, set, replicate, length-append}
 use Rattle.pifo.specs.Tree.{Step, step}
-use Rattle.queue_tree.specs.Calls.{stepOf, stepsOf}
-use Rattle.queue_tree.specs.declared.Step.{Step as CodeStep}
-use Rattle.queue_tree.specs.declared.Path.{Path}
+use Rattle.queue_push.specs.Calls.{stepOf, stepsOf}
+use Rattle.queue_push.specs.declared.Step.{Step as CodeStep}
+use Rattle.queue_push.specs.declared.Path.{Path}
 use Rattle.translator.specs.Carry.{codeStep, noStep, pathOf}
 use Rattle.translator.specs.Ways.{Plain}
 

@@ -26,10 +26,10 @@ use Rattle.embedding_laws.specs.Check.{mapFault}
 use Rattle.embedding_laws.proofs.Rules.{mapFault-none}
 use Rattle.simulation.specs.Carrying.{steps, carry, route, carryNodes}
 use Rattle.simulation.proofs.Nodes.{image-below, carry-nodes}
-use Rattle.queue_tree.specs.Calls.{stepOf, stepsOf}
-use Rattle.queue_tree.specs.declared.Step.{Step as CodeStep}
-use Rattle.queue_tree.specs.declared.Path.{Path}
-use Rattle.queue_tree.proofs.Paths.{step-at, steps-end}
+use Rattle.queue_push.specs.Calls.{stepOf, stepsOf}
+use Rattle.queue_push.specs.declared.Step.{Step as CodeStep}
+use Rattle.queue_push.specs.declared.Path.{Path}
+use Rattle.queue_push.proofs.Paths.{step-at, steps-end}
 use Rattle.translator.specs.Carry.{noStep, pathOf, Carries}
 use Rattle.translator.specs.Ways.{Plain, Over}
 use Rattle.translator.proofs.Paths.{steps-path}

@@ -18,8 +18,8 @@ use Rattle.topology.proofs.Reader.{within}
 use Rattle.pifo.specs.Tree.{Step, step}
 use Rattle.simulation.specs.Carrying.{steps, route}
 use Rattle.simulation.proofs.Nodes.{route-self, route-step, route-child}
-use Rattle.queue_tree.specs.Calls.{stepsOf}
-use Rattle.queue_tree.specs.declared.Path.{Path}
+use Rattle.queue_push.specs.Calls.{stepsOf}
+use Rattle.queue_push.specs.declared.Path.{Path}
 use Rattle.translator.specs.Carry.{pathOf}
 use Rattle.translator.specs.Ways.{Plain, Over, Toward}
 use Rattle.translator.specs.declared.Turn.{Turn}

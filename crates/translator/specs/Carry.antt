@@ -8,9 +8,9 @@ use Rattle.topology.specs.Reader.{orElse, tree}
 use Rattle.pifo.specs.Tree.{Step, step, pathFault}
 use Rattle.embedding_laws.specs.Check.{mapFault}
 use Rattle.simulation.specs.Carrying.{carry}
-use Rattle.queue_tree.specs.Calls.{stepsOf}
-use Rattle.queue_tree.specs.declared.Step.{Step as CodeStep}
-use Rattle.queue_tree.specs.declared.Path.{Path}
+use Rattle.queue_push.specs.Calls.{stepsOf}
+use Rattle.queue_push.specs.declared.Step.{Step as CodeStep}
+use Rattle.queue_push.specs.declared.Path.{Path}
 use Rattle.translator.specs.declared.Carried.{Carried}
 
 -- The number by which a carrying is refused: both trees, the map, then the path in the source's tree (1 to 5 twice, 6 to 11, 13, 14);

@@ -6,8 +6,8 @@ use lib.ListN.{length}
 use Rattle.topology.specs.Tree.{Topo, width}
 use Rattle.topology.specs.Address.{Above, addr, subtree, childOf}
 use Rattle.topology.specs.Reader.{fault, tree}
-use Rattle.queue_tree.specs.Calls.{stepsOf}
-use Rattle.queue_tree.specs.declared.Path.{Path}
+use Rattle.queue_push.specs.Calls.{stepsOf}
+use Rattle.queue_push.specs.declared.Path.{Path}
 use Rattle.translator.specs.Carry.{pathOf}
 use Rattle.translator.specs.declared.Turn.{Turn}
 

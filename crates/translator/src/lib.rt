@@ -11,12 +11,12 @@ ghost use Rattle.topology.specs.Address.{depth};
 ghost use Rattle.pifo.specs.Tree.{step};
 ghost use Rattle.embedding_laws.specs.Check.{mapFault};
 ghost use Rattle.simulation.specs.Carrying.{steps, route};
-ghost use Rattle.queue_tree.specs.Calls.{stepsOf};
+ghost use Rattle.queue_push.specs.Calls.{stepsOf};
 ghost use Rattle.translator.specs.Carry.{pathOf, Carries};
 ghost use Rattle.translator.specs.Ways.{Plain, Over, Toward};
 use embedding::Checked;
-use queue_tree::Path;
-use queue_tree::Step;
+use queue_push::Path;
+use queue_push::Step;
 use topology::Found;
 
 // The carried path and 0, or the path as it came and the refusal's number.

@@ -2,8 +2,8 @@
 use mathlib.Core.Path.{sym, ap}
 use borrow.Author.Needs.{needs}
 use Rattle.pifo.specs.Machine.{numberOf}
-use Rattle.queue_tree.specs.Calls.{popAnswer}
-use Rattle.queue_tree.specs.declared.PopAnswer.{PopAnswer}
+use Rattle.queue_pop.specs.Calls.{popAnswer}
+use Rattle.queue_pop.specs.declared.PopAnswer.{PopAnswer}
 use Rattle.exports_queue_tree.proofs.pop_number.Statement.{statement}
 use Rattle.exports_queue_tree.proofs.pop_number.Tie as tie
 

@@ -1,8 +1,8 @@
 -- The value of each case.
 use mathlib.Core.Path.{sym, ap}
 use borrow.Author.Needs.{needs}
-use Rattle.queue_tree.specs.Calls.{popAnswer}
-use Rattle.queue_tree.specs.declared.PopAnswer.{PopAnswer}
+use Rattle.queue_pop.specs.Calls.{popAnswer}
+use Rattle.queue_pop.specs.declared.PopAnswer.{PopAnswer}
 use Rattle.exports_queue_tree.specs.Answers.{valueOf}
 use Rattle.exports_queue_tree.proofs.pop_value.Statement.{statement}
 use Rattle.exports_queue_tree.proofs.pop_value.Tie as tie

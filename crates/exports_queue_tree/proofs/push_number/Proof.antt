@@ -2,8 +2,8 @@
 use mathlib.Core.Path.{sym, ap}
 use borrow.Author.Needs.{needs}
 use Rattle.pifo.specs.Machine.{numberOf}
-use Rattle.queue_tree.specs.Calls.{pushAnswer}
-use Rattle.queue_tree.specs.declared.PushAnswer.{PushAnswer}
+use Rattle.queue_push.specs.Calls.{pushAnswer}
+use Rattle.queue_push.specs.declared.PushAnswer.{PushAnswer}
 use Rattle.exports_queue_tree.proofs.push_number.Statement.{statement}
 use Rattle.exports_queue_tree.proofs.push_number.Tie as tie
 

@@ -1,8 +1,8 @@
 -- A pop's answer case by case.
 use borrow.Author.Needs.{needs}
 use mathlib.Core.Path.{sym, ap}
-use Rattle.queue_tree.specs.Calls.{popAnswer}
-use Rattle.queue_tree.specs.declared.PopAnswer.{PopAnswer}
+use Rattle.queue_pop.specs.Calls.{popAnswer}
+use Rattle.queue_pop.specs.declared.PopAnswer.{PopAnswer}
 use Rattle.paired.specs.Steps.{isIll}
 use Rattle.paired.proofs.is_ill_pop.Statement.{statement}
 use Rattle.paired.proofs.is_ill_pop.Tie as tie

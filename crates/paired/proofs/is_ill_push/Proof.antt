@@ -1,8 +1,8 @@
 -- A push's answer case by case.
 use borrow.Author.Needs.{needs}
 use mathlib.Core.Path.{sym, ap}
-use Rattle.queue_tree.specs.Calls.{pushAnswer}
-use Rattle.queue_tree.specs.declared.PushAnswer.{PushAnswer}
+use Rattle.queue_push.specs.Calls.{pushAnswer}
+use Rattle.queue_push.specs.declared.PushAnswer.{PushAnswer}
 use Rattle.paired.specs.Steps.{isIll}
 use Rattle.paired.proofs.is_ill_push.Statement.{statement}
 use Rattle.paired.proofs.is_ill_push.Tie as tie

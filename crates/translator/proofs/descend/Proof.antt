@@ -5,7 +5,7 @@ use mathlib.Core.List.{_++_}
 use Prim.Native.Nat.{_-_}
 use Rattle.topology.specs.Reader.{tree}
 use Rattle.simulation.specs.Carrying.{steps, route}
-use Rattle.queue_tree.specs.Calls.{stepsOf}
+use Rattle.queue_push.specs.Calls.{stepsOf}
 use Rattle.translator.proofs.Ways.{Descending, descending-room, descending-down, descending-next, descending-end}
 use Rattle.translator.proofs.descend.Statement.{statement}
 use Rattle.translator.proofs.descend.Tie as tie

@@ -1,0 +1,4 @@
+pub mod Tops
+pub mod Leaving
+pub mod Descending
+pub mod Popping

@@ -1,0 +1,2 @@
+pub mod Departures
+pub mod Calls

@@ -1,0 +1,63 @@
+// The pop of the queue tree, a PIFO tree with a packet limit: it takes the tree's state and gives back the state after it. The crate
+// `queue_state` has the state, its opening and its test, the crate `queue_push` the push.
+mod departures;
+
+use queue_state::State;
+use queue_state::examine;
+ghost use Rattle.pifo.specs.Machine.{popping};
+ghost use Rattle.queue_state.specs.Calls.{Serves};
+ghost use Rattle.queue_pop.specs.Calls.{popAnswer};
+
+// The answer to a pop: the packet that leaves, or a refusal by its number.
+pub enum PopAnswer {
+    Departed(u32),
+    Refused(u8),
+}
+
+pub struct Popped {
+    pub state: State,
+    pub answer: PopAnswer,
+}
+
+// Pops the packet at the head: 18 and 16 are tested in this order.
+pub fn pop(state: State) -> Popped
+    ensures { λ r. ⌜ Serves state popping (popAnswer (r .answer)) (r .state) ⌝ }
+{
+    let test = examine(state);
+    if !test.sound {
+        return Popped {
+            state,
+            answer: PopAnswer::Refused(18),
+        };
+    }
+    if test.held == 0 {
+        return Popped {
+            state,
+            answer: PopAnswer::Refused(16),
+        };
+    }
+    let topology = state.topology;
+    let nodes = state.nodes;
+    let bytes = &topology[..nodes];
+    let used = state.used;
+    let owners = state.owners;
+    let entries = state.entries;
+    let heads = departures::find_heads(owners, entries, used);
+    let trail = departures::pop_from(bytes, heads, 0, 9);
+    let packet = trail.packet;
+    let rest = departures::take_out(owners, entries, used, nodes, trail);
+    let next_owners = rest.owners;
+    let next_entries = rest.entries;
+    Popped {
+        state: State {
+            topology,
+            nodes,
+            limit: state.limit,
+            refused: state.refused,
+            owners: next_owners,
+            entries: next_entries,
+            used: rest.used,
+        },
+        answer: PopAnswer::Departed(packet),
+    }
+}

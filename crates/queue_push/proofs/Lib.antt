@@ -1,0 +1,5 @@
+pub mod Paths
+pub mod Walking
+pub mod Entering
+pub mod Rooms
+pub mod Pushing
