@@ -2,7 +2,6 @@
 use queue_state::Amount;
 use queue_tree::PopAnswer;
 use queue_tree::PushAnswer;
-use text::lines;
 ghost use mathlib.Core.Path.{_≡_};
 ghost use mathlib.Core.Bool.{_&&_};
 ghost use lib.Dec.{leb};
