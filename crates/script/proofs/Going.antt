@@ -11,7 +11,7 @@ use Rattle.topology.specs.Reader.{pick}
 use Rattle.queue_push.specs.declared.Path.{Path}
 use Rattle.pair_state.specs.declared.Pair.{Pair}
 use Rattle.text.specs.Text.{Puts}
-use Rattle.text.specs.Lines.{noLine}
+use Rattle.lines.specs.Lines.{noLine}
 use Rattle.text.proofs.Writing.{puts-none, puts-length, puts-then}
 use Rattle.script.specs.declared.Command.{Command}
 use Rattle.script.specs.declared.Read.{Read}

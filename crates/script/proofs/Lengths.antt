@@ -26,7 +26,7 @@ use Rattle.queue_state.specs.Opening.{limitFault}
 use Rattle.pair_state.specs.Opening.{bothFault}
 use Rattle.pair_state.proofs.Start.{faultless, images-pass}
 use Rattle.text.specs.Text.{decimal, hex8}
-use Rattle.text.specs.Lines.{allSpaced, inLine, outLine, noLine, mapLine}
+use Rattle.lines.specs.Lines.{allSpaced, inLine, outLine, noLine, mapLine}
 use Rattle.text.proofs.Digits.{length-decimal, length-hex8}
 use Rattle.script.specs.declared.Command.{Command}
 use Rattle.script.specs.declared.Command.the-variants.{Source, Target, Limit, Compile, Step as StepTo, Push, Pop}

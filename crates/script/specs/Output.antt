@@ -4,7 +4,7 @@ use mathlib.Core.List.{List, [], _++_}
 use mathlib.Core.Option.{none}
 use lib.ListN.{length}
 use Rattle.topology.specs.Reader.{pick}
-use Rattle.text.specs.Lines.{inLine, outLine, noLine, mapLine}
+use Rattle.lines.specs.Lines.{inLine, outLine, noLine, mapLine}
 use Rattle.script.specs.declared.Read.{Read}
 use Rattle.script.specs.declared.Read.the-variants.{End, Next, Refused}
 use Rattle.script.specs.Reading.{readAt}

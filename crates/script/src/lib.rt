@@ -3,7 +3,6 @@ mod gathering;
 mod operands;
 mod replies;
 
-use text::lines;
 ghost use mathlib.Core.Path.{_≡_};
 ghost use Rattle.text.specs.Text.{Puts};
 ghost use Rattle.script.specs.Output.{output};

@@ -2,7 +2,6 @@
 use queue_pop::PopAnswer;
 use queue_push::PushAnswer;
 use queue_state::Amount;
-use text::lines;
 ghost use mathlib.Core.Path.{_≡_};
 ghost use mathlib.Core.Bool.{_&&_};
 ghost use lib.Dec.{leb};

@@ -1,7 +1,5 @@
 // Text put into a lent buffer at a place. Each call writes what fits and answers the place behind its text, where the next call goes on;
 // an answer below the buffer's length says that all of the text was written.
-pub mod lines;
-
 ghost use Rattle.text.specs.Text.{decimal, hexDigit, Puts};
 ghost use Rattle.text.specs.Text.{hex8 as Text·hex8};
 ghost use mathlib.Core.Path.{_≡_};

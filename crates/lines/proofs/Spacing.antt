@@ -5,9 +5,9 @@ use native.Mathlib.Numerals.{add-one}
 use mathlib.Core.List.{List, [], _∷_, _++_, append-assoc, append-nil}
 use lib.ListN.{length, getD, take}
 use lib.Seq.{take-suc}
 use Rattle.text.specs.Text.{Puts}
-use Rattle.text.specs.Lines.{spaced, allSpaced}
+use Rattle.lines.specs.Lines.{spaced, allSpaced}
 use Rattle.text.proofs.Writing.{puts-then}
 
 spaced-++ : (a b : List ℕ) → allSpaced (a ++ b) ≡ allSpaced a ++ allSpaced b
 spaced-++ [] b = refl

@@ -1,9 +1,9 @@
 -- `put_in` meets its contract: the parts of the line joined.
-use Rattle.text.specs.Lines.{inLine}
+use Rattle.lines.specs.Lines.{inLine}
 use Rattle.text.proofs.Writing.{puts-then}
 use borrow.Author.Needs.{needs}
-use Rattle.text.proofs.lines.put_in.Statement.{statement}
-use Rattle.text.proofs.lines.put_in.Tie as tie
+use Rattle.lines.proofs.put_in.Statement.{statement}
+use Rattle.lines.proofs.put_in.Tie as tie
 
 slice-aggregate-put-word : tie.Need-slice-aggregate-put-word
 slice-aggregate-put-word c = search needs

@@ -1,10 +1,10 @@
 // The lines that gatewalk prints.
-use crate::put;
-use crate::put_decimal;
-use crate::put_hex8;
-use crate::put_word;
+use text::put;
+use text::put_decimal;
+use text::put_hex8;
+use text::put_word;
 ghost use Rattle.text.specs.Text.{Puts};
-ghost use Rattle.text.specs.Lines.{spaced, inLine, outLine, noLine, mapLine};
+ghost use Rattle.lines.specs.Lines.{spaced, inLine, outLine, noLine, mapLine};
 
 // A space and a number.
 fn put_spaced(out: &mut [u8], at: usize, number: usize) -> usize

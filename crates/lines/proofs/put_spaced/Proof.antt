@@ -1,8 +1,8 @@
 -- `put_spaced` meets its contract: the two texts joined.
 use Rattle.text.proofs.Writing.{puts-then}
 use borrow.Author.Needs.{needs}
-use Rattle.text.proofs.lines.put_spaced.Statement.{statement}
-use Rattle.text.proofs.lines.put_spaced.Tie as tie
+use Rattle.lines.proofs.put_spaced.Statement.{statement}
+use Rattle.lines.proofs.put_spaced.Tie as tie
 
 put-requires : tie.Need-put-requires
 put-requires c κs = search needs

@@ -5,12 +5,12 @@ use lib.ListN.{length, take}
 use lib.Seq.{take-all}
 use native.Mathlib.Omega.{arith}
 use borrow.Author.Needs.{needs}
 use Rattle.text.specs.Text.{Puts}
-use Rattle.text.specs.Lines.{allSpaced, mapLine}
+use Rattle.lines.specs.Lines.{allSpaced, mapLine}
 use Rattle.text.proofs.Writing.{puts-length, puts-still, puts-as, puts-then}
-use Rattle.text.proofs.Spacing.{spaced-next}
-use Rattle.text.proofs.lines.put_map.Statement.{statement}
-use Rattle.text.proofs.lines.put_map.Tie as tie
+use Rattle.lines.proofs.Spacing.{spaced-next}
+use Rattle.lines.proofs.put_map.Statement.{statement}
+use Rattle.lines.proofs.put_map.Tie as tie
 
 abbrev Inv-loop : tie.InvT-loop
 Inv-loop out₀ at images place₀ i₀ out place i = (i ≤ length images) × Puts out₀ place₀ (allSpaced (take i images)) out place
