@@ -12,12 +12,12 @@ use Rattle.queue_tree.specs.Calls.{Serves}
 use Rattle.queue_state.specs.declared.State.{State}
 use Rattle.queue_state.specs.declared.Opened.{Opened}
 use Rattle.queue_state.specs.declared.Amount.{Amount}
-use Rattle.exports_queue_tree.specs.Plain.{stateOf, plainOf, Written}
+use Rattle.plain_state.specs.Plain.{stateOf, plainOf, Written}
 use Rattle.exports_queue_tree.specs.Answers.{opening, plainAmount, valueOf, answered, Served}
-use Rattle.exports_queue_tree.specs.declared.PlainState.{PlainState}
+use Rattle.plain_state.specs.declared.PlainState.{PlainState}
 use Rattle.exports_queue_tree.specs.declared.PlainOpened.{PlainOpened}
 use Rattle.exports_queue_tree.specs.declared.PlainAnswer.{PlainAnswer}
-use Rattle.exports_queue_tree.proofs.Crossing.{state-back, is-written}
+use Rattle.plain_state.proofs.Crossing.{state-back, is-written}
 
 pub opens-plain : (bytes : List ℕ) (limit : ℕ) (o : Opened) (q : PlainOpened) → Opens bytes limit o → q .state ≡ plainOf (o .state)
     → q .refusal ≡ o .refusal → Opens bytes limit (opening q) × Written (q .state)

@@ -9,8 +9,8 @@ use Rattle.queue_state.specs.declared.State.{State}
 use Rattle.queue_state.specs.declared.Opened.{Opened}
 use Rattle.queue_state.specs.declared.Amount.{Amount}
 use Rattle.queue_state.specs.declared.Amount.the-variants.{Count, Refused}
-use Rattle.exports_queue_tree.specs.Plain.{stateOf, Written}
-use Rattle.exports_queue_tree.specs.declared.PlainState.{PlainState}
+use Rattle.plain_state.specs.Plain.{stateOf, Written}
+use Rattle.plain_state.specs.declared.PlainState.{PlainState}
 use Rattle.exports_queue_tree.specs.declared.PlainOpened.{PlainOpened}
 use Rattle.exports_queue_tree.specs.declared.PlainAmount.{PlainAmount}
 use Rattle.exports_queue_tree.specs.declared.PlainAnswer.{PlainAnswer}
