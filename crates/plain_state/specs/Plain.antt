@@ -1,11 +1,12 @@
 -- A state as plain numbers, and what they stand for.
 use mathlib.Core.Path.{_≡_}
 use Prim.Native.Nat.{ℕ, zero, suc}
-use mathlib.Core.List.{List, [], _∷_, map}
+use mathlib.Core.List.{map}
 use Rattle.queue_state.specs.declared.Item.{Item}
 use Rattle.queue_state.specs.declared.Item.the-variants.{Child, Packet}
 use Rattle.queue_state.specs.declared.Entry.{Entry}
 use Rattle.queue_state.specs.declared.State.{State}
+use Rattle.plain_state.specs.declared.PlainEntry.{PlainEntry}
 use Rattle.plain_state.specs.declared.PlainState.{PlainState}
 
 -- a tag, a child and a packet as one item: the child where the tag is 0
@@ -13,16 +14,8 @@ abbrev pub itemFrom : ℕ → ℕ → ℕ → Item
 itemFrom zero c p = Child c
 itemFrom (suc t) c p = Packet p
 
-abbrev pub entryFrom : ℕ → ℕ → ℕ → ℕ → Entry
-entryFrom r t c p = record { rank = r; item = itemFrom t c p }
-
--- the entries, one from each place of the four lists
-abbrev pub entriesFrom : List ℕ → List ℕ → List ℕ → List ℕ → List Entry
-entriesFrom [] ts cs ps = []
-entriesFrom (r ∷ rs) [] cs ps = []
-entriesFrom (r ∷ rs) (t ∷ ts) [] ps = []
-entriesFrom (r ∷ rs) (t ∷ ts) (c ∷ cs) [] = []
-entriesFrom (r ∷ rs) (t ∷ ts) (c ∷ cs) (p ∷ ps) = entryFrom r t c p ∷ entriesFrom rs ts cs ps
+abbrev pub entryOf : PlainEntry → Entry
+entryOf e = record { rank = e .rank; item = itemFrom (e .tag) (e .child) (e .packet) }
 
 unfoldable pub stateOf : PlainState → State
 stateOf s =
@@ -32,34 +25,17 @@ stateOf s =
       limit = s .limit;
       refused = s .refused;
       owners = s .owners;
-      entries = entriesFrom (s .ranks) (s .tags) (s .children) (s .packets);
+      entries = map entryOf (s .entries);
       used = s .used;
     }
 
--- the parts of an entry
-abbrev pub rankOf : Entry → ℕ
-rankOf e = e .rank
+-- an entry of a rank, as it is written
+abbrev pub plainItem : ℕ → Item → PlainEntry
+plainItem r (Child c) = record { rank = r; tag = 0; child = c; packet = 0 }
+plainItem r (Packet p) = record { rank = r; tag = 1; child = 0; packet = p }
 
-abbrev pub itemTag : Item → ℕ
-itemTag (Child c) = 0
-itemTag (Packet p) = 1
-
-abbrev pub itemChild : Item → ℕ
-itemChild (Child c) = c
-itemChild (Packet p) = 0
-
-abbrev pub itemPacket : Item → ℕ
-itemPacket (Child c) = 0
-itemPacket (Packet p) = p
-
-abbrev pub tagOf : Entry → ℕ
-tagOf e = itemTag (e .item)
-
-abbrev pub childOf : Entry → ℕ
-childOf e = itemChild (e .item)
-
-abbrev pub packetOf : Entry → ℕ
-packetOf e = itemPacket (e .item)
+abbrev pub plainEntry : Entry → PlainEntry
+plainEntry e = plainItem (e .rank) (e .item)
 
 -- the numbers of a state, as they are written
 unfoldable pub plainOf : State → PlainState
@@ -70,10 +46,7 @@ plainOf s =
       limit = s .limit;
       refused = s .refused;
       owners = s .owners;
-      ranks = map rankOf (s .entries);
-      tags = map tagOf (s .entries);
-      children = map childOf (s .entries);
-      packets = map packetOf (s .entries);
+      entries = map plainEntry (s .entries);
       used = s .used;
     }
 

@@ -5,10 +5,18 @@ use queue_state::Item;
 use queue_state::State;
 ghost use mathlib.Core.Path.{_≡_};
 ghost use mathlib.Core.List.{map};
-ghost use Rattle.plain_state.specs.Plain.{itemFrom, entriesFrom, stateOf, plainOf, tagOf, childOf, packetOf, rankOf};
+ghost use Rattle.plain_state.specs.Plain.{entryOf, stateOf, plainEntry, plainOf};
 
-// A state as plain numbers. Entry i has the rank `ranks[i]`; where `tags[i]` is 0 it is the child `children[i]`, else the packet
-// `packets[i]`. The other fields are those of a state.
+// An entry: where `tag` is 0 the child `child`, else the packet `packet`.
+#[repr(C)]
+pub struct PlainEntry {
+    pub rank: u32,
+    pub tag: u8,
+    pub child: u8,
+    pub packet: u32,
+}
+
+// The fields are those of a state.
 #[repr(C)]
 pub struct PlainState {
     pub topology: [u8; 64],
@@ -16,29 +24,27 @@ pub struct PlainState {
     pub limit: usize,
     pub refused: u32,
     pub owners: [u8; 2304],
-    pub ranks: [u32; 2304],
-    pub tags: [u8; 2304],
-    pub children: [u8; 2304],
-    pub packets: [u32; 2304],
+    pub entries: [PlainEntry; 2304],
     pub used: usize,
 }
 
-fn item(tag: u8, child: u8, packet: u32) -> Item
-    ensures { λ r. ⌜ r ≡ itemFrom tag child packet ⌝ }
+fn entry_of(plain: PlainEntry) -> Entry
+    ensures { λ r. ⌜ r ≡ entryOf plain ⌝ }
 {
-    if tag == 0 {
-        return Item::Child(child);
+    if plain.tag == 0 {
+        return Entry {
+            rank: plain.rank,
+            item: Item::Child(plain.child),
+        };
     }
-    Item::Packet(packet)
+    Entry {
+        rank: plain.rank,
+        item: Item::Packet(plain.packet),
+    }
 }
 
-fn entries_of(
-    ranks: [u32; 2304],
-    tags: [u8; 2304],
-    children: [u8; 2304],
-    packets: [u32; 2304],
-) -> [Entry; 2304]
-    ensures { λ r. ⌜ r ≡ entriesFrom ranks tags children packets ⌝ }
+fn entries_of(plain: [PlainEntry; 2304]) -> [Entry; 2304]
+    ensures { λ r. ⌜ r ≡ map entryOf plain ⌝ }
 {
     let mut entries = [Entry {
         rank: 0,
@@ -46,10 +52,7 @@ fn entries_of(
     }; 2304];
     let mut i = 0;
     while i < 2304 {
-        entries[i] = Entry {
-            rank: ranks[i],
-            item: item(tags[i], children[i], packets[i]),
-        };
+        entries[i] = entry_of(plain[i]);
         i += 1;
     }
     entries
@@ -59,13 +62,10 @@ fn entries_of(
 pub fn state_of(plain: PlainState) -> State
     ensures { λ r. ⌜ r ≡ stateOf plain ⌝ }
 {
-    let ranks = plain.ranks;
-    let tags = plain.tags;
-    let children = plain.children;
-    let packets = plain.packets;
-    let entries = entries_of(ranks, tags, children, packets);
     let topology = plain.topology;
     let owners = plain.owners;
+    let given = plain.entries;
+    let entries = entries_of(given);
     State {
         topology,
         nodes: plain.nodes,
@@ -77,82 +77,42 @@ pub fn state_of(plain: PlainState) -> State
     }
 }
 
-fn ranks_of(entries: [Entry; 2304]) -> [u32; 2304]
-    ensures { λ r. ⌜ r ≡ map rankOf entries ⌝ }
+fn plain_entry(entry: Entry) -> PlainEntry
+    ensures { λ r. ⌜ r ≡ plainEntry entry ⌝ }
 {
-    let mut ranks = [0u32; 2304];
-    let mut i = 0;
-    while i < 2304 {
-        ranks[i] = entries[i].rank;
-        i += 1;
-    }
-    ranks
-}
-
-fn tag(entry: Entry) -> u8
-    ensures { λ r. ⌜ r ≡ tagOf entry ⌝ }
-{
+    let rank = entry.rank;
     let item = entry.item;
     match item {
-        Item::Child(_) => 0,
-        Item::Packet(_) => 1,
+        Item::Child(child) => PlainEntry {
+            rank,
+            tag: 0,
+            child,
+            packet: 0,
+        },
+        Item::Packet(packet) => PlainEntry {
+            rank,
+            tag: 1,
+            child: 0,
+            packet,
+        },
     }
 }
 
-fn tags_of(entries: [Entry; 2304]) -> [u8; 2304]
-    ensures { λ r. ⌜ r ≡ map tagOf entries ⌝ }
+fn plain_entries(entries: [Entry; 2304]) -> [PlainEntry; 2304]
+    ensures { λ r. ⌜ r ≡ map plainEntry entries ⌝ }
 {
-    let mut tags = [0u8; 2304];
+    let mut plain = [PlainEntry {
+        rank: 0,
+        tag: 0,
+        child: 0,
+        packet: 0,
+    }; 2304];
     let mut i = 0;
     while i < 2304 {
-        tags[i] = tag(entries[i]);
+        plain[i] = plain_entry(entries[i]);
         i += 1;
     }
-    tags
-}
-
-fn child(entry: Entry) -> u8
-    ensures { λ r. ⌜ r ≡ childOf entry ⌝ }
-{
-    let item = entry.item;
-    match item {
-        Item::Child(index) => index,
-        Item::Packet(_) => 0,
-    }
-}
-
-fn children_of(entries: [Entry; 2304]) -> [u8; 2304]
-    ensures { λ r. ⌜ r ≡ map childOf entries ⌝ }
-{
-    let mut children = [0u8; 2304];
-    let mut i = 0;
-    while i < 2304 {
-        children[i] = child(entries[i]);
-        i += 1;
-    }
-    children
-}
-
-fn packet(entry: Entry) -> u32
-    ensures { λ r. ⌜ r ≡ packetOf entry ⌝ }
-{
-    let item = entry.item;
-    match item {
-        Item::Child(_) => 0,
-        Item::Packet(number) => number,
-    }
-}
-
-fn packets_of(entries: [Entry; 2304]) -> [u32; 2304]
-    ensures { λ r. ⌜ r ≡ map packetOf entries ⌝ }
-{
-    let mut packets = [0u32; 2304];
-    let mut i = 0;
-    while i < 2304 {
-        packets[i] = packet(entries[i]);
-        i += 1;
-    }
-    packets
+    plain
 }
 
 // A state as plain numbers.
@@ -161,21 +121,15 @@ pub fn plain(state: State) -> PlainState
 {
     let topology = state.topology;
     let owners = state.owners;
-    let entries = state.entries;
-    let ranks = ranks_of(entries);
-    let tags = tags_of(entries);
-    let children = children_of(entries);
-    let packets = packets_of(entries);
+    let given = state.entries;
+    let entries = plain_entries(given);
     PlainState {
         topology,
         nodes: state.nodes,
         limit: state.limit,
         refused: state.refused,
         owners,
-        ranks,
-        tags,
-        children,
-        packets,
+        entries,
         used: state.used,
     }
 }

@@ -8,7 +8,7 @@ entries-of-requires : tie.Need-entries-of-requires
 entries-of-requires c κs = search needs
 
 returns : tie.Need-returns
-returns c = state-from _ _ (c .before .before .entries-of .ensures)
+returns c = state-from _ _ (c .entries-of .ensures)
 
 pub state-of-spec : {M : Type 1} → statement M
 state-of-spec = tie.close (tie.spec entries-of-requires returns)

@@ -1,9 +1,9 @@
 -- The opened state as plain numbers.
 use borrow.Author.Needs.{needs}
 use mathlib.Core.Path.{refl}
-use Rattle.exports_queue_tree.proofs.Answering.{opens-plain}
-use Rattle.exports_queue_tree.proofs.linduvar_open.Statement.{statement}
-use Rattle.exports_queue_tree.proofs.linduvar_open.Tie as tie
+use Rattle.exports_queue_state.proofs.Answering.{opens-plain}
+use Rattle.exports_queue_state.proofs.linduvar_open.Statement.{statement}
+use Rattle.exports_queue_state.proofs.linduvar_open.Tie as tie
 
 open-requires : tie.Need-open-requires
 open-requires c κs = search needs

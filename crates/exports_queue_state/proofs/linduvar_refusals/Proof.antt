@@ -1,9 +1,9 @@
 -- The amount as plain numbers.
 use mathlib.Core.Path.{_∙_}
 use borrow.Author.Needs.{needs}
-use Rattle.exports_queue_tree.proofs.Answering.{refusals-plain}
-use Rattle.exports_queue_tree.proofs.linduvar_refusals.Statement.{statement}
-use Rattle.exports_queue_tree.proofs.linduvar_refusals.Tie as tie
+use Rattle.exports_queue_state.proofs.Answering.{refusals-plain}
+use Rattle.exports_queue_state.proofs.linduvar_refusals.Statement.{statement}
+use Rattle.exports_queue_state.proofs.linduvar_refusals.Tie as tie
 
 state-of-requires : tie.Need-state-of-requires
 state-of-requires c κs = search needs
