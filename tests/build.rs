@@ -3,7 +3,14 @@
 use std::path::Path;
 use std::{env, fs};
 
-const CRATES: [&str; 2] = ["exports", "exports_queue_tree"];
+const CRATES: [&str; 6] = [
+    "exports_topology",
+    "exports_embedding",
+    "exports_translator",
+    "exports_queue_state",
+    "exports_queue_tree",
+    "exports_bench",
+];
 
 fn main() {
     println!("cargo:rerun-if-env-changed=LINDUVAR_LIB_DIR");

@@ -2,7 +2,8 @@
 
 use std::io::{self, ErrorKind, Read, Write};
 use std::path::{Path, PathBuf};
-use std::process::{Command, Stdio};
+use std::process::{Command, ExitStatus, Stdio};
+use std::time::{Duration, Instant};
 use std::{env, thread};
 
 /// What gatewalk prints for a script.
@@ -12,13 +13,7 @@ pub fn walk(script: &[u8]) -> Vec<u8> {
 
 /// What gatewalk prints for a script that `write` sends as it likes.
 pub fn walk_slowly(write: impl FnOnce(&mut dyn Write) -> io::Result<()> + Send) -> Vec<u8> {
-    let program = program();
-    assert!(
-        program.is_file(),
-        "{} is missing; run `rt check gatewalk` first",
-        program.display()
-    );
-    let mut child = Command::new(program)
+    let mut child = Command::new(program())
         .stdin(Stdio::piped())
         .stdout(Stdio::piped())
         .spawn()
@@ -40,10 +35,58 @@ pub fn walk_slowly(write: impl FnOnce(&mut dyn Write) -> io::Result<()> + Send) 
     printed
 }
 
+/// How gatewalk ends, with nothing said on standard error, on a script that it
+/// may not be able to answer: its standard streams are changed by `streams` as
+/// a shell has it, and its reader goes after `taken` bytes.
+pub fn end(script: &[u8], streams: &str, taken: u64) -> ExitStatus {
+    let mut child = Command::new("sh")
+        .arg("-c")
+        .arg(format!("exec \"$0\" {streams}"))
+        .arg(program())
+        .stdin(Stdio::piped())
+        .stdout(Stdio::piped())
+        .stderr(Stdio::piped())
+        .spawn()
+        .expect("a shell starts");
+    let mut input = child.stdin.take().expect("a pipe");
+    let mut output = child.stdout.take().filter(|_| taken > 0);
+    match input.write_all(script) {
+        Err(error) if error.kind() != ErrorKind::BrokenPipe => panic!("{error}"),
+        _ => drop(input),
+    }
+    if let Some(output) = &mut output {
+        let copied = io::copy(&mut output.take(taken), &mut io::sink());
+        assert_eq!(copied.expect("what it prints"), taken);
+    }
+    drop(output);
+    let start = Instant::now();
+    let status = loop {
+        if let Some(status) = child.try_wait().expect("it was started") {
+            break status;
+        }
+        if start.elapsed() > Duration::from_secs(5) {
+            child.kill().expect("it runs");
+            panic!("gatewalk {streams} does not end");
+        }
+        thread::sleep(Duration::from_millis(1));
+    };
+    let mut said = Vec::new();
+    let mut errors = child.stderr.take().expect("a pipe");
+    errors.read_to_end(&mut said).expect("what it says");
+    assert!(said.is_empty(), "{}", String::from_utf8_lossy(&said));
+    status
+}
+
 /// The program, or another in its place.
 pub fn program() -> PathBuf {
-    match env::var_os("LINDUVAR_GATEWALK") {
+    let program = match env::var_os("LINDUVAR_GATEWALK") {
         Some(path) => PathBuf::from(path),
         None => Path::new(env!("CARGO_MANIFEST_DIR")).join("../target/bin/gatewalk"),
-    }
+    };
+    assert!(
+        program.is_file(),
+        "{} is missing; run `rt check gatewalk` first",
+        program.display()
+    );
+    program
 }

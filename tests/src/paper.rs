@@ -3,6 +3,19 @@
 
 use crate::commands::{limit, opening, push, source_node, step, target_node, OPEN, POP};
 
+/// Each script prints what it should.
+pub fn check(run: impl Fn(&[u8]) -> Vec<u8>) {
+    for (script, printed) in scripts() {
+        assert_eq!(text(run(&script)), printed, "{script:02X?}");
+    }
+    println!("the paper's scripts: as it has them");
+}
+
+/// What was printed, which is plain text.
+pub fn text(printed: Vec<u8>) -> String {
+    String::from_utf8(printed).expect("plain text")
+}
+
 pub fn scripts() -> Vec<(Vec<u8>, String)> {
     let mut scripts = vec![
         (Vec::new(), String::new()),

@@ -8,8 +8,16 @@ use crate::topology::TARGET_NODES;
 /// A path has room for one step more than the deepest tree takes.
 pub const MOST_STEPS: usize = 9;
 
-/// Entry `i` has the rank `ranks[i]`; where `tags[i]` is 0 it is the child
-/// `children[i]`, else the packet `packets[i]`.
+/// Where `tag` is 0 the child `child`, else the packet `packet`.
+#[repr(C)]
+#[derive(Clone, Copy, Debug, PartialEq, Eq)]
+pub struct PlainEntry {
+    pub rank: u32,
+    pub tag: u8,
+    pub child: u8,
+    pub packet: u32,
+}
+
 #[repr(C)]
 #[derive(Clone, Copy, Debug, PartialEq, Eq)]
 pub struct PlainState {
@@ -18,10 +26,7 @@ pub struct PlainState {
     pub limit: usize,
     pub refused: u32,
     pub owners: [u8; MOST_ENTRIES],
-    pub ranks: [u32; MOST_ENTRIES],
-    pub tags: [u8; MOST_ENTRIES],
-    pub children: [u8; MOST_ENTRIES],
-    pub packets: [u32; MOST_ENTRIES],
+    pub entries: [PlainEntry; MOST_ENTRIES],
     pub used: usize,
 }
 
@@ -75,6 +80,40 @@ pub struct PlainAmount {
     pub value: u32,
 }
 
+impl PlainEntry {
+    /// What stands where no entry was put.
+    const NONE: PlainEntry = PlainEntry {
+        rank: 0,
+        tag: 0,
+        child: 0,
+        packet: 0,
+    };
+
+    pub fn write(entry: &Entry) -> PlainEntry {
+        let (tag, child, packet) = match entry.item {
+            Item::Child(child) => (0, child, 0),
+            Item::Packet(packet) => (1, 0, packet),
+        };
+        PlainEntry {
+            rank: entry.rank,
+            tag,
+            child,
+            packet,
+        }
+    }
+
+    pub fn read(&self) -> Entry {
+        let item = match self.tag {
+            0 => Item::Child(self.child),
+            _ => Item::Packet(self.packet),
+        };
+        Entry {
+            rank: self.rank,
+            item,
+        }
+    }
+}
+
 impl PlainState {
     /// The state, the queue of node 0 first and so on.
     pub fn write(state: &State) -> PlainState {
@@ -84,10 +123,7 @@ impl PlainState {
             limit: state.limit,
             refused: state.refused,
             owners: [0; MOST_ENTRIES],
-            ranks: [0; MOST_ENTRIES],
-            tags: [0; MOST_ENTRIES],
-            children: [0; MOST_ENTRIES],
-            packets: [0; MOST_ENTRIES],
+            entries: [PlainEntry::NONE; MOST_ENTRIES],
             used: 0,
         };
         plain.topology[..state.topology.len()].copy_from_slice(&state.topology);
@@ -110,7 +146,7 @@ impl PlainState {
         let mut queues = vec![Vec::new(); self.nodes];
         for at in 0..self.used {
             let queue = queues.get_mut(usize::from(self.owners[at]))?;
-            queue.push(self.entry(at));
+            queue.push(self.entries[at].read());
         }
         Some(State {
             topology: self.topology[..self.nodes].to_vec(),
@@ -120,24 +156,9 @@ impl PlainState {
         })
     }
 
-    pub fn entry(&self, at: usize) -> Entry {
-        let item = match self.tags[at] {
-            0 => Item::Child(self.children[at]),
-            _ => Item::Packet(self.packets[at]),
-        };
-        Entry {
-            rank: self.ranks[at],
-            item,
-        }
-    }
-
     pub fn set(&mut self, at: usize, owner: u8, entry: &Entry) {
         self.owners[at] = owner;
-        self.ranks[at] = entry.rank;
-        (self.tags[at], self.children[at], self.packets[at]) = match entry.item {
-            Item::Child(child) => (0, child, 0),
-            Item::Packet(packet) => (1, 0, packet),
-        };
+        self.entries[at] = PlainEntry::write(entry);
     }
 
     /// Adds an entry behind all others; None if there is no room.
@@ -153,7 +174,11 @@ impl PlainState {
     /// Takes an entry out.
     pub fn remove(&mut self, at: usize) {
         for behind in at + 1..self.used {
-            self.set(behind - 1, self.owners[behind], &self.entry(behind));
+            self.set(
+                behind - 1,
+                self.owners[behind],
+                &self.entries[behind].read(),
+            );
         }
         self.used -= 1;
     }
@@ -163,8 +188,8 @@ impl PlainState {
     /// packet 0, a packet the child 0.
     pub fn rewritten(&self) -> PlainState {
         let mut plain = *self;
-        for at in 0..MOST_ENTRIES {
-            plain.set(at, self.owners[at], &self.entry(at));
+        for entry in &mut plain.entries {
+            *entry = PlainEntry::write(&entry.read());
         }
         plain
     }

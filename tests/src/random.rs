@@ -2,7 +2,17 @@
 
 use std::env;
 use std::ops::RangeInclusive;
-use std::time::{SystemTime, UNIX_EPOCH};
+use std::time::{Instant, SystemTime, UNIX_EPOCH};
+
+/// A test from its seed, which is printed first so that it can be repeated;
+/// last comes the time it took.
+pub fn seeded(test: impl FnOnce(u64)) {
+    let start = Instant::now();
+    let seed = seed();
+    println!("seed {seed} (LINDUVAR_SEED={seed} repeats this run)");
+    test(seed);
+    println!("no difference, {:.1} s", start.elapsed().as_secs_f64());
+}
 
 /// The seed in LINDUVAR_SEED if it is set, else one from the clock.
 pub fn seed() -> u64 {

@@ -1,6 +1,7 @@
 //! The scripts in `samples/`: hex bytes with comments, and after `=>` in a
 //! comment the line that is printed there.
 
+use crate::paper::text;
 use std::fs;
 use std::path::{Path, PathBuf};
 
@@ -34,6 +35,27 @@ pub fn read(path: &Path) -> Sample {
         }
     }
     sample
+}
+
+/// Each sample prints what its comments say, and its last line has the number
+/// of the refusal that it is named for.
+pub fn check(run: impl Fn(&[u8]) -> Vec<u8>) {
+    let garden = read(&garden());
+    assert_eq!(text(run(&garden.script)), garden.promised);
+    let refusals = refusals();
+    for (number, path) in &refusals {
+        let sample = read(path);
+        let printed = text(run(&sample.script));
+        let last = printed.lines().last().expect("a line");
+        let expected = format!("no {number} ");
+        assert!(last.starts_with(&expected), "{}: {last}", path.display());
+        assert_eq!(printed, sample.promised, "{}", path.display());
+    }
+    println!("samples: as they say, {} refusals", refusals.len());
+}
+
+pub fn garden() -> PathBuf {
+    folder().join("garden.hex")
 }
 
 /// The samples of refusals, each with the number in its name.

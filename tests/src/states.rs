@@ -1,7 +1,7 @@
 //! Random queue trees, paths and states, right and damaged.
 
 use crate::generate::{self, SHAPES};
-use crate::plain::{PlainPath, PlainState, PlainStep};
+use crate::plain::{PlainEntry, PlainPath, PlainState, PlainStep};
 use crate::queue_tree::{Entry, Item, QueueTree, State, Step, MOST_ENTRIES};
 use crate::random::Random;
 use crate::topology::{Topology, MOST_CHILDREN, MOST_STEPS_DOWN, TARGET_NODES};
@@ -208,25 +208,23 @@ pub fn dressed(state: &State, kind: &str, random: &mut Random) -> PlainState {
         let entry = queues[usize::from(node)].next();
         plain.set(at, node, entry.expect("a turn for each entry"));
     }
-    for at in 0..used {
-        match (kind, plain.tags[at]) {
-            ("other tags of packets", 1) => plain.tags[at] = random.within(1..=255) as u8,
-            ("noise beside children and packets", 0) => {
-                plain.packets[at] = random.number() as u32;
-            }
-            ("noise beside children and packets", _) => {
-                plain.children[at] = random.below(256) as u8;
-            }
+    for entry in &mut plain.entries[..used] {
+        match (kind, entry.tag) {
+            ("other tags of packets", 1) => entry.tag = random.within(1..=255) as u8,
+            ("noise beside children and packets", 0) => entry.packet = random.number() as u32,
+            ("noise beside children and packets", _) => entry.child = random.below(256) as u8,
             _ => {}
         }
     }
     if kind == "noise behind the entries" {
         for at in used..MOST_ENTRIES {
             plain.owners[at] = random.below(256) as u8;
-            plain.ranks[at] = random.number() as u32;
-            plain.tags[at] = random.below(256) as u8;
-            plain.children[at] = random.below(256) as u8;
-            plain.packets[at] = random.number() as u32;
+            plain.entries[at] = PlainEntry {
+                rank: random.number() as u32,
+                tag: random.below(256) as u8,
+                child: random.below(256) as u8,
+                packet: random.number() as u32,
+            };
         }
     }
     if kind == "noise behind the topology" {
@@ -350,19 +348,20 @@ pub fn damage(state: &mut PlainState, kind: &str, random: &mut Random) -> Option
             let first = if inside { inner_entry? } else { leaf_entry? };
             // Against the next of the same queue.
             let second = (first + 1..used).find(|&at| owner(at) == owner(first))?;
-            let (low, mut high) = (state.ranks[first], state.ranks[second]);
+            let (low, mut high) = (state.entries[first].rank, state.entries[second].rank);
             if low == high {
                 high = high.checked_add(1)?;
             }
-            (state.ranks[first], state.ranks[second]) = (high, low);
+            state.entries[first].rank = high;
+            state.entries[second].rank = low;
         }
         "packet for a child at an inner node" => {
-            state.tags[inner_entry?] = random.pick(&[1, 2, 255]);
+            state.entries[inner_entry?].tag = random.pick(&[1, 2, 255]);
         }
         "packet more at an inner node" => {
             state.append(inner_node? as u8, &last(Item::Packet(1)))?;
         }
-        "child for a packet at a leaf" => state.tags[leaf_entry?] = 0,
+        "child for a packet at a leaf" => state.entries[leaf_entry?].tag = 0,
         "child more at a leaf" => {
             let child = Item::Child(random.pick(&[0, 1, 2]));
             state.append(leaf as u8, &last(child))?;
@@ -376,14 +375,14 @@ pub fn damage(state: &mut PlainState, kind: &str, random: &mut Random) -> Option
             // In place of another child, or as an entry more.
             if random.one_in(2) {
                 let at = inner_entry?;
-                state.children[at] = past(owner(at), random);
+                state.entries[at].child = past(owner(at), random);
             } else {
                 state.append(node as u8, &last(Item::Child(past(node, random))))?;
             }
         }
         "another child" => {
             let at = inner_entry?;
-            state.children[at] = random.within(1..=children(owner(at))) as u8;
+            state.entries[at].child = random.within(1..=children(owner(at))) as u8;
         }
         "child more" => {
             let node = inner_node?;

@@ -6,14 +6,13 @@ use linduvar_tests::both_trees::BothTrees;
 use linduvar_tests::pairs::{self, Drawn};
 use linduvar_tests::plain::{PlainAmount, PlainAnswer, PlainState};
 use linduvar_tests::queue_tree::{Refusal, MOST_PACKETS};
-use linduvar_tests::random::{self, Random};
+use linduvar_tests::random::{seeded, Random};
 use linduvar_tests::rattle_queue_tree as rattle;
 use linduvar_tests::rattle_translator;
 use linduvar_tests::states::{any_path, Habits};
 use linduvar_tests::topology::{SOURCE_NODES, TARGET_NODES};
 use linduvar_tests::translator::Path;
 use std::collections::BTreeMap;
-use std::time::Instant;
 
 const LISTS_A_LIMIT: usize = 2;
 
@@ -21,9 +20,10 @@ const LISTS_A_LIMIT: usize = 2;
 const OFTEN_ENOUGH: usize = 50;
 
 fn main() {
-    let start = Instant::now();
-    let seed = random::seed();
-    println!("seed {seed} (LINDUVAR_SEED={seed} repeats this run)");
+    seeded(every_limit);
+}
+
+fn every_limit(seed: u64) {
     let mut random = Random::new(seed);
     let mut answers = BTreeMap::new();
     let (mut lists, mut calls, mut shared) = (0, 0, 0);
@@ -54,7 +54,6 @@ fn main() {
         let met = answers.get(&answer).copied().unwrap_or(0);
         assert!(met >= OFTEN_ENOUGH, "{answer} was met only {met} times");
     }
-    println!("no difference, {:.1} s", start.elapsed().as_secs_f64());
 }
 
 /// Two trees of the library and two of the second implementation.

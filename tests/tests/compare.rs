@@ -1,13 +1,12 @@
 //! Puts the same questions to the Rattle library and to the second
 //! implementation. The first difference ends the run.
 
-use linduvar_tests::random::Random;
+use linduvar_tests::random::{seeded, Random};
 use linduvar_tests::topology::{
     Reading, Topology, MOST_CHILDREN, MOST_STEPS_DOWN, SOURCE_NODES, TARGET_NODES,
 };
-use linduvar_tests::{generate, random, rattle};
+use linduvar_tests::{generate, rattle};
 use std::fmt;
-use std::time::Instant;
 
 const RANDOM_STRINGS: usize = 200_000;
 
@@ -15,14 +14,12 @@ const RANDOM_STRINGS: usize = 200_000;
 const OFTEN_ENOUGH: usize = 100;
 
 fn main() {
-    let start = Instant::now();
-    let seed = random::seed();
-    println!("seed {seed} (LINDUVAR_SEED={seed} repeats this run)");
-    examples(seed);
-    long_strings();
-    every_short_string(seed);
-    random_strings(seed);
-    println!("no difference, {:.1} s", start.elapsed().as_secs_f64());
+    seeded(|seed| {
+        examples(seed);
+        long_strings();
+        every_short_string(seed);
+        random_strings(seed);
+    });
 }
 
 /// The paper's examples, and some worked by hand.

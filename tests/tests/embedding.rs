@@ -3,11 +3,10 @@
 
 use linduvar_tests::embedding::{self, read_pair};
 use linduvar_tests::pairs::{self, damaged_map, Drawn};
-use linduvar_tests::random::Random;
+use linduvar_tests::random::{seeded, Random};
 use linduvar_tests::topology::{SOURCE_NODES, TARGET_NODES};
-use linduvar_tests::{generate, random, rattle_embedding};
+use linduvar_tests::{generate, rattle_embedding};
 use std::fmt;
-use std::time::Instant;
 
 const SMALL_PAIRS: usize = 30_000;
 const LARGE_PAIRS: usize = 3_000;
@@ -17,15 +16,13 @@ const DAMAGED_PAIRS: usize = 12_000;
 const OFTEN_ENOUGH: usize = 50;
 
 fn main() {
-    let start = Instant::now();
-    let seed = random::seed();
-    println!("seed {seed} (LINDUVAR_SEED={seed} repeats this run)");
-    examples(seed);
-    hard_pairs(seed);
-    long_strings();
-    every_small_pair(seed);
-    random_pairs(seed);
-    println!("no difference, {:.1} s", start.elapsed().as_secs_f64());
+    seeded(|seed| {
+        examples(seed);
+        hard_pairs(seed);
+        long_strings();
+        every_small_pair(seed);
+        random_pairs(seed);
+    });
 }
 
 /// The paper's pairs, and some worked by hand.

@@ -2,12 +2,13 @@
 //! scripts and compares all that they print. The first difference ends the run.
 
 use linduvar_tests::commands::{opening, push, step, POP};
-use linduvar_tests::gatewalk::{walk, walk_slowly};
-use linduvar_tests::random::{self, Random};
+use linduvar_tests::gatewalk::{end, walk, walk_slowly};
+use linduvar_tests::random::{seeded, Random};
 use linduvar_tests::reached::Reached;
 use linduvar_tests::script::{run, SCRIPT_BYTES};
 use linduvar_tests::scripts::{self, LONG_KINDS};
 use linduvar_tests::{laborious, paper, samples};
+use std::os::unix::process::ExitStatusExt;
 use std::panic::resume_unwind;
 use std::path::Path;
 use std::process::Command;
@@ -22,25 +23,18 @@ const SECONDS: f64 = 20.0;
 const AIM: f64 = 2.0;
 
 fn main() {
-    let start = Instant::now();
-    let seed = random::seed();
-    println!("seed {seed} (LINDUVAR_SEED={seed} repeats this run)");
-    for (script, printed) in paper::scripts() {
-        assert_eq!(text(&script), printed, "{script:02X?}");
-    }
-    println!("the paper's scripts: as it has them");
-    sample_scripts();
-    byte_by_byte();
-    ten_megabytes();
-    crowded_drawings();
-    laborious_scripts();
-    every_limit(seed);
-    random_scripts(seed);
-    println!("no difference, {:.1} s", start.elapsed().as_secs_f64());
-}
-
-fn text(script: &[u8]) -> String {
-    String::from_utf8(walk(script)).expect("plain text")
+    seeded(|seed| {
+        paper::check(walk);
+        samples::check(walk);
+        samples_in_the_shell();
+        byte_by_byte();
+        ten_megabytes();
+        lost_streams();
+        crowded_drawings();
+        laborious_scripts();
+        every_limit(seed);
+        random_scripts(seed);
+    });
 }
 
 /// Compares, and names the script where they differ.
@@ -61,29 +55,18 @@ fn compare(what: &str, script: &[u8]) {
     }
 }
 
-/// Each sample prints what its comments say, and `samples/run` gives its bytes.
-fn sample_scripts() {
-    let folder = samples::folder();
-    let garden = folder.join("garden.hex");
-    let sample = samples::read(&garden);
-    assert_eq!(text(&sample.script), sample.promised);
-    assert_eq!(shell(&folder, &garden), sample.script);
-    let refusals = samples::refusals();
-    for (number, path) in &refusals {
-        let sample = samples::read(path);
-        let printed = text(&sample.script);
-        let last = printed.lines().last().expect("a line");
-        let expected = format!("no {number} ");
-        assert!(last.starts_with(&expected), "{}: {last}", path.display());
-        assert_eq!(printed, sample.promised, "{}", path.display());
-        assert_eq!(shell(&folder, path), sample.script);
+/// `samples/run` gives the bytes of each sample.
+fn samples_in_the_shell() {
+    let refusals = samples::refusals().into_iter().map(|(_, path)| path);
+    for path in refusals.chain([samples::garden()]) {
+        assert_eq!(shell(&path), samples::read(&path).script);
     }
-    println!("samples: as they say, {} refusals", refusals.len());
 }
 
 /// The bytes that the shell script makes of a sample.
-fn shell(folder: &Path, sample: &Path) -> Vec<u8> {
-    let output = Command::new(folder.join("run")).arg(sample).output();
+fn shell(sample: &Path) -> Vec<u8> {
+    let program = samples::folder().join("run");
+    let output = Command::new(program).arg(sample).output();
     output.expect("samples/run starts").stdout
 }
 
@@ -114,6 +97,23 @@ fn ten_megabytes() {
         compare("ten megabytes", &script);
     }
     println!("ten megabytes: the first {SCRIPT_BYTES} bytes count");
+}
+
+/// Without input, or with output that cannot be written, gatewalk ends all the
+/// same. A reader that goes ends it by the signal for that, as it ends other
+/// programs; what else cannot be written is lost.
+fn lost_streams() {
+    const GONE: i32 = 13;
+    let long = [opening(&[0], &[0], 1).concat(), vec![POP; 60_000]].concat();
+    for script in [&paper::EXAMPLE[..], &long] {
+        assert_eq!(end(script, "", 0).signal(), Some(GONE));
+        for streams in ["<&-", ">&-", "<&- >&-", ">/dev/full"] {
+            assert!(end(script, streams, 0).success(), "{streams}");
+        }
+    }
+    assert_eq!(end(&long, "", 1_000).signal(), Some(GONE));
+    assert!(end(&[], "", 0).success());
+    println!("streams that are closed, full or without a reader: it ends");
 }
 
 fn crowded_drawings() {

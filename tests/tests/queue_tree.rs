@@ -5,14 +5,13 @@
 use linduvar_tests::generate;
 use linduvar_tests::plain::{PlainAmount, PlainAnswer, PlainPath, PlainState};
 use linduvar_tests::queue_tree::{self, QueueTree, Refusal, Step, MOST_ENTRIES, MOST_PACKETS};
-use linduvar_tests::random::{self, Random};
+use linduvar_tests::random::{seeded, Random};
 use linduvar_tests::rattle_queue_tree;
 use linduvar_tests::states::{
     any_path, any_topology, any_tree, damage, dressed, Habits, DAMAGES, DRESSES, LIMITS, PATHS,
 };
 use std::collections::BTreeMap;
 use std::fmt;
-use std::time::Instant;
 
 const OPENINGS: usize = 10_000;
 const SHORT_LISTS: usize = 800;
@@ -25,21 +24,19 @@ const CHURNS: usize = 1_000;
 const OFTEN_ENOUGH: usize = 50;
 
 fn main() {
-    let start = Instant::now();
-    let seed = random::seed();
-    println!("seed {seed} (LINDUVAR_SEED={seed} repeats this run)");
-    examples();
-    long_strings();
-    let mut comparison = Comparison::new(seed);
-    openings(&mut comparison);
-    every_short_list(&mut comparison);
-    random_lists(&mut comparison);
-    states(&mut comparison);
-    damaged_states(&mut comparison);
-    churns(&mut comparison);
-    comparison.print();
-    comparison.require_everything();
-    println!("no difference, {:.1} s", start.elapsed().as_secs_f64());
+    seeded(|seed| {
+        examples();
+        long_strings();
+        let mut comparison = Comparison::new(seed);
+        openings(&mut comparison);
+        every_short_list(&mut comparison);
+        random_lists(&mut comparison);
+        states(&mut comparison);
+        damaged_states(&mut comparison);
+        churns(&mut comparison);
+        comparison.print();
+        comparison.require_everything();
+    });
 }
 
 /// The paper's example, its script on both trees, and some worked by hand.

@@ -6,14 +6,13 @@ use linduvar_tests::generate;
 use linduvar_tests::pairs::{self, damaged_map, Drawn};
 use linduvar_tests::plain::{PlainCarried, PlainPath, PlainStep, MOST_STEPS};
 use linduvar_tests::queue_tree::Step;
-use linduvar_tests::random::{self, Random};
+use linduvar_tests::random::{seeded, Random};
 use linduvar_tests::rattle_translator;
 use linduvar_tests::states::{any_path, noise_behind, Habits, PATHS};
 use linduvar_tests::topology::{Topology, MOST_STEPS_DOWN, SOURCE_NODES, TARGET_NODES};
 use linduvar_tests::translator::{self, Path};
 use std::collections::BTreeMap;
 use std::fmt;
-use std::time::Instant;
 
 const SMALL_PAIRS: usize = 20_000;
 const LARGE_PAIRS: usize = 5_000;
@@ -25,27 +24,25 @@ const PATHS_A_MAP: usize = 4;
 const OFTEN_ENOUGH: usize = 50;
 
 fn main() {
-    let start = Instant::now();
-    let seed = random::seed();
-    println!("seed {seed} (LINDUVAR_SEED={seed} repeats this run)");
-    examples(seed);
-    whole_paths();
-    long_strings();
-    let mut comparison = Comparison::new(seed);
-    let mut random = Random::new(seed);
-    for _ in 0..SMALL_PAIRS {
-        comparison.pair(&pairs::any(&mut random, 8, 12), &mut random);
-    }
-    for _ in 0..LARGE_PAIRS {
-        let drawn = pairs::any(&mut random, SOURCE_NODES, TARGET_NODES);
-        comparison.pair(&drawn, &mut random);
-    }
-    for _ in 0..DAMAGED_PAIRS {
-        comparison.damaged_pair(&mut random);
-    }
-    comparison.print();
-    comparison.require_everything();
-    println!("no difference, {:.1} s", start.elapsed().as_secs_f64());
+    seeded(|seed| {
+        examples(seed);
+        whole_paths();
+        long_strings();
+        let mut comparison = Comparison::new(seed);
+        let mut random = Random::new(seed);
+        for _ in 0..SMALL_PAIRS {
+            comparison.pair(&pairs::any(&mut random, 8, 12), &mut random);
+        }
+        for _ in 0..LARGE_PAIRS {
+            let drawn = pairs::any(&mut random, SOURCE_NODES, TARGET_NODES);
+            comparison.pair(&drawn, &mut random);
+        }
+        for _ in 0..DAMAGED_PAIRS {
+            comparison.damaged_pair(&mut random);
+        }
+        comparison.print();
+        comparison.require_everything();
+    });
 }
 
 /// Worked by hand.

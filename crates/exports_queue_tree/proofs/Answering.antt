@@ -1,41 +1,17 @@
--- The calls on plain states: what the queue tree promises of the state that they stand for, as the numbers' own promise.
+-- A push or a pop on a plain state: what the queue tree promises of the state that it stands for, as the numbers' own promise.
 use mathlib.Core.Path.{_≡_, refl, sym, ap, _∙_, subst}
 use Prim.Native.Nat.{ℕ}
 use mathlib.Core.Bool.{Bool, true, false}
-use mathlib.Core.List.{List}
 use Rattle.topology.specs.Reader.{pick}
 use Rattle.pifo.specs.Machine.{Call, Answer, refused, serve, numberOf}
-use Rattle.pifo.specs.Tree.{held}
-use Rattle.queue_state.specs.State.{machine, wellFormed, treeOf}
-use Rattle.queue_state.specs.Opening.{Opens, amount}
+use Rattle.queue_state.specs.State.{machine, wellFormed}
 use Rattle.queue_state.specs.Calls.{Serves}
 use Rattle.queue_state.specs.declared.State.{State}
-use Rattle.queue_state.specs.declared.Opened.{Opened}
-use Rattle.queue_state.specs.declared.Amount.{Amount}
-use Rattle.exports_queue_tree.specs.Plain.{stateOf, plainOf, Written}
-use Rattle.exports_queue_tree.specs.Answers.{opening, plainAmount, valueOf, answered, Served}
-use Rattle.exports_queue_tree.specs.declared.PlainState.{PlainState}
-use Rattle.exports_queue_tree.specs.declared.PlainOpened.{PlainOpened}
+use Rattle.plain_state.specs.Plain.{stateOf, plainOf}
+use Rattle.exports_queue_tree.specs.Answers.{valueOf, answered, Served}
+use Rattle.plain_state.specs.declared.PlainState.{PlainState}
 use Rattle.exports_queue_tree.specs.declared.PlainAnswer.{PlainAnswer}
-use Rattle.exports_queue_tree.proofs.Crossing.{state-back, is-written}
-
-pub opens-plain : (bytes : List ℕ) (limit : ℕ) (o : Opened) (q : PlainOpened) → Opens bytes limit o → q .state ≡ plainOf (o .state)
-    → q .refusal ≡ o .refusal → Opens bytes limit (opening q) × Written (q .state)
-opens-plain bytes limit o q h e f =
-    let same : o ≡ opening q =
-    ap (λ (s : State). record { state = s; refusal = o .refusal }) (sym (state-back (q .state) (o .state) e))
-    ∙ ap (λ (n : ℕ). record { state = stateOf (q .state); refusal = n }) (sym f)
-    in
-    (subst (Opens bytes limit) same h, is-written (q .state) (o .state) e)
-
-pub held-plain : (s : PlainState) (t : State) (x : Amount) → t ≡ stateOf s → x ≡ amount (wellFormed t) (held (treeOf t))
-    → plainAmount x ≡ plainAmount (amount (wellFormed (stateOf s)) (held (treeOf (stateOf s))))
-held-plain s t x e f = ap plainAmount f ∙ ap (λ (u : State). plainAmount (amount (wellFormed u) (held (treeOf u)))) e
-
-pub refusals-plain : (s : PlainState) (t : State) (x : Amount) → t ≡ stateOf s → x ≡ amount (wellFormed t) (t .refused)
-    → plainAmount x ≡ plainAmount (amount (wellFormed (stateOf s)) (s .refused))
-unfolding stateOf
-refusals-plain s t x e f = ap plainAmount f ∙ ap (λ (u : State). plainAmount (amount (wellFormed u) (u .refused))) e
+use Rattle.plain_state.proofs.Crossing.{state-back, is-written}
 
 is-answered : (s r : State) (call : Call ℕ) (a : Answer ℕ) → Serves s call a r → a ≡ answered s call
 unfolding answered

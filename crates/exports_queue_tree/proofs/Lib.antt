@@ -1,4 +1,1 @@
-pub mod Filling
-pub mod Crossing
-pub mod Churning
 pub mod Answering

@@ -1,4 +1,4 @@
--- Answers of the queue tree as plain numbers, and what a call on a plain state promises.
+-- The answers to a push and a pop as plain numbers, and what such a call on a plain state promises.
 use mathlib.Core.Path.{_≡_}
 use Prim.Native.Nat.{ℕ}
 use Rattle.topology.specs.Reader.{pick}
@@ -6,21 +6,9 @@ use Rattle.pifo.specs.Machine.{Call, Answer, accepted, departed, refused, full,
 use Rattle.queue_state.specs.State.{machine, wellFormed}
 use Rattle.queue_state.specs.Calls.{Serves}
 use Rattle.queue_state.specs.declared.State.{State}
-use Rattle.queue_state.specs.declared.Opened.{Opened}
-use Rattle.queue_state.specs.declared.Amount.{Amount}
-use Rattle.queue_state.specs.declared.Amount.the-variants.{Count, Refused}
-use Rattle.exports_queue_tree.specs.Plain.{stateOf, Written}
-use Rattle.exports_queue_tree.specs.declared.PlainState.{PlainState}
-use Rattle.exports_queue_tree.specs.declared.PlainOpened.{PlainOpened}
-use Rattle.exports_queue_tree.specs.declared.PlainAmount.{PlainAmount}
+use Rattle.plain_state.specs.Plain.{stateOf, Written}
+use Rattle.plain_state.specs.declared.PlainState.{PlainState}
 use Rattle.exports_queue_tree.specs.declared.PlainAnswer.{PlainAnswer}
-
-abbrev pub opening : PlainOpened → Opened
-opening r = record { state = stateOf (r .state); refusal = r .refusal }
-
-abbrev pub plainAmount : Amount → PlainAmount
-plainAmount (Count n) = record { number = 0; value = n }
-plainAmount (Refused n) = record { number = n; value = 0 }
 
 -- the packet that departs, or the new count of refusals, else 0
 abbrev pub valueOf : Answer ℕ → ℕ

@@ -1,3 +1,1 @@
-pub mod Plain
 pub mod Answers
-pub mod Churn

@@ -1,0 +1,46 @@
+// The calls on maps for a program in C or Rust, on numbers and byte slices: what `tests/` links and compares.
+use embedding::Checked;
+ghost use mathlib.Core.Path.{_≡_};
+ghost use Prim.Native.Nat.{_≤_};
+ghost use mathlib.Core.List.{_++_};
+ghost use lib.ListN.{length, drop};
+ghost use Rattle.embedding_laws.specs.Check.{mapFault};
+ghost use Rattle.exports_embedding.specs.Search.{searchNumber, searchOut};
+
+// The refusal of a list as a map of the source into the target, or 0.
+#[no_mangle]
+pub extern "C" fn linduvar_check(source: &[u8], target: &[u8], map: &[u8]) -> u8
+    ensures { λ r. ⌜ r ≡ mapFault (now (source .entry)) (now (target .entry)) (now (map .entry)) ⌝ }
+{
+    match embedding::check(source, target, map) {
+        Checked::Passes => 0,
+        Checked::Refused(number) => number,
+    }
+}
+
+// Writes the 32 bytes of a map to the front of `out`.
+fn put_map(map: [u8; 32], out: &mut [u8])
+    requires { ⌜ 32 ≤ length (now out) ⌝ }
+    ensures { λ r. ⌜ now (out .exit) ≡ map ++ drop 32 (now (out .entry)) ⌝ }
+{
+    let mut i = 0;
+    while i < 32 {
+        out[i] = map[i];
+        i += 1;
+    }
+}
+
+// The refusal of a search, or 0; the least map, or zeros, goes to the first 32 bytes of `out`. Where `out` is shorter nothing is written,
+// and the answer is 255.
+#[no_mangle]
+pub extern "C" fn linduvar_search(source: &[u8], target: &[u8], out: &mut [u8]) -> u8
+    ensures { λ r. ⌜ (r ≡ searchNumber (now (source .entry)) (now (target .entry)) (now (out .entry))) × (now (out .exit) ≡ searchOut (now (source .entry)) (now (target .entry)) (now (out .entry))) ⌝ }
+{
+    if out.len() < 32 {
+        return 255;
+    }
+    let found = embedding::search(source, target);
+    let map = found.map;
+    put_map(map, out);
+    found.number
+}

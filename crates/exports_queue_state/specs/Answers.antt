@@ -1,0 +1,14 @@
+-- The answers to an opening and to a question, as plain numbers.
+use Rattle.queue_state.specs.declared.Opened.{Opened}
+use Rattle.queue_state.specs.declared.Amount.{Amount}
+use Rattle.queue_state.specs.declared.Amount.the-variants.{Count, Refused}
+use Rattle.plain_state.specs.Plain.{stateOf}
+use Rattle.exports_queue_state.specs.declared.PlainOpened.{PlainOpened}
+use Rattle.exports_queue_state.specs.declared.PlainAmount.{PlainAmount}
+
+abbrev pub opening : PlainOpened → Opened
+opening r = record { state = stateOf (r .state); refusal = r .refusal }
+
+abbrev pub plainAmount : Amount → PlainAmount
+plainAmount (Count n) = record { number = 0; value = n }
+plainAmount (Refused n) = record { number = n; value = 0 }

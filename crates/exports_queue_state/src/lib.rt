@@ -1,0 +1,61 @@
+// The opening of a queue tree and the questions about it, for a program in C or Rust: what `tests/` links and compares. A state crosses as
+// plain numbers.
+use plain_state::PlainState;
+use queue_state::Amount;
+ghost use mathlib.Core.Path.{_≡_};
+ghost use Rattle.pifo.specs.Tree.{held};
+ghost use Rattle.queue_state.specs.Opening.{Opens, amount};
+ghost use Rattle.queue_state.specs.State.{wellFormed, treeOf};
+ghost use Rattle.plain_state.specs.Plain.{stateOf, Written};
+ghost use Rattle.exports_queue_state.specs.Answers.{opening, plainAmount};
+
+// The answer to an opening: 0 and the empty tree, or a refusal's number and a state that every call refuses by 18.
+#[repr(C)]
+pub struct PlainOpened {
+    pub state: PlainState,
+    pub refusal: u8,
+}
+
+// The answer to a question: 0 and a count, or a refusal's number and 0.
+#[repr(C)]
+pub struct PlainAmount {
+    pub number: u8,
+    pub value: u32,
+}
+
+fn amount_of(amount: Amount) -> PlainAmount
+    ensures { λ r. ⌜ r ≡ plainAmount amount ⌝ }
+{
+    match amount {
+        Amount::Count(value) => PlainAmount { number: 0, value },
+        Amount::Refused(number) => PlainAmount { number, value: 0 },
+    }
+}
+
+// Opens an empty tree with a packet limit.
+#[no_mangle]
+pub extern "C" fn linduvar_open(bytes: &[u8], limit: usize) -> PlainOpened
+    ensures { λ r. ⌜ Opens (now (bytes .entry)) limit (opening r) × Written (r .state) ⌝ }
+{
+    let opened = queue_state::open(bytes, limit);
+    PlainOpened {
+        state: plain_state::plain(opened.state),
+        refusal: opened.refusal,
+    }
+}
+
+// How many packets a tree holds.
+#[no_mangle]
+pub extern "C" fn linduvar_held(state: PlainState) -> PlainAmount
+    ensures { λ r. ⌜ r ≡ plainAmount (amount (wellFormed (stateOf state)) (held (treeOf (stateOf state)))) ⌝ }
+{
+    amount_of(queue_state::held(plain_state::state_of(state)))
+}
+
+// How many pushes a tree has refused because it was full.
+#[no_mangle]
+pub extern "C" fn linduvar_refusals(state: PlainState) -> PlainAmount
+    ensures { λ r. ⌜ r ≡ plainAmount (amount (wellFormed (stateOf state)) (state .refused)) ⌝ }
+{
+    amount_of(queue_state::refusals(plain_state::state_of(state)))
+}

@@ -1,0 +1,55 @@
+-- A state as plain numbers, and what they stand for.
+use mathlib.Core.Path.{_≡_}
+use Prim.Native.Nat.{ℕ, zero, suc}
+use mathlib.Core.List.{map}
+use Rattle.queue_state.specs.declared.Item.{Item}
+use Rattle.queue_state.specs.declared.Item.the-variants.{Child, Packet}
+use Rattle.queue_state.specs.declared.Entry.{Entry}
+use Rattle.queue_state.specs.declared.State.{State}
+use Rattle.plain_state.specs.declared.PlainEntry.{PlainEntry}
+use Rattle.plain_state.specs.declared.PlainState.{PlainState}
+
+-- a tag, a child and a packet as one item: the child where the tag is 0
+abbrev pub itemFrom : ℕ → ℕ → ℕ → Item
+itemFrom zero c p = Child c
+itemFrom (suc t) c p = Packet p
+
+abbrev pub entryOf : PlainEntry → Entry
+entryOf e = record { rank = e .rank; item = itemFrom (e .tag) (e .child) (e .packet) }
+
+unfoldable pub stateOf : PlainState → State
+stateOf s =
+    record {
+      topology = s .topology;
+      nodes = s .nodes;
+      limit = s .limit;
+      refused = s .refused;
+      owners = s .owners;
+      entries = map entryOf (s .entries);
+      used = s .used;
+    }
+
+-- an entry of a rank, as it is written
+abbrev pub plainItem : ℕ → Item → PlainEntry
+plainItem r (Child c) = record { rank = r; tag = 0; child = c; packet = 0 }
+plainItem r (Packet p) = record { rank = r; tag = 1; child = 0; packet = p }
+
+abbrev pub plainEntry : Entry → PlainEntry
+plainEntry e = plainItem (e .rank) (e .item)
+
+-- the numbers of a state, as they are written
+unfoldable pub plainOf : State → PlainState
+plainOf s =
+    record {
+      topology = s .topology;
+      nodes = s .nodes;
+      limit = s .limit;
+      refused = s .refused;
+      owners = s .owners;
+      entries = map plainEntry (s .entries);
+      used = s .used;
+    }
+
+-- numbers that are as they are written
+abbrev pub Written : PlainState → Type 0
+Written p = p ≡ plainOf (stateOf p)
