@@ -79,14 +79,13 @@ pub fn run(random: &mut Random) {
 
 /// Nanoseconds that one copy of a state takes, from and to the cache.
 fn copy() -> f64 {
-    let (mut one, mut other) = (vec![1_u8; STATE], vec![2_u8; STATE]);
+    let (from, mut to) = (vec![1_u8; STATE], vec![2_u8; STATE]);
     let all = crate::best_of(ROUNDS, || {
         for _ in 0..CALLS {
-            black_box(&mut other).copy_from_slice(black_box(&one));
-            black_box(&mut one).copy_from_slice(black_box(&other));
+            black_box(&mut to).copy_from_slice(black_box(&from));
         }
     });
-    all / f64::from(2 * CALLS)
+    all / f64::from(CALLS)
 }
 
 /// Nanoseconds that one call takes.
