@@ -16,6 +16,10 @@ use Rattle.pifo.proofs.Order.{join}
 use Rattle.queue_state.specs.State.{entryOf, owned, queueIn, allBelow}
 use Rattle.queue_state.specs.Sound.{noEntry}
 use Rattle.queue_pop.specs.Departures.{unless, Stays}
+use Rattle.queue_state.specs.Calls.{withEntries}
+use Rattle.queue_state.specs.declared.State.{State}
+use Rattle.queue_pop.specs.declared.PopAnswer.the-variants.{Departed}
+use Rattle.queue_pop.specs.declared.departures.Trail.{Trail}
 use Rattle.queue_state.specs.declared.Entry.{Entry as CodeEntry}
 use Rattle.queue_state.proofs.Owned.{queue-own, queue-other}
 use Rattle.queue_state.proofs.Pass.{below-at, below-append}
@@ -164,15 +168,19 @@ module _ (os : List ℕ) (es : List CodeEntry) (used nodes : ℕ) (lost : List �
             ∙ ap (λ (l : List (Entry ℕ)). queueIn owners entries kept n ++ unless (getD marks n 0) l) (sym (other n d))
             ∙ w .queues n g
 
-pub finish : (os : List ℕ) (es : List CodeEntry) (used nodes : ℕ) (lost marks owners : List ℕ) (entries : List CodeEntry) (kept i : ℕ) → Leaving os es used nodes lost marks owners entries kept i → used ≤ i
-    → Stays os es used nodes lost (record { owners = owners; entries = entries; used = kept })
-finish os es used nodes lost marks owners entries kept i w h =
-    let e : i ≡ used = omega (arith, w .within) in
+pub finish : (s : State) (trail : Trail) (marks owners : List ℕ) (entries : List CodeEntry) (kept i : ℕ)
+    → Leaving (s .owners) (s .entries) (s .used) (s .nodes) (trail .marks) marks owners entries kept i → s .used ≤ i
+    → Stays s trail (record { state = withEntries s owners entries kept; answer = Departed (trail .packet) })
+finish s trail marks owners entries kept i w h =
+    let e : i ≡ s .used = omega (arith, w .within) in
     record {
+      answer = refl;
+      state = refl;
       fewer = omega (arith, w .behind, w .within);
       owned = w .owned;
       queues = λ n g.
           sym (append-nil (queueIn owners entries kept n))
-          ∙ ap (λ (l : List (Entry ℕ)). queueIn owners entries kept n ++ l) (sym (ap (unless (getD marks n 0)) (ap (λ (k : ℕ). range os es k used n) e ∙ range-empty os es used n) ∙ unless-none (getD marks n 0)))
+          ∙ ap (λ (l : List (Entry ℕ)). queueIn owners entries kept n ++ l)
+          (sym (ap (unless (getD marks n 0)) (ap (λ (k : ℕ). range (s .owners) (s .entries) k (s .used) n) e ∙ range-empty (s .owners) (s .entries) (s .used) n) ∙ unless-none (getD marks n 0)))
           ∙ w .queues n g;
     }

@@ -1,5 +1,5 @@
 -- A pop's answers case by case: what the code found, and the machine's answer.
-use mathlib.Core.Path.{_≡_, refl, sym, ap, _∙_, subst}
+use mathlib.Core.Path.{_≡_, refl, sym, ap, _∙_, subst, subst₂}
 use Prim.Native.Nat.{ℕ, _≤_, _<_}
 use native.Mathlib.Omega.{arith}
 use mathlib.Core.List.{List, [], _∷_}
@@ -25,10 +25,12 @@ use Rattle.pifo.proofs.Pop.{pop-none, pop-some}
 use Rattle.pifo.proofs.Answers.{pop-refused}
 use Rattle.queue_state.specs.State.{queueIn, queues, bytes, treeOf, machine, allBelow, wellFormed}
 use Rattle.queue_pop.specs.Departures.{Down, unless, Stays}
-use Rattle.queue_state.specs.Calls.{Serves}
+use Rattle.queue_pop.specs.Calls.{popAnswer}
+use Rattle.queue_state.specs.Calls.{Serves, withEntries}
 use Rattle.queue_state.specs.declared.State.{State}
 use Rattle.queue_pop.specs.declared.departures.Trail.{Trail}
-use Rattle.queue_pop.specs.declared.departures.Rest.{Rest}
+use Rattle.queue_pop.specs.declared.PopAnswer.{PopAnswer}
+use Rattle.queue_pop.specs.declared.Popped.{Popped}
 use Rattle.queue_state.proofs.Verdict.{Formed, Arrays, formed, form}
 use Rattle.queue_state.proofs.Served.{apart, served}
 
@@ -86,9 +88,9 @@ module _ (s : State) (t : wellFormed s ≡ true) where
     pub long-marks : length (r .marks) ≡ 64
     long-marks = way .long
 
-    module _ (ar : Arrays s) (x : Rest) (st : Stays (s .owners) (s .entries) (s .used) (s .nodes) (r .marks) x) where
+    module _ (ar : Arrays s) (x : Popped) (st : Stays s r x) where
       abbrev next : State
-      next = record { topology = s .topology; nodes = s .nodes; limit = s .limit; refused = s .refused; owners = x .owners; entries = x .entries; used = x .used }
+      next = withEntries s (x .state .owners) (x .state .entries) (x .state .used)
 
       tree-after : treeOf next ≡ assemble (tree (bytes s)) (popped (way .nodes) (queues s)) 0
       unfolding treeOf bytes queues
@@ -96,7 +98,7 @@ module _ (s : State) (t : wellFormed s ≡ true) where
           let f = formed s t in
           let w = way in
           let n : length (take (s .nodes) (s .topology)) ≡ s .nodes = length-take-le (s .nodes) (s .topology) (omega (arith, ar .topology, f .nodes)) in
-          assemble-same (tree (take (s .nodes) (s .topology))) (queueIn (x .owners) (x .entries) (x .used)) (popped (w .nodes) (queueIn (s .owners) (s .entries) (s .used))) 0
+          assemble-same (tree (take (s .nodes) (s .topology))) (queueIn (x .state .owners) (x .state .entries) (x .state .used)) (popped (w .nodes) (queueIn (s .owners) (s .entries) (s .used))) 0
           (λ m g u.
           st .queues m (omega (arith, valid-size 64 (take (s .nodes) (s .topology)) (f .valid)))
           ∙ ap (λ (k : ℕ). unless k (queueIn (s .owners) (s .entries) (s .used) m)) (w .marks m)
@@ -105,9 +107,9 @@ module _ (s : State) (t : wellFormed s ≡ true) where
       popped-tree : pop (treeOf s) ≡ some (r .packet, treeOf next)
       popped-tree = way .leaves ∙ ap {B = Option (ℕ × PTree ℕ)} (λ (u : PTree ℕ). some (r .packet, u)) (sym tree-after)
 
-      pub departed-served : Serves s popping (departed (r .packet)) next
+      next-served : Serves s popping (departed (r .packet)) next
       unfolding machine bytes
-      departed-served =
+      next-served =
           served s next popping (departed (r .packet)) (holding (machine s) (treeOf next)) (ap (servePop (machine s)) popped-tree) t refl (form next next-formed) (λ n e. never e) (λ c e. never-full e)
         where
           never : {n p : ℕ} {A : Type 0} → _≡_ {A = Answer ℕ} (departed p) (refused n) → A
@@ -130,3 +132,6 @@ module _ (s : State) (t : wellFormed s ≡ true) where
                 tree = l .sound;
                 room = omega (arith, f .room, length-perm (l .contents));
               }
+
+      pub departed-served : Serves s popping (popAnswer (x .answer)) (x .state)
+      departed-served = subst₂ (λ (a : PopAnswer) (y : State). Serves s popping (popAnswer a) y) (sym (st .answer)) (sym (st .state)) next-served

@@ -9,11 +9,13 @@ use Rattle.topology.specs.Reader.{pick}
 use Rattle.pifo.specs.Queue.{Entry}
 use Rattle.pifo.specs.Numbered.{Queues, isIn, rest}
 use Rattle.queue_state.specs.State.{entryOf, queueIn, allBelow}
+use Rattle.queue_state.specs.Calls.{withEntries}
 use Rattle.queue_state.specs.Sound.{noEntry, marked}
-use Rattle.queue_state.specs.declared.Entry.{Entry as CodeEntry}
 use Rattle.queue_pop.specs.declared.departures.Heads.{Heads}
 use Rattle.queue_pop.specs.declared.departures.Trail.{Trail}
-use Rattle.queue_pop.specs.declared.departures.Rest.{Rest}
+use Rattle.queue_state.specs.declared.State.{State}
+use Rattle.queue_pop.specs.declared.Popped.{Popped}
+use Rattle.queue_pop.specs.declared.PopAnswer.the-variants.{Departed}
 
 abbrev pub headOf : List (Entry ℕ) → Option (Entry ℕ)
 headOf [] = none
@@ -36,7 +38,10 @@ unless zero q = q
 unless (suc k) q = rest q
 
 -- the entries that stay: each marked queue has lost its head
-pub record Stays (owners : List ℕ) (entries : List CodeEntry) (used nodes : ℕ) (marks : List ℕ) (r : Rest) : Type 0 where
-  pub fewer : r .used ≤ used
-  pub owned : allBelow nodes (take (r .used) (r .owners)) ≡ true
-  pub queues : (n : ℕ) → n < nodes → queueIn (r .owners) (r .entries) (r .used) n ≡ unless (getD marks n 0) (queueIn owners entries used n)
+pub record Stays (s : State) (trail : Trail) (r : Popped) : Type 0 where
+  pub answer : r .answer ≡ Departed (trail .packet)
+  pub state : r .state ≡ withEntries s (r .state .owners) (r .state .entries) (r .state .used)
+  pub fewer : r .state .used ≤ s .used
+  pub owned : allBelow (s .nodes) (take (r .state .used) (r .state .owners)) ≡ true
+  pub queues : (n : ℕ) → n < s .nodes
+      → queueIn (r .state .owners) (r .state .entries) (r .state .used) n ≡ unless (getD (trail .marks) n 0) (queueIn (s .owners) (s .entries) (s .used) n)

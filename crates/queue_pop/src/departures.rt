@@ -1,6 +1,9 @@
 // A pop: the head of every queue, the way down from the root by these heads, and the heads on the way taken out.
+use super::PopAnswer;
+use super::Popped;
 use queue_state::Entry;
 use queue_state::Item;
+use queue_state::State;
 use topology::Found;
 use topology::wide;
 ghost use mathlib.Core.Path.{_≡_};
@@ -24,12 +27,6 @@ pub(crate) struct Trail {
     pub found: bool,
     pub packet: u32,
     pub marks: [u8; 64],
-}
-
-pub(crate) struct Rest {
-    pub owners: [u8; 2304],
-    pub entries: [Entry; 2304],
-    pub used: usize,
 }
 
 // From the last entry to the first, so that the first of each queue stays.
@@ -108,19 +105,14 @@ pub(crate) fn pop_from(bytes: &[u8], heads: Heads, node: usize, left: usize) -> 
 }
 
 // Closes the gaps: the first entry of each marked queue goes, and the others move down.
-pub(crate) fn take_out(
-    old_owners: [u8; 2304],
-    old_entries: [Entry; 2304],
-    used: usize,
-    nodes: usize,
-    trail: Trail,
-) -> Rest
-    requires { ⌜ (used ≤ 2304) × (nodes ≤ 64) × (allBelow nodes (take used «old_owners») ≡ true) × (length (trail .marks) ≡ 64) ⌝ }
-    ensures { λ r. ⌜ Stays «old_owners» «old_entries» used nodes (trail .marks) r ⌝ }
+pub(crate) fn take_out(state: State, trail: Trail) -> Popped
+    requires { ⌜ (state .used ≤ 2304) × (state .nodes ≤ 64) × (allBelow (state .nodes) (take (state .used) (state .owners)) ≡ true) × (length (trail .marks) ≡ 64) ⌝ }
+    ensures { λ r. ⌜ Stays state trail r ⌝ }
 {
     let mut marks = trail.marks;
-    let mut owners = old_owners;
-    let mut entries = old_entries;
+    let used = state.used;
+    let mut owners = state.owners;
+    let mut entries = state.entries;
     let mut kept = 0;
     let mut i = 0;
     while i < used {
@@ -136,9 +128,17 @@ pub(crate) fn take_out(
             kept += 1;
         }
     }
-    Rest {
-        owners,
-        entries,
-        used: kept,
+    let topology = state.topology;
+    Popped {
+        state: State {
+            topology,
+            nodes: state.nodes,
+            limit: state.limit,
+            refused: state.refused,
+            owners,
+            entries,
+            used: kept,
+        },
+        answer: PopAnswer::Departed(trail.packet),
     }
 }

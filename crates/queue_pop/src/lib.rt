@@ -44,20 +44,5 @@ pub fn pop(state: State) -> Popped
     let entries = state.entries;
     let heads = departures::find_heads(owners, entries, used);
     let trail = departures::pop_from(bytes, heads, 0, 9);
-    let packet = trail.packet;
-    let rest = departures::take_out(owners, entries, used, nodes, trail);
-    let next_owners = rest.owners;
-    let next_entries = rest.entries;
-    Popped {
-        state: State {
-            topology,
-            nodes,
-            limit: state.limit,
-            refused: state.refused,
-            owners: next_owners,
-            entries: next_entries,
-            used: rest.used,
-        },
-        answer: PopAnswer::Departed(packet),
-    }
+    departures::take_out(state, trail)
 }

@@ -20,9 +20,11 @@ use Rattle.pifo.proofs.Order.{both, join}
 use Rattle.queue_state.specs.State.{entryOf, owned, queueIn, allBelow}
 use Rattle.queue_state.specs.Sound.{noEntry, marked}
 use Rattle.queue_push.specs.Arrivals.{sum, addedAt, Ready, Entered}
+use Rattle.queue_state.specs.Calls.{withEntries}
 use Rattle.queue_state.specs.declared.Entry.{Entry as CodeEntry}
+use Rattle.queue_state.specs.declared.State.{State}
 use Rattle.queue_push.specs.declared.arrivals.Added.{Added}
-use Rattle.queue_push.specs.declared.arrivals.Lists.{Lists}
+use Rattle.queue_push.specs.declared.PushAnswer.the-variants.{Accepted}
 use Rattle.queue_state.proofs.Owned.{queue-own, queue-other, queue-front}
 use Rattle.queue_state.proofs.Pass.{below-at, below-append}
 use Rattle.queue_state.proofs.Ranges.{range, queue-split, range-empty, stored-own, stored-other}
@@ -421,56 +423,32 @@ module _ (os : List ℕ) (es : List CodeEntry) (used k₀ : ℕ) (a : Added)
           by-last n h (yes e) g = ap (λ (k : ℕ). getD pending k 0) (sym e) ∙ z
           by-last n h (no d) g = w .done n (omega arith) h
 
-pub finish : (os : List ℕ) (es : List CodeEntry) (used k₀ : ℕ) (a : Added)
-    (pending : List ℕ) (left : ℕ) (owners : List ℕ) (entries : List CodeEntry) (at : ℕ) → Entering os es used k₀ a pending left owners entries at
-    → left ≤ 0
-    → Entered os es used k₀ a (record { owners = owners; entries = entries })
-finish os es used k₀ a pending left owners entries at w z =
+pub finish : (s : State) (a : Added) (pending : List ℕ) (left : ℕ) (owners : List ℕ) (entries : List CodeEntry) (at : ℕ)
+    → Entering (s .owners) (s .entries) (s .used) (s .nodes) a pending left owners entries at → left ≤ 0
+    → Entered s a (record { state = withEntries s owners entries (s .used + a .count); answer = Accepted })
+finish s a pending left owners entries at w z =
     record {
-      owners-long = w .owners-long;
-      entries-long = w .entries-long;
+      answer = refl;
+      state = refl;
       owned =
           let zero-left : left ≡ 0 = omega arith in
-          let m : at - k₀ + left ≡ at - k₀ = omega arith in
-          ap (allBelow k₀) (take-slice (at - k₀) (used + a .count) owners (omega (arith, w .start)))
-          ∙ below-append k₀ (take (at - k₀) owners) (slice (at - k₀) (used + a .count) owners)
+          let m : at - (s .nodes) + left ≡ at - (s .nodes) = omega arith in
+          ap (allBelow (s .nodes)) (take-slice (at - (s .nodes)) (s .used + a .count) owners (omega (arith, w .start)))
+          ∙ below-append (s .nodes) (take (at - (s .nodes)) owners) (slice (at - (s .nodes)) (s .used + a .count) owners)
           ∙ join
-          (ap (allBelow k₀) (w .front) ∙ below-front k₀ os (at - k₀) used (omega (arith, w .start)) (w .ready .owned))
-          (subst (λ (c : ℕ). allBelow k₀ (slice c (used + a .count) owners) ≡ true) m (w .low));
+          (ap (allBelow (s .nodes)) (w .front) ∙ below-front (s .nodes) (s .owners) (at - (s .nodes)) (s .used) (omega (arith, w .start)) (w .ready .owned))
+          (subst (λ (c : ℕ). allBelow (s .nodes) (slice c (s .used + a .count) owners) ≡ true) m (w .low));
       queues = λ n h.
           let zero-left : left ≡ 0 = omega arith in
-          let m : at - k₀ + left ≡ at - k₀ = omega arith in
-          let q = queueIn os es (at - k₀) n in
-          queue-split owners entries (at - k₀) (used + a .count) n (omega (arith, w .start)) (omega (arith, w .room, w .owners-long))
+          let m : at - (s .nodes) + left ≡ at - (s .nodes) = omega arith in
+          let q = queueIn (s .owners) (s .entries) (at - (s .nodes)) n in
+          queue-split owners entries (at - (s .nodes)) (s .used + a .count) n (omega (arith, w .start)) (omega (arith, w .room, w .owners-long))
           (omega (arith, w .room, w .entries-long))
-          ∙ ap (λ (l : List ℕ). map entryOf (owned n l (take (at - k₀) entries)) ++ range owners entries (at - k₀) (used + a .count) n) (w .front)
-          ∙ ap (λ (l : List CodeEntry). map entryOf (owned n (take (at - k₀) os) l) ++ range owners entries (at - k₀) (used + a .count) n)
+          ∙ ap (λ (l : List ℕ). map entryOf (owned n l (take (at - (s .nodes)) entries)) ++ range owners entries (at - (s .nodes)) (s .used + a .count) n) (w .front)
+          ∙ ap (λ (l : List CodeEntry). map entryOf (owned n (take (at - (s .nodes)) (s .owners)) l) ++ range owners entries (at - (s .nodes)) (s .used + a .count) n)
           (w .front-entries)
-          ∙ ap (λ (k : ℕ). q ++ range owners entries k (used + a .count) n) (sym m)
-          ∙ ap (λ (k : ℕ). insertSome (marked k (entryOf (getD (a .entries) n noEntry)) none) q ++ range owners entries (at - k₀ + left)
-          (used + a .count) n) (sym (none-sum pending n (w .count ∙ zero-left)))
+          ∙ ap (λ (k : ℕ). q ++ range owners entries k (s .used + a .count) n) (sym m)
+          ∙ ap (λ (k : ℕ). insertSome (marked k (entryOf (getD (a .entries) n noEntry)) none) q ++ range owners entries (at - (s .nodes) + left)
+          (s .used + a .count) n) (sym (none-sum pending n (w .count ∙ zero-left)))
           ∙ w .queues n h;
     }
-
--- what is added, by the parts that count here
-abbrev pub parts : List ℕ → List CodeEntry → ℕ → Added
-parts pending new count = record { fault = 0; pending = pending; entries = new; count = count }
-
-pub ready-parts : (os : List ℕ) (es : List CodeEntry) (used k₀ : ℕ) (a : Added) → Ready os es used k₀ a
-    → Ready os es used k₀ (parts (a .pending) (a .entries) (a .count))
-ready-parts os es used k₀ a r =
-    record {
-      marks = r .marks;
-      places = r .places;
-      count = r .count;
-      ones = r .ones;
-      room = r .room;
-      few = r .few;
-      own = r .own;
-      owned = r .owned;
-      rises = r .rises;
-    }
-
-pub parts-entered : (os : List ℕ) (es : List CodeEntry) (used k₀ : ℕ) (a : Added) (r : Lists)
-    → Entered os es used k₀ (parts (a .pending) (a .entries) (a .count)) r → Entered os es used k₀ a r
-parts-entered os es used k₀ a r e = record { owners-long = e .owners-long; entries-long = e .entries-long; owned = e .owned; queues = e .queues }

@@ -1,5 +1,5 @@
 -- A push's answers case by case: what the code found, and the machine's answer.
-use mathlib.Core.Path.{_≡_, refl, sym, ap, _∙_, subst}
+use mathlib.Core.Path.{_≡_, refl, sym, ap, _∙_, subst, subst₂}
 use mathlib.Core.Logic.{_≢_}
 use Prim.Native.Nat.{ℕ, zero, suc, _+_, _≤_, _<_, min}
 use native.Mathlib.Omega.{arith}
@@ -22,10 +22,12 @@ use Rattle.pifo.proofs.Push.{push-well, push-held}
 use Rattle.pifo.proofs.Answers.{push-fault, push-full, push-accepted}
 use Rattle.queue_state.specs.State.{queueIn, queues, bytes, treeOf, machine, inBounds, wellFormed}
 use Rattle.queue_push.specs.Arrivals.{Walked, Ready, Entered}
-use Rattle.queue_state.specs.Calls.{Serves, counting}
+use Rattle.queue_state.specs.Calls.{Serves, counting, withEntries}
+use Rattle.queue_push.specs.Calls.{pushAnswer}
 use Rattle.queue_state.specs.declared.State.{State}
 use Rattle.queue_push.specs.declared.arrivals.Added.{Added}
-use Rattle.queue_push.specs.declared.arrivals.Lists.{Lists}
+use Rattle.queue_push.specs.declared.PushAnswer.{PushAnswer}
+use Rattle.queue_push.specs.declared.Pushed.{Pushed}
 use Rattle.queue_state.proofs.Verdict.{Formed, Arrays, formed, form}
 use Rattle.queue_state.proofs.Served.{apart, served}
 use Rattle.queue_push.proofs.Rooms.{room}
@@ -73,26 +75,27 @@ module _ (s : State) (t : wellFormed s ≡ true) (ss : List Step) (l p : ℕ) wh
               (well-all (tree (take (s .nodes) (s .topology))) (queueIn (s .owners) (s .entries) (s .used)) 0 (f .tree) m (omega (arith, valid-size 64 (take (s .nodes) (s .topology)) (f .valid))) .rises);
         }
 
-    module _ (r : Lists) (en : Entered (s .owners) (s .entries) (s .used) (s .nodes) a r) where
-      tree-after : treeOf (record { topology = s .topology; nodes = s .nodes; limit = s .limit; refused = s .refused; owners = r .owners; entries = r .entries; used = s .used + a .count })
-          ≡ push (treeOf s) ss l p
+    module _ (r : Pushed) (en : Entered s a r) where
+      abbrev next : State
+      next = withEntries s (r .state .owners) (r .state .entries) (s .used + a .count)
+
+      tree-after : treeOf next ≡ push (treeOf s) ss l p
       unfolding treeOf bytes queues
       tree-after =
           let f = formed s t in
           let d = tree (take (s .nodes) (s .topology)) in
           let q = queueIn (s .owners) (s .entries) (s .used) in
           let n : length (take (s .nodes) (s .topology)) ≡ s .nodes = length-take-le (s .nodes) (s .topology) (omega (arith, ar .topology, f .nodes)) in
-          assemble-same d (queueIn (r .owners) (r .entries) (s .used + a .count)) (pushed d 0 ss l p q) 0
+          assemble-same d (queueIn (r .state .owners) (r .state .entries) (s .used + a .count)) (pushed d 0 ss l p q) 0
           (λ m g u.
           en .queues m (omega (arith, valid-size 64 (take (s .nodes) (s .topology)) (f .valid)))
           ∙ ap (λ (o : Option (Entry ℕ)). insertSome o (q m)) (w .added z m))
           ∙ sym (push-assemble d q 0 ss l p (sym e))
 
-      pub accepted-served : Serves s (pushing ss l p) accepted (record { topology = s .topology; nodes = s .nodes; limit = s .limit; refused = s .refused; owners = r .owners; entries = r .entries; used = s .used + a .count })
+      next-served : Serves s (pushing ss l p) accepted next
       unfolding machine bytes
-      accepted-served =
+      next-served =
           let f = formed s t in
-          let next : State = record { topology = s .topology; nodes = s .nodes; limit = s .limit; refused = s .refused; owners = r .owners; entries = r .entries; used = s .used + a .count } in
           served s next (pushing ss l p) accepted (holding (machine s) (push (treeOf s) ss l p)) (push-accepted (machine s) ss l p (sym e) h) t
           (ap (holding (machine s)) tree-after)
           (form next (next-formed f))
@@ -105,7 +108,7 @@ module _ (s : State) (t : wellFormed s ≡ true) (ss : List Step) (l p : ℕ) wh
           never-full : {n : ℕ} {A : Type 0} → _≡_ {A = Answer ℕ} accepted (full n) → A
           never-full x = let y : _≡_ {A = ℕ} 0 1 = cc in absurd (omega arith)
 
-          next-formed : Formed s → Formed (record { topology = s .topology; nodes = s .nodes; limit = s .limit; refused = s .refused; owners = r .owners; entries = r .entries; used = s .used + a .count })
+          next-formed : Formed s → Formed next
           next-formed f =
               let sound : pathFault (shape (treeOf s)) ss ≡ 0 = ap (λ (d : Topo). pathFault d ss) (shape-of s) ∙ sym e in
               record {
@@ -118,3 +121,6 @@ module _ (s : State) (t : wellFormed s ≡ true) (ss : List Step) (l p : ℕ) wh
                 tree = ap well tree-after ∙ push-well (treeOf s) ss l p sound (f .tree);
                 room = omega (arith, ap held tree-after, push-held (treeOf s) ss l p sound);
               }
+
+      pub accepted-served : Serves s (pushing ss l p) (pushAnswer (r .answer)) (r .state)
+      accepted-served = subst₂ (λ (x : PushAnswer) (y : State). Serves s (pushing ss l p) (pushAnswer x) y) (sym (en .answer)) (sym (en .state)) next-served

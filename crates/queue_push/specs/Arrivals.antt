@@ -11,9 +11,12 @@ use Rattle.pifo.specs.Tree.{Step, pathFault}
 use Rattle.pifo.specs.Numbered.{entered, insertSome}
 use Rattle.queue_state.specs.State.{entryOf, queueIn, allBelow}
 use Rattle.queue_state.specs.Sound.{noEntry, marked}
+use Rattle.queue_state.specs.Calls.{withEntries}
 use Rattle.queue_state.specs.declared.Entry.{Entry as CodeEntry}
+use Rattle.queue_state.specs.declared.State.{State}
 use Rattle.queue_push.specs.declared.arrivals.Added.{Added}
-use Rattle.queue_push.specs.declared.arrivals.Lists.{Lists}
+use Rattle.queue_push.specs.declared.Pushed.{Pushed}
+use Rattle.queue_push.specs.declared.PushAnswer.the-variants.{Accepted}
 
 abbrev pub sum : List ℕ → ℕ
 sum [] = 0
@@ -47,8 +50,9 @@ pub record Ready (owners : List ℕ) (entries : List CodeEntry) (used nodes : �
   pub rises : (n : ℕ) → n < nodes → risesFrom 0 (queueIn owners entries used n) ≡ true
 
 -- The new entries among the old: each queue has its own inserted.
-pub record Entered (owners : List ℕ) (entries : List CodeEntry) (used nodes : ℕ) (a : Added) (r : Lists) : Type 0 where
-  pub owners-long : length (r .owners) ≡ 2304
-  pub entries-long : length (r .entries) ≡ 2304
-  pub owned : allBelow nodes (take (used + a .count) (r .owners)) ≡ true
-  pub queues : (n : ℕ) → n < nodes → queueIn (r .owners) (r .entries) (used + a .count) n ≡ insertSome (addedAt a n) (queueIn owners entries used n)
+pub record Entered (s : State) (a : Added) (r : Pushed) : Type 0 where
+  pub answer : r .answer ≡ Accepted
+  pub state : r .state ≡ withEntries s (r .state .owners) (r .state .entries) (s .used + a .count)
+  pub owned : allBelow (s .nodes) (take (s .used + a .count) (r .state .owners)) ≡ true
+  pub queues : (n : ℕ) → n < s .nodes
+      → queueIn (r .state .owners) (r .state .entries) (s .used + a .count) n ≡ insertSome (addedAt a n) (queueIn (s .owners) (s .entries) (s .used) n)

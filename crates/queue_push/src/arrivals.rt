@@ -1,7 +1,10 @@
 // A push: the walk down its path, and the new entries put among the old.
 use super::Path;
+use super::PushAnswer;
+use super::Pushed;
 use queue_state::Entry;
 use queue_state::Item;
+use queue_state::State;
 use topology::Found;
 use topology::wide;
 ghost use mathlib.Core.Path.{_≡_};
@@ -19,11 +22,6 @@ pub(crate) struct Added {
     pub pending: [u8; 64],
     pub entries: [Entry; 64],
     pub count: usize,
-}
-
-pub(crate) struct Lists {
-    pub owners: [u8; 2304],
-    pub entries: [Entry; 2304],
 }
 
 // Walks down from the root along the path.
@@ -95,21 +93,17 @@ fn goes_behind(pending: u8, old_rank: u32, new_rank: u32) -> bool
 // Puts each new entry behind the last entry of its queue that has no greater rank, or before all entries where there is none. Old
 // entries move up from the last on, each once and by as many places as new entries are still to come; then the nodes come in turn
 // whose new entries go before all old ones.
-pub(crate) fn enter(
-    old_owners: [u8; 2304],
-    old_entries: [Entry; 2304],
-    used: usize,
-    nodes: usize,
-    added: Added,
-) -> Lists
-    requires { ⌜ Ready «old_owners» «old_entries» used nodes added ⌝ }
-    ensures { λ r. ⌜ Entered «old_owners» «old_entries» used nodes added r ⌝ }
+pub(crate) fn enter(state: State, added: Added) -> Pushed
+    requires { ⌜ Ready (state .owners) (state .entries) (state .used) (state .nodes) added ⌝ }
+    ensures { λ r. ⌜ Entered state added r ⌝ }
 {
     let new = added.entries;
     let mut pending = added.pending;
     let mut left = added.count;
-    let mut owners = old_owners;
-    let mut entries = old_entries;
+    let used = state.used;
+    let nodes = state.nodes;
+    let mut owners = state.owners;
+    let mut entries = state.entries;
     let mut at = used + nodes;
     while 0 < left {
         if nodes < at {
@@ -140,5 +134,18 @@ pub(crate) fn enter(
             }
         }
     }
-    Lists { owners, entries }
+    let topology = state.topology;
+    let next_used = used + added.count;
+    Pushed {
+        state: State {
+            topology,
+            nodes,
+            limit: state.limit,
+            refused: state.refused,
+            owners,
+            entries,
+            used: next_used,
+        },
+        answer: PushAnswer::Accepted,
+    }
 }

@@ -73,31 +73,20 @@ pub fn push(state: State, path: Path, packet: u32) -> Pushed
     }
     if state.limit <= test.held {
         let count = counted(state.refused);
-        let mut next = state;
-        next.refused = count;
+        let owners = state.owners;
+        let entries = state.entries;
         return Pushed {
-            state: next,
+            state: State {
+                topology,
+                nodes,
+                limit: state.limit,
+                refused: count,
+                owners,
+                entries,
+                used: state.used,
+            },
             answer: PushAnswer::Full(count),
         };
     }
-    let used = state.used;
-    let owners = state.owners;
-    let entries = state.entries;
-    let count = added.count;
-    let lists = arrivals::enter(owners, entries, used, nodes, added);
-    let next_owners = lists.owners;
-    let next_entries = lists.entries;
-    let next_used = used + count;
-    Pushed {
-        state: State {
-            topology,
-            nodes,
-            limit: state.limit,
-            refused: state.refused,
-            owners: next_owners,
-            entries: next_entries,
-            used: next_used,
-        },
-        answer: PushAnswer::Accepted,
-    }
+    arrivals::enter(state, added)
 }

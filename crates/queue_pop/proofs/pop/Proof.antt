@@ -93,13 +93,13 @@ take-out-requires c κs =
 returns-3 : tie.Need-returns-3
 unfolding bytes queues
 returns-3 c =
-    let st = c .before .before .before .before .before .before .before .before .before .before .before .before .before .before in
-    let test = c .before .before .before .before .before .before .before .before .before .before .before .before .before .examine .ensures in
-    let yes = not-false _ (c .before .before .before .before .before .before .before .before .before .before .before .if1 .left) in
+    let st = c .before .before .before .before .before .before .before .before .before .before .before .before in
+    let test = c .before .before .before .before .before .before .before .before .before .before .before .examine .ensures in
+    let yes = not-false _ (c .before .before .before .before .before .before .before .before .before .if1 .left) in
     let t = sym (test .sound) ∙ yes in
-    let some-held : 0 < held (treeOf (st .args .state)) = omega (arith, test .count yes, c .before .before .before .before .before .before .before .before .before .if2 .left) in
-    let way = c .before .before .before .pop-from .ensures (queues (st .args .state)) (c .before .before .before .before .find-heads .ensures) in
-    departed-served _ t some-held _ way (arrays st) _ (c .before .before .take-out .ensures)
+    let some-held : 0 < held (treeOf (st .args .state)) = omega (arith, test .count yes, c .before .before .before .before .before .before .before .if2 .left) in
+    let way = c .before .pop-from .ensures (queues (st .args .state)) (c .before .before .find-heads .ensures) in
+    departed-served _ t some-held _ way (arrays st) _ (c .take-out .ensures)
 
 pub pop-spec : {M : Type 1} → statement M
 pop-spec =

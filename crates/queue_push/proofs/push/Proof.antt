@@ -72,41 +72,38 @@ counted-requires c κs = search needs
 returns-3 : tie.Need-returns-3
 unfolding bytes
 returns-3 c =
-    let st = c .before .before .before .before .before .before .before .before .before .before .before in
+    let st = c .before .before .before .before .before .before .before .before .before .before .before .before .before in
     let a = arrays st in
-    let test = c .before .before .before .before .before .before .before .before .before .before .examine .ensures in
-    let t = sym (test .sound) ∙ not-false _ (c .before .before .before .before .before .before .before .before .if1 .left) in
-    let z = c .before .before .before .before .if2 .left in
-    full-served _ t _ _ _ (sym z ∙ c .before .before .before .before .before .walk .ensures .fault) (omega (arith, test .count (not-false _ (c .before .before .before .before .before .before .before .before .if1 .left)), c .before .if3 .taken)) _ (c .counted .ensures)
+    let test = c .before .before .before .before .before .before .before .before .before .before .before .before .examine .ensures in
+    let yes = not-false _ (c .before .before .before .before .before .before .before .before .before .before .if1 .left) in
+    let t = sym (test .sound) ∙ yes in
+    let z = c .before .before .before .before .before .before .if2 .left in
+    let walked = c .before .before .before .before .before .before .before .walk .ensures in
+    full-served _ t _ _ _ (sym z ∙ walked .fault) (omega (arith, test .count yes, c .before .before .before .if3 .taken)) _ (c .before .before .counted .ensures)
 
 enter-requires : tie.Need-enter-requires
 unfolding bytes
 enter-requires c κs =
-    let st = c .before .before .before .before .before .before .before .before .before .before .before .before in
+    let st = c .before .before .before .before .before .before .before .before .before .before in
     let a = arrays st in
-    let test = c .before .before .before .before .before .before .before .before .before .before .before .examine .ensures in
-    let t = sym (test .sound) ∙ not-false _ (c .before .before .before .before .before .before .before .before .before .if1 .left) in
-    let z = c .before .before .before .before .before .if2 .left in
-    ready _ t _ _ _ a (sym z ∙ c .before .before .before .before .before .before .walk .ensures .fault) (omega (arith, test .count (not-false _ (c .before .before .before .before .before .before .before .before .before .if1 .left)), c .before .before .if3 .left)) _ (c .before .before .before .before .before .before .walk .ensures) z
-
-add-next-used : tie.Need-add-next-used
-add-next-used c =
-    let st = c .before .before .before .before .before .before .before .before .before .before .before .before .before .before .before in
-    let a = arrays st in
-    let test = c .before .before .before .before .before .before .before .before .before .before .before .before .before .before .examine .ensures in
-    let t = sym (test .sound) ∙ not-false _ (c .before .before .before .before .before .before .before .before .before .before .before .before .if1 .left) in
-    let z = c .before .before .before .before .before .before .before .before .if2 .left in
-    omega (arith, formed _ t .used, c .before .before .before .before .before .before .before .before .before .walk .ensures .few z)
+    let test = c .before .before .before .before .before .before .before .before .before .examine .ensures in
+    let yes = not-false _ (c .before .before .before .before .before .before .before .if1 .left) in
+    let t = sym (test .sound) ∙ yes in
+    let z = c .before .before .before .if2 .left in
+    let walked = c .before .before .before .before .walk .ensures in
+    ready _ t _ _ _ a (sym z ∙ walked .fault) (omega (arith, test .count yes, c .if3 .left)) _ walked z
 
 returns-4 : tie.Need-returns-4
 unfolding bytes
 returns-4 c =
-    let st = c .before .before .before .before .before .before .before .before .before .before .before .before .before .before .before in
+    let st = c .before .before .before .before .before .before .before .before .before .before .before in
     let a = arrays st in
-    let test = c .before .before .before .before .before .before .before .before .before .before .before .before .before .before .examine .ensures in
-    let t = sym (test .sound) ∙ not-false _ (c .before .before .before .before .before .before .before .before .before .before .before .before .if1 .left) in
-    let z = c .before .before .before .before .before .before .before .before .if2 .left in
-    accepted-served _ t _ _ _ a (sym z ∙ c .before .before .before .before .before .before .before .before .before .walk .ensures .fault) (omega (arith, test .count (not-false _ (c .before .before .before .before .before .before .before .before .before .before .before .before .if1 .left)), c .before .before .before .before .before .if3 .left)) _ (c .before .before .before .before .before .before .before .before .before .walk .ensures) z _ (c .before .before .enter .ensures)
+    let test = c .before .before .before .before .before .before .before .before .before .before .examine .ensures in
+    let yes = not-false _ (c .before .before .before .before .before .before .before .before .if1 .left) in
+    let t = sym (test .sound) ∙ yes in
+    let z = c .before .before .before .before .if2 .left in
+    let walked = c .before .before .before .before .before .walk .ensures in
+    accepted-served _ t _ _ _ a (sym z ∙ walked .fault) (omega (arith, test .count yes, c .before .if3 .left)) _ walked z _ (c .enter .ensures)
 
 pub push-spec : {M : Type 1} → statement M
 push-spec =
@@ -121,5 +118,4 @@ push-spec =
     counted-requires
     returns-3
     enter-requires
-    add-next-used
     returns-4)

@@ -2,7 +2,8 @@
 //!
 //! The rounds are made in one call, so that crossing the boundary, which
 //! rewrites the state, is not counted. Below stand a push and a pop of Rattle
-//! alone.
+//! alone. A state goes in and comes out by value, so that the time of one copy
+//! of a state stands first.
 
 use linduvar_tests::plain::{PlainPath, PlainState};
 use linduvar_tests::queue_tree::{self, QueueTree, Step, MOST_PACKETS};
@@ -15,8 +16,11 @@ const CHAINS: usize = 4;
 const CALLS: u32 = 100;
 const ROUNDS: usize = 400;
 const SINGLES: usize = 2_000;
+/// The bytes of a Rattle state.
+const STATE: usize = 30_048;
 
 pub fn run(random: &mut Random) {
+    println!("a copy of the {STATE} bytes of a state  {:.1}", copy());
     println!("the queue tree, a pop and a push, the best of {ROUNDS} rounds of {CALLS}:");
     for depth in [1, 4, 8] {
         let chain = [vec![1; depth - 1], vec![0]].concat();
@@ -71,6 +75,17 @@ pub fn run(random: &mut Random) {
             );
         }
     }
+}
+
+/// Nanoseconds that one copy of a state takes, from and to the cache.
+fn copy() -> f64 {
+    let (from, mut to) = (vec![1_u8; STATE], vec![2_u8; STATE]);
+    let all = crate::best_of(ROUNDS, || {
+        for _ in 0..CALLS {
+            black_box(&mut to).copy_from_slice(black_box(&from));
+        }
+    });
+    all / f64::from(CALLS)
 }
 
 /// Nanoseconds that one call takes.

@@ -3,21 +3,36 @@ use borrow.Author.Needs.{needs}
 use native.Mathlib.Omega.{arith}
 use mathlib.Core.Path.{refl}
 use Prim.Native.Nat.{_+_, _-_}
-use Rattle.queue_push.proofs.Entering.{Entering, begin, owner-low, behind, moved, at-pos, first, skipped, finish, parts, ready-parts, parts-entered}
+use Rattle.queue_state.proofs.Verdict.{kept, Arrays}
+use Rattle.queue_push.proofs.Entering.{Entering, begin, owner-low, behind, moved, at-pos, first, skipped, finish}
 use Rattle.queue_push.proofs.arrivals.enter.Statement.{statement}
 use Rattle.queue_push.proofs.arrivals.enter.Tie as tie
+use Rattle.queue_push.proofs.arrivals.enter.Reads as reads
+use Rattle.queue_push.proofs.arrivals.enter.Lts as lts
+use Rattle.queue_push.proofs.arrivals.goes_behind.Reads as goes-behind-reads
+use Rattle.topology.proofs.wide.Reads as wide-reads
 
 abbrev Inv-loop : tie.InvT-loop
-Inv-loop used nodes new pending₀ left₀ owners₀ entries₀ at₀ pending left owners entries at = Entering owners₀ entries₀ used nodes (parts pending₀ new left₀) pending left owners entries at
+Inv-loop state added new pending₀ left₀ used nodes owners₀ entries₀ at₀ pending left owners entries at = Entering owners₀ entries₀ used nodes added pending left owners entries at
 
 abbrev μ-loop : tie.MeasureT-loop
-μ-loop used nodes new pending₀ left₀ owners₀ entries₀ at₀ pending left owners entries at = at + left
+μ-loop state added new pending₀ left₀ used nodes owners₀ entries₀ at₀ pending left owners entries at = at + left
+
+arrays : (c : lts.Start (wide-reads.Asked, wide-reads.Learnt, goes-behind-reads.Asked, goes-behind-reads.Learnt) reads.Pre reads.Post Inv-loop μ-loop) → Arrays (c .args .state)
+arrays c =
+    record {
+      topology = kept _ (c .args .state .topology) (c .good .0 .1 .1 .0 .1 .0 .1);
+      owners = kept _ (c .args .state .owners) (c .good .0 .1 .1 .1 .1 .1 .1 .0 .1 .0 .1);
+      entries = kept _ (c .args .state .entries) (c .good .0 .1 .1 .1 .1 .1 .1 .1 .0 .1 .0 .1);
+    }
 
 add-at : tie.Need-add-at Inv-loop μ-loop
 add-at c = search needs
 
 loop-holds : tie.Need-loop-holds Inv-loop μ-loop
-loop-holds c = begin _ _ _ _ _ (ready-parts _ _ _ _ _ (c .before .before .pre)) (search needs) (search needs)
+loop-holds c =
+    let s = c .before .before .before .before in
+    begin _ _ _ _ _ (s .pre) (arrays s .owners) (arrays s .entries)
 
 sub-i : tie.Need-sub-i Inv-loop μ-loop
 sub-i c = search needs
@@ -46,14 +61,14 @@ wide-requires c κs = search needs
 mul-fresh : tie.Need-mul-fresh Inv-loop μ-loop
 mul-fresh c =
     let at = c .before .before .before .before in
-    let s = at .before .before .before in
-    omega (arith, at .loop .inv .nodes, owner-low _ _ _ _ _ _ _ _ _ _ (at .loop .inv) (c .before .before .before .loop-test .taken) (at .loop .at - s .args .nodes - 1) (search needs), c .wide .ensures .0)
+    let s = at .before .before .before .before .before in
+    omega (arith, at .loop .inv .nodes, owner-low _ _ _ _ _ _ _ _ _ _ (at .loop .inv) (c .before .before .before .loop-test .taken) (at .loop .at - s .args .state .nodes - 1) (search needs), c .wide .ensures .0)
 
 array-copy-out-fresh : tie.Need-array-copy-out-fresh Inv-loop μ-loop
 array-copy-out-fresh c =
     let at = c .before .before .before .before in
-    let s = at .before .before .before in
-    omega (arith, at .loop .inv .nodes, owner-low _ _ _ _ _ _ _ _ _ _ (at .loop .inv) (c .before .before .before .loop-test .taken) (at .loop .at - s .args .nodes - 1) (search needs), c .wide .ensures .0)
+    let s = at .before .before .before .before .before in
+    omega (arith, at .loop .inv .nodes, owner-low _ _ _ _ _ _ _ _ _ _ (at .loop .inv) (c .before .before .before .loop-test .taken) (at .loop .at - s .args .state .nodes - 1) (search needs), c .wide .ensures .0)
 
 add-to : tie.Need-add-to Inv-loop μ-loop
 add-to c = search needs
@@ -64,8 +79,8 @@ array-write-owners c = search needs
 array-read-goes-behind : tie.Need-array-read-goes-behind Inv-loop μ-loop
 array-read-goes-behind c =
     let at = c .before .before .before .before .before in
-    let s = at .before .before .before in
-    omega (arith, at .loop .inv .nodes, owner-low _ _ _ _ _ _ _ _ _ _ (at .loop .inv) (c .before .before .before .before .loop-test .taken) (at .loop .at - s .args .nodes - 1) (search needs), c .before .wide .ensures .0)
+    let s = at .before .before .before .before .before in
+    omega (arith, at .loop .inv .nodes, owner-low _ _ _ _ _ _ _ _ _ _ (at .loop .inv) (c .before .before .before .before .loop-test .taken) (at .loop .at - s .args .state .nodes - 1) (search needs), c .before .wide .ensures .0)
 
 goes-behind-requires : tie.Need-goes-behind-requires Inv-loop μ-loop
 goes-behind-requires c κs = search needs
@@ -76,8 +91,8 @@ sub-left c = search needs
 array-write-pending : tie.Need-array-write-pending Inv-loop μ-loop
 array-write-pending c =
     let at = c .before .before .before .before .before .before .before in
-    let s = at .before .before .before in
-    omega (arith, at .loop .inv .nodes, owner-low _ _ _ _ _ _ _ _ _ _ (at .loop .inv) (c .before .before .before .before .before .before .loop-test .taken) (at .loop .at - s .args .nodes - 1) (search needs), c .before .before .before .wide .ensures .0)
+    let s = at .before .before .before .before .before in
+    omega (arith, at .loop .inv .nodes, owner-low _ _ _ _ _ _ _ _ _ _ (at .loop .inv) (c .before .before .before .before .before .before .loop-test .taken) (at .loop .at - s .args .state .nodes - 1) (search needs), c .before .before .before .wide .ensures .0)
 
 mul-entries : tie.Need-mul-entries Inv-loop μ-loop
 mul-entries c = search needs
@@ -91,8 +106,8 @@ loop-less c = search needs
 loop-again : tie.Need-loop-again Inv-loop μ-loop
 loop-again c =
     let at = c .before .before .before .before .before .before .before in
-    let s = at .before .before .before in
-    behind _ _ _ _ _ _ _ _ _ _ (at .loop .inv) (c .before .before .before .before .before .before .loop-test .taken) (at .loop .at - s .args .nodes - 1) (search needs) _ (c .before .before .before .wide .ensures .0)
+    let s = at .before .before .before .before .before in
+    behind _ _ _ _ _ _ _ _ _ _ (at .loop .inv) (c .before .before .before .before .before .before .loop-test .taken) (at .loop .at - s .args .state .nodes - 1) (search needs) _ (c .before .before .before .wide .ensures .0)
     (c .before .goes-behind .ensures .if-true (c .if2 .taken) .0) (c .before .goes-behind .ensures .if-true (c .if2 .taken) .1)
 
 sub-at : tie.Need-sub-at Inv-loop μ-loop
@@ -110,8 +125,8 @@ loop-less-2 c = search needs
 loop-again-2 : tie.Need-loop-again-2 Inv-loop μ-loop
 loop-again-2 c =
     let at = c .before .before .before .before .before .before .before in
-    let s = at .before .before .before in
-    moved _ _ _ _ _ _ _ _ _ _ (at .loop .inv) (c .before .before .before .before .before .before .loop-test .taken) (at .loop .at - s .args .nodes - 1) (search needs) _ (c .before .before .before .wide .ensures .0)
+    let s = at .before .before .before .before .before in
+    moved _ _ _ _ _ _ _ _ _ _ (at .loop .inv) (c .before .before .before .before .before .before .loop-test .taken) (at .loop .at - s .args .state .nodes - 1) (search needs) _ (c .before .before .before .wide .ensures .0)
     (c .before .goes-behind .ensures .if-false (c .if2 .left))
 
 sub-node : tie.Need-sub-node Inv-loop μ-loop
@@ -172,10 +187,15 @@ loop-again-4 c =
     let at = c .before .before .before in
     skipped _ _ _ _ _ _ _ _ _ _ (at .loop .inv) (c .before .before .loop-test .taken) (c .before .if1 .left) _ refl (c .if3 .left)
 
+add-next-used : tie.Need-add-next-used Inv-loop μ-loop
+add-next-used c =
+    let at = c .before .before .before in
+    omega (arith, at .loop .inv .room)
+
 returns : tie.Need-returns Inv-loop μ-loop
 returns c =
-    let at = c .before in
-    parts-entered _ _ _ _ _ _ (finish _ _ _ _ _ _ _ _ _ _ (at .loop .inv) (c .loop-test .left))
+    let at = c .before .before .before in
+    finish _ _ _ _ _ _ _ (at .loop .inv) (c .before .before .loop-test .left)
 
 pub enter-spec : {M : Type 1} → statement M
 enter-spec =
@@ -223,4 +243,5 @@ enter-spec =
     sub-at-2
     loop-less-4
     loop-again-4
+    add-next-used
     returns)
