@@ -1,3 +1,3 @@
+pub mod Trees
+pub mod EndTable
 pub mod Tests
-pub mod Steps
-pub mod Outcome

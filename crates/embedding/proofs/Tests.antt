@@ -5,27 +5,21 @@ use native.Mathlib.Numerals.{add-one}
 use native.Mathlib.Omega.{arith}
 use mathlib.Core.List.{List}
 use mathlib.Core.Bool.{Bool, true, false, not, _&&_, _||_}
-use native.Mathlib.Decide.{ℕ-discrete}
-use lib.ListN.{length, getD, set, replicate, length-set, length-replicate}
-use Rattle.lists.proofs.Replicate.{getD-everywhere}
-use lib.Seq.{getD-set-same, getD-set-other}
+use lib.ListN.{length, getD}
 use lib.Dec.{leb, ltb, eqb}
 use borrow.Author.Tests.{lt-ltb, le-ltb, le-leb, lt-leb, eq-eqb, ne-eqb, ltb-true}
-use Rattle.topology.specs.Reader.{pick, orElse, fault, reading, tree}
+use Rattle.topology.specs.Reader.{pick, orElse, fault}
 use Rattle.topology.specs.Branch.{branchEnd, isAbove}
-use Rattle.topology.specs.declared.Reading.{Reading}
-use Rattle.topology.specs.declared.Reading.the-variants.{Tree, Refused}
-use Rattle.topology.proofs.Reader.{drawn, within}
-use Rattle.topology.proofs.Ancestry.{size-pos}
-use Rattle.topology.proofs.Decoding.{length-code}
 use Rattle.embedding_laws.specs.Rules.{image}
 use Rattle.embedding_laws.specs.Check.{all, same, areNodes, rule1, rule2, rule3, rule4, listFault, mapFault}
-use Rattle.embedding_laws.specs.Tables.{Ends}
-use Rattle.topology.proofs.Scan.{end-bounds}
-use Rattle.embedding_laws.proofs.All.{clash, and-both, all-below, all-false, all-cong}
-use Rattle.embedding.specs.Answers.{checked, fresh, leafKept, aboveBy, alike, rows, Sized, Tabled}
+use Rattle.embedding_laws.proofs.All.{and-both, all-below, all-false, all-cong}
+use Rattle.embedding.specs.Answers.{checked}
+use Rattle.embedding.specs.Trees.{treesFault, branchEnds}
+use Rattle.embedding.specs.Tests.{fresh, leafKept, aboveBy, alike, rows, Sized, Tabled}
 use Rattle.embedding.specs.declared.Checked.the-variants.{Passes}
 use Rattle.embedding.specs.declared.Checked.the-variants as answer
+use Rattle.embedding.proofs.Trees.{orElse-both, tree-fits}
+use Rattle.embedding.proofs.EndTable.{is-table}
 
 all-next : (p : ℕ → Bool) (a : ℕ) → all a p ≡ true → p a ≡ true → all (a + 1) p ≡ true
 all-next p a e f = rw add-one (and-both (all a p) (p a) e f)
@@ -34,43 +28,6 @@ all-end : (p : ℕ → Bool) (a n : ℕ) → a ≤ n → n ≤ a → all a p ≡
 all-end p a n h g e =
     let q : a ≡ n = omega arith in
     sym e ∙ ap (λ (k : ℕ). all k p) q
-
--- The table of branch ends, filled for the nodes before i.
-pub record Filled (bytes ends : List ℕ) (i : ℕ) : Type 0 where
-  pub read : i ≤ length bytes
-  pub places : length ends ≡ 64
-  pub small : (n : ℕ) → getD ends n 0 ≤ 64
-  pub at : (n : ℕ) → n < i → getD ends n 0 ≡ branchEnd bytes n
-
-pub filled-none : (bytes : List ℕ) → Filled bytes (replicate 64 0) 0
-filled-none bytes =
-    record {
-      read = omega arith;
-      places = length-replicate {A = ℕ} 64 0;
-      small = λ n. omega (arith, getD-everywhere {A = ℕ} 64 n 0);
-      at = λ n h. absurd (omega arith);
-    }
-
-pub filled-next : (bytes ends : List ℕ) (i x : ℕ) → length bytes ≤ 64 → Filled bytes ends i → i < length bytes → x ≡ branchEnd bytes i
-    → Filled bytes (set ends i x) (i + 1)
-filled-next bytes ends i x l f h e =
-    record {
-      read = omega arith;
-      places = length-set ends i x ∙ f .places;
-      small = λ n. fits n (ℕ-discrete n i);
-      at = λ n g. here-or-before n g (ℕ-discrete n i);
-    }
-  where
-    fits : (n : ℕ) → Dec (n ≡ i) → getD (set ends i x) n 0 ≤ 64
-    fits n (yes q) = rw q (omega (arith, getD-set-same ends i x 0 (omega (arith, f .places)), end-bounds bytes i (omega arith)))
-    fits n (no q) = omega (arith, getD-set-other ends i n x 0 q, f .small n)
-
-    here-or-before : (n : ℕ) → n < i + 1 → Dec (n ≡ i) → getD (set ends i x) n 0 ≡ branchEnd bytes n
-    here-or-before n g (yes q) = rw q (getD-set-same ends i x 0 (omega (arith, f .places)) ∙ e)
-    here-or-before n g (no q) = getD-set-other ends i n x 0 q ∙ f .at n (omega arith)
-
-pub filled-end : (bytes ends : List ℕ) (i : ℕ) → Filled bytes ends i → length bytes ≤ i → Ends bytes ends
-filled-end bytes ends i f h = record { places = f .places; small = f .small; at = λ n g. f .at n (omega arith) }
 
 -- every image a target node
 module _ (t m : List ℕ) where
@@ -203,10 +160,12 @@ module _ (s t m : List ℕ) where
   rows-end a = all-end (λ a. alike s t m a (length m)) a (length m)
 
 -- With the tables of two trees the rows are rule 4.
-pub rows-rule : (source target m s t : List ℕ) → Sized source target m → Ends source s → Ends target t
+pub rows-rule : (source target m s t : List ℕ) → Sized source target m → s ≡ branchEnds source → t ≡ branchEnds target
     → rows s t m (length m) ≡ rule4 source target (length m) m
 unfolding rows alike rule4 isAbove
-rows-rule source target m s t z p q =
+rows-rule source target m s t z e f =
+    let p = is-table source s (z .source-fits) e in
+    let q = is-table target t (z .target-fits) f in
     all-cong (length m) (λ a. all (length m) (λ b. same (aboveBy s a b) (aboveBy t (image m a) (image m b))))
     (λ a. all (length m) (λ b. same (leb a b && ltb b (branchEnd source a)) (leb (image m a) (image m b) && ltb (image m b) (branchEnd target (image m a)))))
     (λ a h. all-cong (length m) (λ b. same (aboveBy s a b) (aboveBy t (image m a) (image m b)))
@@ -260,45 +219,8 @@ module _ (s t m : List ℕ) where
             pub refuse-none : w ≡ true → 0 ≡ listFault s t m
             refuse-none j = rw j at last-test
 
--- The reader's refusal of the source, then of the target.
-refused-first : (r : Reading) (f rest number : ℕ) → r ≡ reading f → r ≡ Refused number → number ≡ orElse f rest
-refused-first r zero rest number e q = absurd (clash (cc))
-refused-first r (suc f) rest number e q = cc
-
-none-first : (r : Reading) (f : ℕ) → r ≡ reading f → r ≡ Tree → f ≡ 0
-none-first r zero e q = refl
-none-first r (suc f) e q = absurd (clash (cc))
-
-module _ (source target : List ℕ) (r : Reading) (e : r ≡ reading (fault 32 source)) where
-  pub source-refused : (number : ℕ) → r ≡ Refused number → number ≡ orElse (fault 32 source) (fault 64 target)
-  source-refused number q = refused-first r (fault 32 source) (fault 64 target) number e q
-
-  module _ (q : r ≡ Tree) (u : Reading) (d : u ≡ reading (fault 64 target)) where
-    pub target-refused : (number : ℕ) → u ≡ Refused number → number ≡ orElse (fault 32 source) (fault 64 target)
-    target-refused number p = rw (none-first r (fault 32 source) e q) (alone u (fault 64 target) d p)
-      where
-        alone : (u : Reading) (f : ℕ) → u ≡ reading f → u ≡ Refused number → number ≡ f
-        alone u zero d p = absurd (clash (cc))
-        alone u (suc f) d p = cc
-
-    pub both-read : u ≡ Tree → 0 ≡ orElse (fault 32 source) (fault 64 target)
-    both-read p = rw (none-first r (fault 32 source) e q, none-first u (fault 64 target) d p)
-
--- The answers: that refusal, then the list's.
-pub orElse-both : (f g : ℕ) → orElse f g ≡ 0 → (f ≡ 0) × (g ≡ 0)
-orElse-both zero g e = (refl, e)
-orElse-both (suc f) g e = absurd (omega arith)
-
--- what bytes without fault are good for
-pub tree-fits : (limit : ℕ) (bytes : List ℕ) → fault limit bytes ≡ 0 → (0 < length bytes) × (length bytes ≤ limit)
-tree-fits limit bytes z =
-    let l = within limit bytes z .nodes in
-    let s = ap length (drawn limit bytes z) in
-    let n = length-code (tree bytes) in
-    let p = size-pos (tree bytes) in
-    (omega arith, omega arith)
-
-module _ (source target m : List ℕ) (refusal : ℕ) (e : refusal ≡ orElse (fault 32 source) (fault 64 target)) where
+-- The answers: the refusal of one of the trees, then the list's.
+module _ (source target m : List ℕ) (refusal : ℕ) (e : refusal ≡ treesFault source target) where
   pub check-trees : (refusal ≡ 0 → ⊥) → answer.Refused refusal ≡ checked (mapFault source target m)
   unfolding mapFault
   check-trees n = by-fault (fault 32 source) (fault 64 target) e

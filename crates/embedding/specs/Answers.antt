@@ -1,12 +1,5 @@
--- What the check's answers stand for, and the tests by tables of branch ends.
-use mathlib.Core.Path.{_≡_}
-use Prim.Native.Nat.{ℕ, zero, suc, _≤_, _<_}
-use mathlib.Core.List.{List}
-use mathlib.Core.Bool.{Bool, true, not, _&&_, _||_}
-use lib.ListN.{length, getD}
-use lib.Dec.{leb, ltb, eqb}
-use Rattle.embedding_laws.specs.Rules.{image}
-use Rattle.embedding_laws.specs.Check.{all, same, areNodes}
+-- What the check's answers stand for.
+use Prim.Native.Nat.{ℕ, zero, suc}
 use Rattle.embedding.specs.declared.Checked.{Checked}
 use Rattle.embedding.specs.declared.Checked.the-variants.{Passes, Refused}
 
@@ -14,35 +7,3 @@ use Rattle.embedding.specs.declared.Checked.the-variants.{Passes, Refuse
 abbrev pub checked : ℕ → Checked
 checked zero = Passes
 checked (suc n) = Refused (suc n)
-
--- whether no node below n has a's image
-unfoldable pub fresh : List ℕ → ℕ → ℕ → Bool
-fresh m a n = all n (λ b. not (eqb (image m b) (image m a)))
-
--- whether a node with s children may go to one with t by rule 3
-unfoldable pub leafKept : ℕ → ℕ → Bool
-leafKept s t = not (eqb s 0) || eqb t 0
-
--- ancestry by a table of branch ends
-abbrev pub aboveBy : List ℕ → ℕ → ℕ → Bool
-aboveBy ends a b = leb a b && ltb b (getD ends a 0)
-
--- whether a stands to every source node below n as its image stands to theirs, by tables
-unfoldable pub alike : List ℕ → List ℕ → List ℕ → ℕ → ℕ → Bool
-alike source target m a n = all n (λ b. same (aboveBy source a b) (aboveBy target (image m a) (image m b)))
-
--- rule 4 for the source nodes below n on the left side, by tables
-unfoldable pub rows : List ℕ → List ℕ → List ℕ → ℕ → Bool
-rows source target m n = all n (λ a. alike source target m a (length m))
-
--- the list is as long as the source, its images are target nodes, and the trees fit the tables
-pub record Sized (source target m : List ℕ) : Type 0 where
-  pub long : length m ≡ length source
-  pub nodes : areNodes target (length m) m ≡ true
-  pub source-fits : length source ≤ 64
-  pub target-fits : length target ≤ 64
-
--- the images are few enough, and small enough, for the tables
-pub record Tabled (m : List ℕ) : Type 0 where
-  pub places : length m ≤ 64
-  pub images : (b : ℕ) → b < length m → image m b < 64

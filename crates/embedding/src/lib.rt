@@ -1,42 +1,20 @@
-// Maps between two trees: the check of a given map, and the search for the least.
+// The check of a map between two trees.
 //
-// The check tests each rule over all nodes or pairs of nodes, with tables of where the branches end: a few thousand steps at the most.
-//
-// The search fills a table from the last source node to the first. Its entry for a source node s and a target node t is the least list
-// of images of s's children below t, packed into one number with the first child in the highest place, so that the order of the numbers
-// is the order of the lists. The branches of unrelated nodes are stretches of node numbers without a common node. So a scan over the
-// target nodes p, from the end of t's branch down to t + 1, meets the children's images one after the other: for each set of children
-// p is skipped, or one child of the set goes to p and the others go where p's branch has ended. The map is read off from the root.
-//
-// At one node p a source node with k children takes (k + 1) * 2^k steps. A target node lies in the branches of at most 9 nodes, so all
-// scans of one source node meet at most 9 * 64 nodes. All k together are at most 31 and each is at most 8, so that the sum of
-// (k + 1) * 2^k stays below 9000: about five million steps in all, about 2 ms on the slowest pair that was found.
+// It tests each rule over all nodes or pairs of nodes, with tables of where the branches end: a few thousand steps at the most. The table
+// and the reading of both trees are open to other crates, because the search needs them too.
 ghost use mathlib.Core.Path.{_≡_};
-ghost use Prim.Native.Nat.{_≤_, _<_, min};
+ghost use Prim.Native.Nat.{_≤_, _<_};
 ghost use mathlib.Core.Bool.{true};
 ghost use lib.ListN.{length};
 ghost use Rattle.embedding_laws.specs.Check.{same, areNodes, rule1, rule3, rule4, listFault, mapFault};
-ghost use Rattle.topology.specs.Reader.{orElse, fault, tree};
-ghost use Rattle.embedding_laws.specs.Sets.{power, none};
-ghost use Rattle.embedding_laws.specs.Tables.{Ends, Frame, endBy, triedBy, RowTried, ChildTried, RowCopied, RowFilled, LastRow, BranchOf, PlacedBelow, Room, NodeFrame, Draws, Pair, bestBy};
-ghost use Rattle.embedding_laws.specs.Meaning.{KidsOf, EntryBy, NodeTo, Truth, Different, Put, ReadTo};
-ghost use Rattle.embedding_laws.specs.Least.{noneFault, leastMap, padded, searchFault, searchMap};
-ghost use Rattle.embedding.specs.Answers.{checked, fresh, leafKept, aboveBy, alike, Sized, Tabled};
+ghost use Rattle.embedding.specs.Answers.{checked};
+ghost use Rattle.embedding.specs.Trees.{treesFault, branchEnds};
+ghost use Rattle.embedding.specs.Tests.{fresh, leafKept, aboveBy, alike, Sized, Tabled};
 use topology::Reading;
 use topology::SOURCE_NODES;
 use topology::TARGET_NODES;
 use topology::branch_end;
 use topology::read;
-
-// The search's answer: the least map in 32 places, those past the last source node 0, and the number 0; or a refusal's number of paper
-// 01, and 32 zeros.
-pub struct Searched {
-    pub number: u8,
-    pub map: [u8; 32],
-}
-
-// What stands in the tables for no images; more than any list of 8 images, each below 64, packed into one number.
-const NONE: u64 = 281474976710656;
 
 // The check's answer: the list passes as a map, or it is refused by a number of paper 01.
 pub enum Checked {
@@ -44,14 +22,26 @@ pub enum Checked {
     Refused(u8),
 }
 
-// Where each node's branch ends.
-fn branch_ends(bytes: &[u8]) -> [usize; 64]
-    requires { ⌜ length (now bytes) ≤ 64 ⌝ }
-    ensures { λ r. ⌜ Ends (now (bytes .entry)) r ⌝ }
+// The reader's refusal of the source or, where that is a tree, of the target; or 0.
+pub fn trees_fault(source: &[u8], target: &[u8]) -> u8
+    ensures { λ r. ⌜ r ≡ treesFault (now (source .entry)) (now (target .entry)) ⌝ }
+{
+    match read(source, SOURCE_NODES) {
+        Reading::Refused(number) => number,
+        Reading::Tree => match read(target, TARGET_NODES) {
+            Reading::Refused(number) => number,
+            Reading::Tree => 0,
+        },
+    }
+}
+
+// Where the branches of the nodes 0 to 63 end; past the last node a number stands for itself.
+pub fn branch_ends(bytes: &[u8]) -> [usize; 64]
+    ensures { λ r. ⌜ r ≡ branchEnds (now (bytes .entry)) ⌝ }
 {
     let mut ends = [0usize; 64];
     let mut i = 0;
-    while i < bytes.len() {
+    while i < 64 {
         ends[i] = branch_end(bytes, i);
         i += 1;
     }
@@ -198,19 +188,6 @@ fn list_fault(source: &[u8], target: &[u8], map: &[u8]) -> u8
     0
 }
 
-// The reader's refusal of the source or, where that is a tree, of the target; or 0.
-fn trees_fault(source: &[u8], target: &[u8]) -> u8
-    ensures { λ r. ⌜ r ≡ orElse (fault 32 (now (source .entry))) (fault 64 (now (target .entry))) ⌝ }
-{
-    match read(source, SOURCE_NODES) {
-        Reading::Refused(number) => number,
-        Reading::Tree => match read(target, TARGET_NODES) {
-            Reading::Refused(number) => number,
-            Reading::Tree => 0,
-        },
-    }
-}
-
 // Checks a map: both trees are read first, then the list is tested.
 pub fn check(source: &[u8], target: &[u8], map: &[u8]) -> Checked
     ensures { λ r. ⌜ r ≡ checked (mapFault (now (source .entry)) (now (target .entry)) (now (map .entry))) ⌝ }
@@ -225,289 +202,4 @@ pub fn check(source: &[u8], target: &[u8], map: &[u8]) -> Checked
     } else {
         Checked::Refused(number)
     }
-}
-
-// The children of a source node by place: the last child has place 0, the first the highest.
-fn kids_of(source: &[u8], ends: &[usize; 64], node: usize) -> [usize; 8]
-    requires { ⌜ Draws 32 (now source) × Ends (now source) (now ends) × (node < length (now source)) ⌝ }
-    ensures { λ r. ⌜ KidsOf (tree (now (source .entry))) node r ⌝ }
-{
-    let mut kids = [0usize; 8];
-    let mut next = node + 1;
-    let mut place = source[node] as usize;
-    while 0 < place {
-        place -= 1;
-        kids[place] = next;
-        next = ends[next];
-    }
-    kids
-}
-
-// How many sets there are of so many children.
-fn sets_of(children: usize) -> usize
-    requires { ⌜ children ≤ 8 ⌝ }
-    ensures { λ r. ⌜ r ≡ power children ⌝ }
-{
-    let mut sets = 1;
-    let mut i = 0;
-    while i < children {
-        sets *= 2;
-        i += 1;
-    }
-    sets
-}
-
-// The lesser of two numbers.
-fn lesser(x: u64, y: u64) -> u64
-    ensures { λ r. ⌜ r ≡ min x y ⌝ }
-{
-    if x < y { x } else { y }
-}
-
-// What the entry of row `p` for a set becomes when a child of the given power may go to p: `here` is the child's part of the number, and
-// the others go where p's branch ends.
-fn tried(go: &[u64], p: usize, end: usize, set: usize, power: usize, here: u64) -> u64
-    requires { ⌜ Room (now go) × (p < 64) × (end ≤ 64) × (set < 256) × (0 < power) × (here ≤ none) ⌝ }
-    ensures { λ r. ⌜ r ≡ triedBy (now (go .entry)) p end power here set ⌝ }
-{
-    let least = go[p * 256 + set];
-    if set / power % 2 == 0 {
-        return least;
-    }
-    lesser(least, here + go[end * 256 + (set - power)])
-}
-
-// Tries a child at `p` in every entry of row p.
-fn try_child(go: &mut [u64], p: usize, end: usize, sets: usize, power: usize, here: u64)
-    requires { ⌜ Room (now go) × (p < end) × (end ≤ 64) × (sets ≤ 256) × (0 < power) × (here ≤ none) ⌝ }
-    ensures { λ r. ⌜ RowTried (now (go .entry)) p end power here sets (now (go .exit)) ⌝ }
-{
-    let mut set = 0;
-    while set < sets {
-        let least = tried(go, p, end, set, power, here);
-        go[p * 256 + set] = least;
-        set += 1;
-    }
-}
-
-// The same where `entry` says whether the child may go to p at all.
-fn try_open(entry: u64, go: &mut [u64], p: usize, end: usize, sets: usize, power: usize, here: u64)
-    requires { ⌜ Room (now go) × (p < end) × (end ≤ 64) × (sets ≤ 256) × (0 < power) × (here ≤ none) ⌝ }
-    ensures { λ r. ⌜ ChildTried entry (now (go .entry)) p end power here sets (now (go .exit)) ⌝ }
-{
-    if NONE <= entry {
-        return;
-    }
-    try_child(go, p, end, sets, power, here);
-}
-
-// Row `p` as the one behind it: no child is at p.
-fn copy_row(go: &mut [u64], p: usize, sets: usize)
-    requires { ⌜ Room (now go) × (p < 64) × (sets ≤ 256) ⌝ }
-    ensures { λ r. ⌜ RowCopied (now (go .entry)) p sets (now (go .exit)) ⌝ }
-{
-    let mut set = 0;
-    while set < sets {
-        go[p * 256 + set] = go[(p + 1) * 256 + set];
-        set += 1;
-    }
-}
-
-// Fills in row `p`, an entry for each set of children: p is skipped, or one of the set's children goes to it.
-fn fill_row(
-    best: &[u64],
-    kids: &[usize; 8],
-    children: usize,
-    ends: &[usize; 64],
-    go: &mut [u64],
-    p: usize,
-    sets: usize,
-)
-    requires { ⌜ Frame (now best) (now kids) (now ends) children (now go) × (p < endBy (now ends) p) × (sets ≡ power children) ⌝ }
-    ensures { λ r. ⌜ RowFilled (now (best .entry)) (now (kids .entry)) (now (ends .entry)) children (now (go .entry)) p (now (go .exit)) ⌝ }
-{
-    let end = ends[p];
-    copy_row(go, p, sets);
-    let mut i = 0;
-    let mut power = 1usize;
-    let mut weight = 1u64;
-    while i < children {
-        let entry = best[kids[i] * 64 + p];
-        try_open(entry, go, p, end, sets, power, (p as u64) * weight);
-        power *= 2;
-        weight *= 64;
-        i += 1;
-    }
-}
-
-// Fills in the row where the branch ends: only the empty set is placed there.
-fn last_row(go: &mut [u64], hi: usize, sets: usize)
-    requires { ⌜ Room (now go) × (hi ≤ 64) × (sets ≤ 256) ⌝ }
-    ensures { λ r. ⌜ LastRow hi sets (now (go .exit)) ⌝ }
-{
-    go[hi * 256] = 0;
-    let mut set = 1;
-    while set < sets {
-        go[hi * 256 + set] = NONE;
-        set += 1;
-    }
-}
-
-// The least placing of all children below target node `t`.
-fn place(
-    best: &[u64],
-    kids: &[usize; 8],
-    children: usize,
-    ends: &[usize; 64],
-    go: &mut [u64],
-    t: usize,
-) -> u64
-    requires { ⌜ Frame (now best) (now kids) (now ends) children (now go) × BranchOf (now ends) t × (t < 64) ⌝ }
-    ensures { λ r. ⌜ PlacedBelow (now (best .entry)) (now (kids .entry)) (now (ends .entry)) children t (now (go .exit)) r ⌝ }
-{
-    let sets = sets_of(children);
-    let hi = ends[t];
-    last_row(go, hi, sets);
-    let mut p = hi;
-    while t + 1 < p {
-        p -= 1;
-        fill_row(best, kids, children, ends, go, p, sets);
-    }
-    go[(t + 1) * 256 + (sets - 1)]
-}
-
-// The table's entry for a source node and a target node `t`, by their numbers of children: nothing where rule 3 forbids it.
-fn entry(
-    best: &[u64],
-    kids: &[usize; 8],
-    children: u8,
-    ends: &[usize; 64],
-    go: &mut [u64],
-    width: u8,
-    t: usize,
-) -> u64
-    requires { ⌜ Frame (now best) (now kids) (now ends) children (now go) × BranchOf (now ends) t × (t < 64) ⌝ }
-    ensures { λ r. ⌜ EntryBy (now (best .entry)) (now (kids .entry)) (now (ends .entry)) children width t r × Room (now (go .exit)) ⌝ }
-{
-    if leaf_kept(children, width) {
-        place(best, kids, children as usize, ends, go, t)
-    } else {
-        NONE
-    }
-}
-
-// Fills in the table's entries for source node `s`.
-fn fill_node(
-    source: &[u8],
-    target: &[u8],
-    kids: &[usize; 8],
-    ends: &[usize; 64],
-    best: &mut [u64],
-    go: &mut [u64],
-    s: usize,
-)
-    requires { ⌜ NodeFrame (now source) (now target) (now ends) (now kids) s × (length (now best) ≡ 2048) × Room (now go) ⌝ }
-    ensures { λ r. ⌜ NodeTo (now (best .entry)) (now (kids .entry)) (now (ends .entry)) (now (source .entry)) (now (target .entry)) s (length (now (target .entry))) (now (best .exit)) × Room (now (go .exit)) ⌝ }
-{
-    let mut t = 0;
-    while t < target.len() {
-        let least = entry(best, kids, source[s], ends, go, target[t], t);
-        best[s * 64 + t] = least;
-        t += 1;
-    }
-}
-
-// Fills in the table, source nodes from the last to the first.
-fn fill_table(
-    source: &[u8],
-    target: &[u8],
-    source_ends: &[usize; 64],
-    target_ends: &[usize; 64],
-    best: &mut [u64],
-    go: &mut [u64],
-)
-    requires { ⌜ Pair (now source) (now target) (now «source_ends») (now «target_ends») × (length (now best) ≡ 2048) × Room (now go) ⌝ }
-    ensures { λ r. ⌜ Truth (tree (now (source .entry))) (tree (now (target .entry))) (bestBy (now (best .exit))) 0 × (length (now (best .exit)) ≡ 2048) ⌝ }
-{
-    let mut s = source.len();
-    while 0 < s {
-        s -= 1;
-        let kids = kids_of(source, source_ends, s);
-        fill_node(source, target, &kids, target_ends, best, go, s);
-    }
-}
-
-// Writes the images of one node's children, which are packed into one number, the last child's in the lowest place.
-fn set_images(kids: &[usize; 8], children: usize, number: u64, images: [u8; 32]) -> [u8; 32]
-    requires { ⌜ Different (now kids) children ⌝ }
-    ensures { λ r. ⌜ Put (now (kids .entry)) children number images r ⌝ }
-{
-    let mut map = images;
-    let mut rest = number;
-    let mut place = 0;
-    while place < children {
-        map[kids[place]] = (rest % 64) as u8;
-        rest /= 64;
-        place += 1;
-    }
-    map
-}
-
-// Reads the images off the table, from the root on.
-fn read_off(source: &[u8], ends: &[usize; 64], best: &[u64]) -> [u8; 32]
-    requires { ⌜ Draws 32 (now source) × Ends (now source) (now ends) × (length (now best) ≡ 2048) ⌝ }
-    ensures { λ r. ⌜ ReadTo (tree (now (source .entry))) (bestBy (now (best .entry))) (length (now (source .entry))) r ⌝ }
-{
-    let mut map = [0u8; 32];
-    let mut s = 0;
-    while s < source.len() {
-        let kids = kids_of(source, ends, s);
-        let image = map[s] as usize;
-        map = set_images(&kids, source[s] as usize, best[s * 64 + image], map);
-        s += 1;
-    }
-    map
-}
-
-// The search between two trees that were read.
-fn solve(source: &[u8], target: &[u8]) -> Searched
-    requires { ⌜ Draws 32 (now source) × Draws 64 (now target) ⌝ }
-    ensures { λ r. ⌜ (r .number ≡ noneFault (leastMap (now (source .entry)) (now (target .entry)))) × (r .map ≡ padded (leastMap (now (source .entry)) (now (target .entry)))) ⌝ }
-{
-    let source_ends = branch_ends(source);
-    let target_ends = branch_ends(target);
-    let mut best = [0u64; 2048];
-    let mut go = [0u64; 16640];
-    fill_table(
-        source,
-        target,
-        &source_ends,
-        &target_ends,
-        &mut best,
-        &mut go,
-    );
-    if NONE <= best[0] {
-        return Searched {
-            number: 12,
-            map: [0u8; 32],
-        };
-    }
-    Searched {
-        number: 0,
-        map: read_off(source, &source_ends, &best),
-    }
-}
-
-// Searches the least map of a source into a target.
-pub fn search(source: &[u8], target: &[u8]) -> Searched
-    ensures { λ r. ⌜ (r .number ≡ searchFault (now (source .entry)) (now (target .entry))) × (r .map ≡ searchMap (now (source .entry)) (now (target .entry))) ⌝ }
-{
-    let refusal = trees_fault(source, target);
-    if refusal != 0 {
-        return Searched {
-            number: refusal,
-            map: [0u8; 32],
-        };
-    }
-    solve(source, target)
 }

@@ -1,10 +1,8 @@
 -- `branch_ends` meets its contract. The table is filled for the nodes before i.
 use borrow.Author.Needs.{needs}
 use Prim.Native.Nat.{_-_}
-use lib.ListN.{length}
-use native.Mathlib.Omega.{arith}
 use denote.Ref.{now}
-use Rattle.embedding.proofs.Tests.{Filled, filled-none, filled-next, filled-end}
+use Rattle.embedding.proofs.EndTable.{Filled, filled-none, filled-next, filled-end}
 use Rattle.embedding.proofs.branch_ends.Statement.{statement}
 use Rattle.embedding.proofs.branch_ends.Tie as tie
 
@@ -12,7 +10,7 @@ abbrev Inv-loop : tie.InvT-loop
 Inv-loop bytes ends₀ i₀ ends i = Filled bytes ends i
 
 abbrev μ-loop : tie.MeasureT-loop
-μ-loop bytes ends₀ i₀ ends i = length bytes - i
+μ-loop bytes ends₀ i₀ ends i = 64 - i
 
 loop-holds : tie.Need-loop-holds Inv-loop μ-loop
 loop-holds c = filled-none _
@@ -21,36 +19,23 @@ branch-end-requires : tie.Need-branch-end-requires Inv-loop μ-loop
 branch-end-requires c κs = search needs
 
 mul-ends : tie.Need-mul-ends Inv-loop μ-loop
-mul-ends c =
-    let loop-test = c .before .loop-test in
-    let pre = c .before .before .before .before .pre in
-    omega (arith, pre, loop-test .taken)
+mul-ends c = search needs
 
 array-write-ends : tie.Need-array-write-ends Inv-loop μ-loop
-array-write-ends c =
-    let loop-test = c .before .loop-test in
-    let pre = c .before .before .before .before .pre in
-    omega (arith, pre, loop-test .taken)
+array-write-ends c = search needs
 
 add-i : tie.Need-add-i Inv-loop μ-loop
-add-i c =
-    let loop-test = c .before .loop-test in
-    let pre = c .before .before .before .before .pre in
-    omega (arith, pre, loop-test .taken)
+add-i c = search needs
 
 loop-less : tie.Need-loop-less Inv-loop μ-loop
-loop-less c =
-    let loop-test = c .before .loop-test in
-    let loop = c .before .before .loop in
-    omega (arith, loop .inv .read, loop-test .taken)
+loop-less c = search needs
 
 loop-again : tie.Need-loop-again Inv-loop μ-loop
 loop-again c =
     let loop-test = c .before .loop-test in
     let loop = c .before .before .loop in
     let args = c .before .before .before .before .args in
-    let pre = c .before .before .before .before .pre in
-    filled-next (now (args .bytes)) _ _ _ pre (loop .inv) (loop-test .taken) (c .branch-end .ensures)
+    filled-next (now (args .bytes)) _ _ _ (loop .inv) (loop-test .taken) (c .branch-end .ensures)
 
 returns : tie.Need-returns Inv-loop μ-loop
 returns c =

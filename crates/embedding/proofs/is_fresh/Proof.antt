@@ -4,7 +4,7 @@ use mathlib.Core.Path.{_≡_}
 use Prim.Native.Nat.{_≤_, _-_}
 use mathlib.Core.Bool.{true}
 use denote.Ref.{now}
-use Rattle.embedding.specs.Answers.{fresh}
+use Rattle.embedding.specs.Tests.{fresh}
 use Rattle.embedding.proofs.Tests.{fresh-none, fresh-next, fresh-stop, fresh-end}
 use Rattle.embedding.proofs.is_fresh.Statement.{statement}
 use Rattle.embedding.proofs.is_fresh.Tie as tie

@@ -6,7 +6,7 @@ use mathlib.Core.Bool.{true}
 use lib.ListN.{length}
 use denote.Ref.{now}
 use borrow.Author.Tests.{not-true, not-false}
-use Rattle.embedding.specs.Answers.{rows}
+use Rattle.embedding.specs.Tests.{rows}
 use Rattle.embedding.proofs.Tests.{tabled, rows-none, rows-next, rows-stop, rows-end, rows-rule}
 use Rattle.embedding.proofs.keeps_order.Statement.{statement}
 use Rattle.embedding.proofs.keeps_order.Tie as tie
@@ -18,14 +18,10 @@ abbrev μ-loop : tie.MeasureT-loop
 μ-loop source target map source-ends target-ends a₀ a = length map - a
 
 branch-ends-requires : tie.Need-branch-ends-requires Inv-loop μ-loop
-branch-ends-requires c κs =
-    let pre = c .before .before .before .pre in
-    pre .source-fits
+branch-ends-requires c κs = search needs
 
 branch-ends-requires-2 : tie.Need-branch-ends-requires-2 Inv-loop μ-loop
-branch-ends-requires-2 c κs =
-    let pre = c .before .before .before .before .pre in
-    pre .target-fits
+branch-ends-requires-2 c κs = search needs
 
 loop-holds : tie.Need-loop-holds Inv-loop μ-loop
 loop-holds c = (search needs, rows-none _ _ _)

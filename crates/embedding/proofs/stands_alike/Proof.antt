@@ -7,7 +7,7 @@ use lib.ListN.{length}
 use native.Mathlib.Omega.{arith}
 use denote.Ref.{now}
 use borrow.Author.Tests.{not-true, not-false}
-use Rattle.embedding.specs.Answers.{alike}
+use Rattle.embedding.specs.Tests.{alike}
 use Rattle.embedding.proofs.Tests.{alike-none, alike-next, alike-stop, alike-end}
 use Rattle.embedding.proofs.stands_alike.Statement.{statement}
 use Rattle.embedding.proofs.stands_alike.Tie as tie

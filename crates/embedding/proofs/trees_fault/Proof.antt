@@ -1,7 +1,7 @@
 -- `trees_fault` meets its contract: one law for each answer.
 use borrow.Author.Needs.{needs}
 use denote.Ref.{now}
-use Rattle.embedding.proofs.Tests.{source-refused, target-refused, both-read}
+use Rattle.embedding.proofs.Trees.{source-refused, target-refused, both-read}
 use Rattle.embedding.proofs.trees_fault.Statement.{statement}
 use Rattle.embedding.proofs.trees_fault.Tie as tie
 
