@@ -108,7 +108,7 @@ pub extern "C" fn linduvar_search(source: &[u8], target: &[u8], out: &mut [u8]) 
     if out.len() < 32 {
         return 255;
     }
-    let found = embedding::search(source, target);
+    let found = embedding_search::search(source, target);
     let map = found.map;
     put_map(map, out);
     found.number

@@ -77,7 +77,7 @@ fn is_mapped(pair: Pair) -> bool
 pub fn open(source: &[u8], target: &[u8], limit: usize) -> PairOpened
     ensures { λ r. ⌜ OpensBoth (now (source .entry)) (now (target .entry)) limit r ⌝ }
 {
-    let found = embedding::search(source, target);
+    let found = embedding_search::search(source, target);
     let map = found.map;
     let number = found.number;
     if number != 0 {
