@@ -9,6 +9,8 @@
 // At one node p a source node with k children takes (k + 1) * 2^k steps. A target node lies in the branches of at most 9 nodes, so all
 // scans of one source node meet at most 9 * 64 nodes. All k together are at most 31 and each is at most 8, so that the sum of
 // (k + 1) * 2^k stays below 9000: about five million steps in all, about 2 ms on the slowest pair that was found.
+//
+// The contract of `search` cites embedding_laws/specs/Least, which a reader has to believe; the other definitions are for private functions.
 ghost use mathlib.Core.Path.{_≡_};
 ghost use Prim.Native.Nat.{_≤_, _<_, _*_, _+_, min};
 ghost use lib.ListN.{length};
@@ -266,7 +268,13 @@ fn set_images(kids: &[usize; 8], children: usize, number: u64, images: [u8; 32])
 }
 
 // Reads the images of the children of `s` off the table, where those of the nodes up to s are read.
-fn read_node(source: &[u8], ends: &[usize; 64], best: &[u64], s: usize, images: [u8; 32]) -> [u8; 32]
+fn read_node(
+    source: &[u8],
+    ends: &[usize; 64],
+    best: &[u64],
+    s: usize,
+    images: [u8; 32],
+) -> [u8; 32]
     requires { ⌜ Draws 32 (now source) × Ends (now source) (now ends) × (length (now best) ≡ 2048) × (s < length (now source)) × ReadTo (tree (now source)) (bestBy (now best)) s images ⌝ }
     ensures { λ r. ⌜ ReadTo (tree (now (source .entry))) (bestBy (now (best .entry))) (s + 1) r ⌝ }
 {

@@ -8,7 +8,8 @@ use native.Mathlib.Omega.{arith}
 use mathlib.Core.List.{List, [], _∷_}
 use lib.ListN.{length, getD, drop, set, drop-of-length-le}
 use lib.Seq.{drop-cons}
-use Rattle.topology.specs.Reader.{settle, Settled, after}
+use Rattle.topology.specs.Reader.{settle, after}
+use Rattle.topology.specs.Owing.{Settled}
 
 -- a level that owes a node is the first; one that is complete is passed over
 pub level-open : (l : List ℕ) (i : ℕ) → i < length l → getD l i 0 ≢ 0 → drop i l ≡ settle (drop i l)

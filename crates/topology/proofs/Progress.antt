@@ -9,7 +9,8 @@ use lib.ListN.{length, drop, getD, length-drop, drop-of-length-le}
 use lib.Seq.{drop-cons}
 use lib.Dec.{eqb}
 use borrow.Author.Tests.{eq-eqb, ne-eqb}
-use Rattle.topology.specs.Reader.{pick, orElse, Settled, after, faultAt, faultFrom, fault, reading, Counts}
+use Rattle.topology.specs.Reader.{pick, orElse, after, faultAt, faultFrom, fault, reading}
+use Rattle.topology.specs.Owing.{Settled, Counts}
 use Rattle.topology.specs.declared.Owed.{Owed}
 use Rattle.topology.specs.declared.Reading.the-variants.{Tree, Refused}
 use Rattle.topology.proofs.Reader.{sound, settled}

@@ -14,7 +14,8 @@ use lib.ListN.{length}
 use lib.Dec.{eqb, leb, ltb, eqb·suc-zero}
 use borrow.Author.Tests.{eqb-false, leb-false, ltb-false, ne-eqb, lt-leb, le-ltb}
 use Rattle.topology.specs.Tree.{Topo, Forest, node, fnil, fcons, count, code, codes, size, sizes, height, heights, breadth, breadths}
-use Rattle.topology.specs.Reader.{Within, pick, orElse, settle, Settled, faultAt, faultFrom, fault, first, others, forest, head, tree}
+use Rattle.topology.specs.Reader.{Within, pick, orElse, settle, faultAt, faultFrom, fault, first, others, forest, head, tree}
+use Rattle.topology.specs.Owing.{Settled}
 
 -- a byte without fault, where nodes are owed at so many levels
 pub record Sound (limit n levels b : ℕ) : Type 0 where

@@ -1,12 +1,10 @@
 -- The topology reader of paper 01, "Drawing a tree": which byte strings are trees, and by which number the others are refused.
-use mathlib.Core.Path.{_≡_}
 use Prim.Native.Nat.{ℕ, zero, suc, pred, _≤_}
 use mathlib.Core.List.{List, [], _∷_}
 use mathlib.Core.Bool.{Bool, true, false}
-use lib.ListN.{length, drop}
+use lib.ListN.{length}
 use lib.Dec.{leb, ltb, eqb}
 use Rattle.topology.specs.Tree.{Topo, Forest, node, fnil, fcons, leaf, size, height, breadth}
-use Rattle.topology.specs.declared.Owed.{Owed}
 use Rattle.topology.specs.declared.Reading.{Reading}
 use Rattle.topology.specs.declared.Reading.the-variants.{Tree, Refused}
 
@@ -31,11 +29,6 @@ abbrev pub settle : List ℕ → List ℕ
 settle [] = []
 settle (zero ∷ ks) = settle ks
 settle (suc k ∷ ks) = suc k ∷ ks
-
-abbrev pub Settled : List ℕ → Type 0
-Settled [] = Unit
-Settled (zero ∷ ks) = ⊥
-Settled (suc k ∷ ks) = Unit
 
 -- what is owed once the next node has come, with b children
 abbrev pub after : ℕ → List ℕ → List ℕ
@@ -83,9 +76,3 @@ tree bytes = head (forest bytes)
 abbrev pub reading : ℕ → Reading
 reading zero = Tree
 reading (suc n) = Refused (suc n)
-
--- the code's `Owed` stands for the given levels
-pub record Counts (o : Owed) (ks : List ℕ) : Type 0 where
-  pub places : length (o .counts) ≡ 10
-  pub top : o .top ≤ 10
-  pub levels : drop (o .top) (o .counts) ≡ ks

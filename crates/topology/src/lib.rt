@@ -6,7 +6,8 @@ ghost use mathlib.Core.Path.{_≡_};
 ghost use Prim.Native.Nat.{_≤_, _<_};
 ghost use mathlib.Core.List.{[], _∷_};
 ghost use lib.ListN.{drop};
-ghost use Rattle.topology.specs.Reader.{fault, faultAt, reading, settle, Settled, after, Counts};
+ghost use Rattle.topology.specs.Reader.{fault, faultAt, reading, settle, after};
+ghost use Rattle.topology.specs.Owing.{Settled, Counts};
 ghost use Rattle.topology.specs.Branch.{branchEnd, childAt, isAbove, branchFault, branchPart};
 
 // The most nodes that a source has.
