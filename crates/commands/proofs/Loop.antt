@@ -14,7 +14,6 @@ use Rattle.commands.specs.declared.Read.the-variants.{End, Next, Refused
 use Rattle.commands.specs.declared.Ending.{Ending}
 use Rattle.commands.specs.declared.Ending.the-variants.{End as AtEnd, Refused as AtRefusal, Compile as AtCompile}
 use Rattle.commands.specs.declared.Drawing.{Drawing}
-use Rattle.commands.specs.declared.Gathered.{Gathered}
 use Rattle.commands.specs.declared.gathering.Found.the-variants.{Ends, Gives}
 use Rattle.commands.specs.Reading.{readAt}
 use Rattle.commands.specs.Gathering.{Given, ended, gatherBy, gatherFrom, gathered, limitOf, Draws, Gathers}

@@ -71,23 +71,18 @@ module _ (script : List ℕ) where
   unfolding gathered output textAt
   said = said-from (suc (length script)) 0 [] [] none (omega arith)
 
+  -- by the ending's case
+  by-ending : (e f : Ending) → SaidBy e (gathered script) (output script) → e ≡ f → SaidBy f (gathered script) (output script)
+  by-ending e f h q = rw (← q) h
+
   pub ends-with-script : gathered script .ending ≡ AtEnd → output script ≡ []
-  ends-with-script e = by-ending (gathered script) said e
-    where
-      by-ending : (g : Given) → Said g (output script) → g .ending ≡ AtEnd → output script ≡ []
-      by-ending g h e = rw e at h
+  ends-with-script e = by-ending (gathered script .ending) AtEnd said e
 
   pub ends-refused : (n offset : ℕ) → gathered script .ending ≡ AtRefusal n offset → output script ≡ noLine n offset
-  ends-refused n offset e = by-ending (gathered script) said e
-    where
-      by-ending : (g : Given) → Said g (output script) → g .ending ≡ AtRefusal n offset → output script ≡ noLine n offset
-      by-ending g h e = rw e at h
+  ends-refused n offset e = by-ending (gathered script .ending) (AtRefusal n offset) said e
 
   ends-opening : (at next : ℕ) → gathered script .ending ≡ AtCompile at next → Opening (gathered script) at next (output script)
-  ends-opening at next e = by-ending (gathered script) said e
-    where
-      by-ending : (g : Given) → Said g (output script) → g .ending ≡ AtCompile at next → Opening g at next (output script)
-      by-ending g h e = rw e at h
+  ends-opening at next e = by-ending (gathered script .ending) (AtCompile at next) said e
 
   -- the text of 04 for the drawing as the code has it
   pub opening-text : (d : Drawing) (at next : ℕ) → Draws d (gathered script .source) (gathered script .target) (gathered script .limit)

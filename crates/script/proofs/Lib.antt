@@ -5,5 +5,6 @@ pub mod Texts
 pub mod Opening
 pub mod Before
 pub mod Serving
+pub mod Others
 pub mod Going
 pub mod Lengths
