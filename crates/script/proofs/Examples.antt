@@ -9,7 +9,7 @@ use Rattle.embedding_laws.specs.Least.{obeys, leastMap, searchFault, searchMap}
 use Rattle.pair_state.specs.Opening.{bothFault}
 use Rattle.text.specs.Text.{decimalLast, decimal, hexDigit, hexLast, hex8}
 use Rattle.lines.specs.Lines.{inLine, outLine, noLine, mapLine}
-use Rattle.script.specs.Reading.{operand, sized, commandBy, readAt}
+use Rattle.commands.specs.Reading.{operand, sized, commandBy, readAt}
 use Rattle.script.specs.Sheet.{obey}
 use Rattle.script.specs.Output.{output}
 

@@ -1,130 +1,97 @@
--- What the loop over a script's commands knows: the text printed so far, and that the text from here on completes the output. A command
--- that lets the script go on adds its line; one that stops it makes the text whole.
+-- What the loop over the commands after 04 knows: what the code has, the text printed so far, and that the text from here on completes the
+-- whole. A command that lets the script go on adds its line; one that stops it makes the text whole.
 use mathlib.Core.Path.{_≡_, refl, sym, ap, _∙_}
-use Prim.Native.Nat.{ℕ, zero, suc, _+_, _-_, _<_}
+use Prim.Native.Nat.{ℕ, _-_, _≤_, _<_}
 use native.Mathlib.Omega.{arith}
 use mathlib.Core.List.{List, [], _++_, append-assoc, append-nil}
-use mathlib.Core.Bool.{Bool, true, false}
-use mathlib.Core.Option.{none}
+use mathlib.Core.Bool.{true, false}
 use lib.ListN.{length}
 use Rattle.topology.specs.Reader.{pick}
+use Rattle.queue_state.specs.State.{machine}
+use Rattle.queue_push.specs.Calls.{stepsOf}
 use Rattle.queue_push.specs.declared.Path.{Path}
+use Rattle.pair_state.specs.Pair.{InStep}
 use Rattle.pair_state.specs.declared.Pair.{Pair}
 use Rattle.text.specs.Text.{Puts}
 use Rattle.lines.specs.Lines.{noLine}
 use Rattle.text.proofs.Writing.{puts-none, puts-length, puts-then}
-use Rattle.script.specs.declared.Command.{Command}
-use Rattle.script.specs.declared.Read.{Read}
-use Rattle.script.specs.declared.Read.the-variants.{End, Next, Refused}
-use Rattle.script.specs.declared.gathering.Drawing.{Drawing}
-use Rattle.script.specs.Gathering.{inTurn, Undrawn}
-use Rattle.script.specs.Reading.{readAt}
-use Rattle.script.specs.Sheet.{Sheet, drawing, Reply, silent, stops, obey}
-use Rattle.script.specs.Output.{lineOf, textFrom, output}
-use Rattle.script.proofs.Found.{further, next-inside, refused-inside}
-use Rattle.script.proofs.Keeping.{undrawn}
-use Rattle.script.proofs.Holding.{Holds, Turned}
+use Rattle.commands.specs.declared.Command.{Command}
+use Rattle.commands.specs.declared.Read.the-variants.{Next}
+use Rattle.commands.specs.Reading.{readAt}
+use Rattle.commands.proofs.Found.{further, next-inside}
+use Rattle.script.specs.declared.turns.Turn.the-variants.{End as AtEnd, Refused as No}
+use Rattle.script.specs.Turns.{turnBy}
+use Rattle.script.specs.Sheet.{serving, Reply, silent, stops}
+use Rattle.script.specs.Output.{lineOf}
+use Rattle.script.specs.Parts.{textAt}
+use Rattle.script.proofs.Keeping.{no-steps}
+use Rattle.script.proofs.Texts.{text-next}
+use Rattle.script.proofs.Serving.{sheetOf, Served, Turned, count, says}
+
+-- the text from an offset on, with both trees just opened
+abbrev pub whole : List ℕ → Pair → ℕ → List ℕ
+whole script pair first = textAt script first (serving (machine (pair .source)) [])
 
 -- the loop's invariant
-pub record Going (script before after : List ℕ) (pair : Pair) (d : Drawing) (p : Path) (o : Bool) (at end : ℕ) : Type 0 where
-  pub sheet : Sheet
-  pub holds : Holds sheet d p o pair
+pub record Going (script before : List ℕ) (place : ℕ) (all after : List ℕ) (pair : Pair) (p : Path) (at end : ℕ) : Type 0 where
+  pub served : Served pair p
   pub text : List ℕ
-  pub commands : ℕ
-  pub puts : Puts before 0 text after end
-  pub enough : length script < at + commands
-  pub rest : text ++ textFrom script commands at sheet ≡ output script
+  pub puts : Puts before place text after end
+  pub rest : text ++ textAt script at (sheetOf pair p) ≡ all
 
-pub start : (script out : List ℕ) (pair : Pair) (d : Drawing) (p : Path) → Undrawn d → p .count ≡ 0 → length (p .steps) ≡ 9
-    → Going script out out pair d p false 0 0
-unfolding output
-start script out pair d p u n l =
+pub start : (script out : List ℕ) (place : ℕ) (pair : Pair) (p : Path) (first : ℕ) → InStep pair → place ≤ length out → p .count ≡ 0
+    → length (p .steps) ≡ 9 → Going script out place (whole script pair first) out pair p first place
+start script out place pair p first i h n l =
     record {
-      sheet = drawing [] [] none;
-      holds = record { shut = refl; draws = undrawn d u; none = n; places = l };
+      served = record { in-step = i; few = omega arith; places = l };
       text = [];
-      commands = suc (length script);
-      puts = puts-none out 0 0 (omega arith);
-      enough = omega arith;
-      rest = refl;
+      puts = puts-none out place place (omega arith);
+      rest = ap (λ (ss : _). textAt script first (serving (machine (pair .source)) ss)) (no-steps p n);
     }
 
-module _ (script before after : List ℕ) (pair : Pair) (d : Drawing) (p : Path) (o : Bool) (at end : ℕ) (g : Going script before after pair d p o at end) where
+module _ (script before : List ℕ) (place : ℕ) (all after : List ℕ) (pair : Pair) (p : Path) (at end : ℕ)
+    (g : Going script before place all after pair p at end) where
   same-long : length after ≡ length before
   same-long = puts-length (g .puts)
 
   nothing-more : Puts after end [] after end
   nothing-more = puts-none after end end (omega (arith, g .puts .next, same-long))
 
-  pub at-end : readAt script at ≡ End → Puts before 0 (output script) after end
-  at-end e = rw (sym (g .rest) ∙ ap (λ (l : List ℕ). g .text ++ l) (none-left (g .commands)) ∙ append-nil (g .text)) (g .puts)
-    where
-      none-left : (n : ℕ) → textFrom script n at (g .sheet) ≡ []
-      none-left zero = refl
-      none-left (suc n) = rw e refl
+  pub at-end : turnBy (readAt script at) at (p .count) ≡ AtEnd → Puts before place all after end
+  at-end e =
+      rw (sym (g .rest) ∙ ap (λ (l : List ℕ). g .text ++ l) (says script at (p .count) AtEnd e (sheetOf pair p)) ∙ append-nil (g .text)) (g .puts)
 
-  pub at-fault : (n offset place : ℕ) (out : List ℕ) → readAt script at ≡ Refused n offset → Puts after end (noLine n offset) out place
-      → Puts before 0 (output script) out place
-  at-fault n offset place out e q = rw (sym (g .rest) ∙ ap (λ (l : List ℕ). g .text ++ l) (last (g .commands) (g .enough))) (puts-then (g .puts) q)
-    where
-      within : at < length script
-      within = refused-inside script at n offset e
+  pub at-fault : (n offset : ℕ) (out : List ℕ) (last : ℕ) → turnBy (readAt script at) at (p .count) ≡ No n offset → Puts after end (noLine n offset) out last
+      → Puts before place all out last
+  at-fault n offset out last e q =
+      let line = says script at (p .count) (No n offset) e (machine (pair .source)) (stepsOf p) (count pair p (g .served)) in
+      rw (sym (g .rest) ∙ ap (λ (l : List ℕ). g .text ++ l) line) (puts-then (g .puts) q)
 
-      last : (k : ℕ) → length script < at + k → textFrom script k at (g .sheet) ≡ noLine n offset
-      last zero h = absurd (omega (arith, within))
-      last (suc k) h = rw e refl
-
-  module _ (c : Command) (next : ℕ) (e : readAt script at ≡ Next c next) where
+  module _ (c : Command) (next : ℕ) (e : readAt script at ≡ Next c next) (r : Reply) (pair′ : Pair) (p′ : Path) (t : Turned pair p c r pair′ p′) where
     -- the text from here on: the reply's line, and the text from the next command on
-    record Split (r : Reply) (s : Sheet) : Type 0 where
-      commands : ℕ
-      enough : length script < next + commands
-      text : textFrom script (g .commands) at (g .sheet) ≡ lineOf r at ++ pick (stops r) [] (textFrom script commands next s)
+    split : textAt script at (sheetOf pair p) ≡ lineOf r at ++ pick (stops r) [] (textAt script next (sheetOf pair′ p′))
+    split = text-next script at (sheetOf pair p) c next r (sheetOf pair′ p′) e (t .is)
 
-    split : (r : Reply) (s : Sheet) → obey (g .sheet) c ≡ (r, s) → Split r s
-    split r s f = by-commands (g .commands) (g .enough) refl
-      where
-        by-commands : (k : ℕ) → length script < at + k → g .commands ≡ k → Split r s
-        by-commands zero h q = absurd (omega (arith, next-inside script at c next e))
-        by-commands (suc k) h q =
-            record {
-              commands = k;
-              enough = omega (arith, further script at c next e);
-              text = rw (q, e, f) refl;
-            }
-
-    pub goes-on : (r : Reply) (out : List ℕ) (place : ℕ) (pair′ : Pair) (d′ : Drawing) (p′ : Path) (o′ : Bool) → Turned (g .sheet) c r d′ p′ o′ pair′
-        → stops r ≡ false → Puts after end (lineOf r at) out place → Going script before out pair′ d′ p′ o′ next place
-    goes-on r out place pair′ d′ p′ o′ t f q =
-        let s = split r (t .next) (t .is) in
+    pub goes-on : (out : List ℕ) (last : ℕ) → stops r ≡ false → Puts after end (lineOf r at) out last → Going script before place all out pair′ p′ next last
+    goes-on out last f q =
         record {
-          sheet = t .next;
-          holds = t .holds;
+          served = t .served;
           text = g .text ++ lineOf r at;
-          commands = s .commands;
           puts = puts-then (g .puts) q;
-          enough = s .enough;
-          rest = append-assoc (g .text) (lineOf r at) (textFrom script (s .commands) next (t .next)) ∙ ap (λ (l : List ℕ). g .text ++ l) (sym (s .text ∙ rw f refl)) ∙ g .rest;
+          rest =
+              append-assoc (g .text) (lineOf r at) (textAt script next (sheetOf pair′ p′))
+              ∙ ap (λ (l : List ℕ). g .text ++ l) (sym (split ∙ rw f refl))
+              ∙ g .rest;
         }
 
-    pub silently : (pair′ : Pair) (d′ : Drawing) (p′ : Path) (o′ : Bool) → Turned (g .sheet) c silent d′ p′ o′ pair′
-        → Going script before after pair′ d′ p′ o′ next end
-    silently pair′ d′ p′ o′ t = goes-on silent after end pair′ d′ p′ o′ t refl nothing-more
+    pub stopped : (out : List ℕ) (last : ℕ) → stops r ≡ true → Puts after end (lineOf r at) out last → Puts before place all out last
+    stopped out last h q =
+        let end : lineOf r at ++ pick (stops r) [] (textAt script next (sheetOf pair′ p′)) ≡ lineOf r at = rw h (append-nil (lineOf r at)) in
+        rw (sym (g .rest) ∙ ap (λ (l : List ℕ). g .text ++ l) (split ∙ end)) (puts-then (g .puts) q)
 
-    pub stopped : (r : Reply) (s : Sheet) (out : List ℕ) (place : ℕ) → obey (g .sheet) c ≡ (r, s) → stops r ≡ true → Puts after end (lineOf r at) out place
-        → Puts before 0 (output script) out place
-    stopped r s out place f h q =
-        let w = split r s f in
-        let last : lineOf r at ++ pick (stops r) [] (textFrom script (w .commands) next s) ≡ lineOf r at = rw h (append-nil (lineOf r at)) in
-        rw (sym (g .rest) ∙ ap (λ (l : List ℕ). g .text ++ l) (w .text ∙ last)) (puts-then (g .puts) q)
-
--- what the reader and the test of turns answered, at a command whose case is known
-pub read-known : (script : List ℕ) (at : ℕ) (r : Read) (c c′ : Command) (next : ℕ) → r ≡ readAt script at → r ≡ Next c next → c ≡ c′
-    → readAt script at ≡ Next c′ next
-read-known script at r c c′ next e f q = sym e ∙ f ∙ ap (λ (z : Command). Next z next) q
-
-pub turn-known : (o l : Bool) (k : ℕ) (r : Bool) (c c′ : Command) → r ≡ inTurn o l k c → r ≡ true → c ≡ c′ → inTurn o l k c′ ≡ true
-turn-known o l k r c c′ e f q = ap (inTurn o l k) (sym q) ∙ sym e ∙ f
+  pub silently : (c : Command) (next : ℕ) → readAt script at ≡ Next c next → (pair′ : Pair) (p′ : Path) → Turned pair p c silent pair′ p′
+      → Going script before place all after pair′ p′ next end
+  silently c next e pair′ p′ t = goes-on c next e silent pair′ p′ t after end refl nothing-more
 
 -- each command brings the end nearer
 pub nearer : (script : List ℕ) (at : ℕ) (c : Command) (next : ℕ) → readAt script at ≡ Next c next → length script - next < length script - at

@@ -28,14 +28,14 @@ use Rattle.pair_state.proofs.Start.{faultless, images-pass}
 use Rattle.text.specs.Text.{decimal, hex8}
 use Rattle.lines.specs.Lines.{allSpaced, inLine, outLine, noLine, mapLine}
 use Rattle.text.proofs.Digits.{length-decimal, length-hex8}
-use Rattle.script.specs.declared.Command.{Command}
-use Rattle.script.specs.declared.Command.the-variants.{Source, Target, Limit, Compile, Step as StepTo, Push, Pop}
-use Rattle.script.specs.declared.Read.{Read}
-use Rattle.script.specs.declared.Read.the-variants.{End, Next, Refused}
-use Rattle.script.specs.Reading.{readAt}
+use Rattle.commands.specs.declared.Command.{Command}
+use Rattle.commands.specs.declared.Command.the-variants.{Source, Target, Limit, Compile, Step as StepTo, Push, Pop}
+use Rattle.commands.specs.declared.Read.{Read}
+use Rattle.commands.specs.declared.Read.the-variants.{End, Next, Refused}
+use Rattle.commands.specs.Reading.{readAt}
 use Rattle.script.specs.Sheet.{Sheet, drawing, serving, Reply, silent, no-by, stops, compiled, served, obey}
 use Rattle.script.specs.Output.{lineOf, textBy, textFrom, output}
-use Rattle.script.proofs.Found.{further, told, next-inside, refused-inside}
+use Rattle.commands.proofs.Found.{further, told, next-inside, refused-inside}
 
 -- ---- the lines
 

@@ -1,8 +1,10 @@
 pub mod Examples
-pub mod Numbers
-pub mod Found
 pub mod Drawings
 pub mod Keeping
-pub mod Holding
+pub mod Texts
+pub mod Opening
+pub mod Before
+pub mod Serving
+pub mod Others
 pub mod Going
 pub mod Lengths

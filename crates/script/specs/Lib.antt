@@ -1,8 +1,9 @@
--- The text that a script prints is `output` in Output; it rests on Reading, which commands the bytes are, and on Sheet, what each command
--- does. The other files have the words in which private functions state what they do.
-pub mod Reading
+-- To believe: the text that a script prints, `output` in Output; it rests on Sheet, what each command does, on Reading in the crate
+-- `commands`, which commands the bytes are, and on Lines in `text`. The other files have the words in which private functions state what
+-- they do.
 pub mod Sheet
 pub mod Output
-pub mod Operands
-pub mod Gathering
+pub mod Parts
+pub mod Turns
+pub mod Steps
 pub mod Replies

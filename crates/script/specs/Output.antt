@@ -5,9 +5,9 @@ use mathlib.Core.Option.{none}
 use lib.ListN.{length}
 use Rattle.topology.specs.Reader.{pick}
 use Rattle.lines.specs.Lines.{inLine, outLine, noLine, mapLine}
-use Rattle.script.specs.declared.Read.{Read}
-use Rattle.script.specs.declared.Read.the-variants.{End, Next, Refused}
-use Rattle.script.specs.Reading.{readAt}
+use Rattle.commands.specs.declared.Read.{Read}
+use Rattle.commands.specs.declared.Read.the-variants.{End, Next, Refused}
+use Rattle.commands.specs.Reading.{readAt}
 use Rattle.script.specs.Sheet.{Sheet, drawing, Reply, silent, mapped, entered, left, no-by, stops, obey}
 
 -- the line of a reply to the command at an offset

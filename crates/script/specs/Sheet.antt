@@ -11,8 +11,8 @@ use Rattle.pifo.specs.Tree.{Step, step, held}
 use Rattle.pifo.specs.Machine.{Machine, Answer, accepted, departed, refused, full, pushing, popping, serve, opened}
 use Rattle.embedding_laws.specs.Least.{searchMap}
 use Rattle.pair_state.specs.Opening.{bothFault}
-use Rattle.script.specs.declared.Command.{Command}
-use Rattle.script.specs.declared.Command.the-variants.{Source, Target, Limit, Compile, Step as StepTo, Push, Pop}
+use Rattle.commands.specs.declared.Command.{Command}
+use Rattle.commands.specs.declared.Command.the-variants.{Source, Target, Limit, Compile, Step as StepTo, Push, Pop}
 
 pub data Sheet : Type 0 where
   -- before 04: the bytes of the source and of the target, and the limit once it is given

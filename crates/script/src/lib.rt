@@ -1,137 +1,95 @@
-// Scripts for gatewalk: the reader of a script's commands, and the text that a whole script prints.
-mod gathering;
-mod operands;
+// Scripts for gatewalk: the text that a whole script prints.
 mod replies;
+mod steps;
+mod turns;
 
-ghost use mathlib.Core.Path.{_≡_};
+use commands::Drawing;
+use commands::Ending;
+use pair_state::Pair;
+use turns::Turn;
+ghost use mathlib.Core.List.{[]};
+ghost use Prim.Native.Nat.{_≤_};
+ghost use lib.ListN.{length, take};
+ghost use Rattle.queue_state.specs.State.{machine};
+ghost use Rattle.pair_state.specs.Pair.{InStep};
 ghost use Rattle.text.specs.Text.{Puts};
+ghost use Rattle.script.specs.Sheet.{serving};
 ghost use Rattle.script.specs.Output.{output};
-ghost use Rattle.script.specs.Reading.{readAt};
-
-// A command with its operands.
-pub(crate) enum Command {
-    // a node of the source, and of the target: its number of children
-    Source(u8),
-    Target(u8),
-    // the packet limit
-    Limit(u32),
-    Compile,
-    // a step's child and rank
-    Step(u8, u32),
-    // a push's packet and leaf rank
-    Push(u32, u32),
-    Pop,
-}
-
-// What the reader finds: the end of the script; a command, and the offset of the next; or a refusal's number and the command's offset.
-pub(crate) enum Read {
-    End,
-    Next(Command, usize),
-    Refused(u8, usize),
-}
-
-// The script reader: the script, and the offset of its next command. A function over a struct that holds a slice is proved by hand, so
-// the two over this one are thin, and `operands::command_at`, on the slice and the number, does the work.
-struct Reader<'a> {
-    pub script: &'a [u8],
-    pub at: usize,
-}
-
-// A reader whose next command is at an offset.
-fn reader_at<'a>(script: &'a [u8], at: usize) -> Reader<'a>
-    ensures { λ r. ⌜ (r .script ≡ script .entry) × (r .at ≡ at) ⌝ }
-{
-    Reader { script, at }
-}
-
-// The reader's next command.
-fn next<'a>(reader: Reader<'a>) -> Read
-    ensures { λ r. ⌜ r ≡ readAt (now (reader .entry .script)) (reader .entry .at) ⌝ }
-{
-    operands::command_at(reader.script, reader.at)
-}
-
-// The command at an offset of a script.
-fn read_at(script: &[u8], at: usize) -> Read
-    ensures { λ r. ⌜ r ≡ readAt (now (script .entry)) at ⌝ }
-{
-    next(reader_at(script, at))
-}
+ghost use Rattle.script.specs.Parts.{textAt, openingText};
 
 // Runs a script: the text that it prints goes into `out`, as far as that goes, and the answer is where it ends there. What is printed of a
-// push or a pop is what the chip's side answers. Until 04 the pair is one that every call refuses, and no call reaches it.
+// push or a pop is what the chip's side answers.
 pub fn run(script: &[u8], out: &mut [u8]) -> usize
     ensures { λ r. ⌜ Puts (now (out .entry)) 0 (output (now (script .entry))) (now (out .exit)) r ⌝ }
 {
-    let closed = pair_state::open(&script[..0], &script[..0], 0);
-    let mut pair = closed.pair;
-    let mut drawing = gathering::undrawn();
-    let mut path = gathering::no_steps();
-    let mut opened = false;
-    let mut at = 0;
-    let mut end = 0;
+    let gathered = commands::gather(script);
+    let drawing = gathered.drawing;
+    let ending = gathered.ending;
+    match ending {
+        Ending::End => 0,
+        Ending::Refused(number, offset) => lines::put_no(out, 0, number, offset),
+        Ending::Compile(at, next) => compile(script, out, drawing, at, next),
+    }
+}
+
+// 04 at an offset: opens both trees, prints the map and goes on at the next command; or prints its refusal.
+fn compile(script: &[u8], out: &mut [u8], drawing: Drawing, at: usize, next: usize) -> usize
+    requires { ⌜ (drawing .nodes ≤ length (drawing .source)) × (drawing .places ≤ length (drawing .target)) ⌝ }
+    ensures { λ r. ⌜ Puts (now (out .entry)) 0 (openingText (now (script .entry)) (take (drawing .nodes) (drawing .source)) (take (drawing .places) (drawing .target)) (drawing .limit) at next) (now (out .exit)) r ⌝ }
+{
+    let source = drawing.source;
+    let nodes = drawing.nodes;
+    let target = drawing.target;
+    let places = drawing.places;
+    let both = pair_state::open(&source[..nodes], &target[..places], drawing.limit as usize);
+    if both.refusal != 0 {
+        return lines::put_no(out, 0, both.refusal, at);
+    }
+    let pair = both.pair;
+    let map = pair.map;
+    let end = lines::put_map(out, 0, &map[..nodes]);
+    serve(script, out, end, pair, next)
+}
+
+// The commands after 04, from an offset on, with both trees just opened; the text so far ends at `place`.
+fn serve(script: &[u8], out: &mut [u8], place: usize, opened: Pair, first: usize) -> usize
+    requires { ⌜ InStep opened × (place ≤ length (now out)) ⌝ }
+    ensures { λ r. ⌜ Puts (now (out .entry)) place (textAt (now (script .entry)) first (serving (machine (opened .source)) [])) (now (out .exit)) r ⌝ }
+{
+    let mut pair = opened;
+    let mut path = steps::no_steps();
+    let mut at = first;
+    let mut end = place;
     loop {
-        match read_at(script, at) {
-            Read::End => return end,
-            Read::Refused(number, offset) => return lines::put_no(out, end, number, offset),
-            Read::Next(command, next) => {
-                if !gathering::in_turn(opened, drawing.limited, path.count, command) {
-                    return lines::put_no(out, end, 22, at);
+        match turns::turn_at(script, at, path.count) {
+            Turn::End => return end,
+            Turn::Refused(number, offset) => return lines::put_no(out, end, number, offset),
+            Turn::Step(child, rank, next) => {
+                path = steps::add_step(path, child, rank);
+                at = next;
+            }
+            Turn::Push(packet, leaf_rank, next) => {
+                let pushed = paired::push(pair, steps::ended(path, leaf_rank), packet);
+                path = steps::no_steps();
+                pair = pushed.pair;
+                let answer = pushed.chip;
+                let counts = pair_state::held(pair);
+                let held = counts.chip;
+                let reply = replies::push_reply(answer, held);
+                end = replies::put_reply(out, end, reply, at);
+                if replies::stops(reply) {
+                    return end;
                 }
-                match command {
-                    Command::Source(node) => {
-                        drawing = gathering::add_source(drawing, node);
-                    }
-                    Command::Target(node) => {
-                        drawing = gathering::add_target(drawing, node);
-                    }
-                    Command::Limit(limit) => {
-                        drawing = gathering::give_limit(drawing, limit);
-                    }
-                    Command::Compile => {
-                        let source = drawing.source;
-                        let nodes = drawing.nodes;
-                        let target = drawing.target;
-                        let places = drawing.places;
-                        let both = pair_state::open(
-                            &source[..nodes],
-                            &target[..places],
-                            drawing.limit as usize,
-                        );
-                        if both.refusal != 0 {
-                            return lines::put_no(out, end, both.refusal, at);
-                        }
-                        pair = both.pair;
-                        opened = true;
-                        let map = pair.map;
-                        end = lines::put_map(out, end, &map[..nodes]);
-                    }
-                    Command::Step(child, rank) => {
-                        path = gathering::add_step(path, child, rank);
-                    }
-                    Command::Push(packet, leaf_rank) => {
-                        let pushed = paired::push(pair, gathering::ended(path, leaf_rank), packet);
-                        path = gathering::no_steps();
-                        pair = pushed.pair;
-                        let answer = pushed.chip;
-                        let counts = pair_state::held(pair);
-                        let held = counts.chip;
-                        let reply = replies::push_reply(answer, held);
-                        end = replies::put_reply(out, end, reply, at);
-                        if replies::stops(reply) {
-                            return end;
-                        }
-                    }
-                    Command::Pop => {
-                        let popped = paired::pop(pair);
-                        pair = popped.pair;
-                        let answer = popped.chip;
-                        let reply = replies::pop_reply(answer);
-                        end = replies::put_reply(out, end, reply, at);
-                        if replies::stops(reply) {
-                            return end;
-                        }
-                    }
+                at = next;
+            }
+            Turn::Pop(next) => {
+                let popped = paired::pop(pair);
+                pair = popped.pair;
+                let answer = popped.chip;
+                let reply = replies::pop_reply(answer);
+                end = replies::put_reply(out, end, reply, at);
+                if replies::stops(reply) {
+                    return end;
                 }
                 at = next;
             }

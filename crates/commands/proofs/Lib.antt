@@ -1,0 +1,5 @@
+pub mod Numbers
+pub mod Found
+pub mod Keeping
+pub mod Loop
+pub mod Others

@@ -1,0 +1,12 @@
+-- Only the limit is another.
+use mathlib.Core.Path.{refl}
+use Rattle.commands.specs.Turns.{limitGiven}
+use Rattle.commands.proofs.gathering.give_limit.Statement.{statement}
+use Rattle.commands.proofs.gathering.give_limit.Tie as tie
+
+returns : tie.Need-returns
+unfolding limitGiven
+returns c = refl
+
+pub give-limit-spec : {M : Type 1} → statement M
+give-limit-spec = tie.close (tie.spec returns)

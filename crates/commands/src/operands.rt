@@ -1,0 +1,116 @@
+// The command at an offset of a script, and its operands.
+use super::Command;
+use super::Read;
+ghost use mathlib.Core.Path.{_≡_};
+ghost use Prim.Native.Nat.{_+_, _<_, _≤_, _^_};
+ghost use lib.ListN.{length};
+ghost use Rattle.commands.specs.Reading.{readAt, commandBy};
+ghost use Rattle.commands.specs.Operands.{byteAt, wordAt};
+
+// An operand of one byte, or of two or four; or the script ends before it does.
+enum Byte {
+    Is(u8),
+    Missing,
+}
+
+enum Word {
+    Is(u32),
+    Missing,
+}
+
+fn wide(byte: u8) -> u32
+    ensures { λ r. ⌜ (r ≡ byte) × (r < 256) ⌝ }
+{
+    byte as u32
+}
+
+fn byte_at(bytes: &[u8], place: usize) -> Byte
+    ensures { λ r. ⌜ r ≡ byteAt (now (bytes .entry)) place ⌝ }
+{
+    if bytes.len() <= place {
+        return Byte::Missing;
+    }
+    Byte::Is(bytes[place])
+}
+
+fn half_at(bytes: &[u8], place: usize) -> Word
+    requires { ⌜ place ≤ 5 ⌝ }
+    ensures { λ r. ⌜ r ≡ wordAt 2 (now (bytes .entry)) place ⌝ }
+{
+    if bytes.len() < place + 2 {
+        return Word::Missing;
+    }
+    let first = wide(bytes[place]);
+    let second = wide(bytes[place + 1]);
+    Word::Is(first * 256 + second)
+}
+
+fn word_at(bytes: &[u8], place: usize) -> Word
+    requires { ⌜ place ≤ 5 ⌝ }
+    ensures { λ r. ⌜ r ≡ wordAt 4 (now (bytes .entry)) place ⌝ }
+{
+    if bytes.len() < place + 4 {
+        return Word::Missing;
+    }
+    let high = wide(bytes[place]) * 256 + wide(bytes[place + 1]);
+    let low = wide(bytes[place + 2]) * 256 + wide(bytes[place + 3]);
+    Word::Is(high * 65536 + low)
+}
+
+// The command whose first byte is `code`, where `bytes` is the script from its offset on.
+fn command_by(code: u8, bytes: &[u8], at: usize) -> Read
+    requires { ⌜ (0 < length (now bytes)) × (at + length (now bytes) < 2 ^ 64) ⌝ }
+    ensures { λ r. ⌜ r ≡ commandBy code (now (bytes .entry)) at ⌝ }
+{
+    match code {
+        1 => {
+            let Byte::Is(node) = byte_at(bytes, 1) else {
+                return Read::Refused(21, at);
+            };
+            Read::Next(Command::Source(node), at + 2)
+        }
+        2 => {
+            let Byte::Is(node) = byte_at(bytes, 1) else {
+                return Read::Refused(21, at);
+            };
+            Read::Next(Command::Target(node), at + 2)
+        }
+        3 => {
+            let Word::Is(limit) = half_at(bytes, 1) else {
+                return Read::Refused(21, at);
+            };
+            Read::Next(Command::Limit(limit), at + 3)
+        }
+        4 => Read::Next(Command::Compile, at + 1),
+        5 => {
+            let Byte::Is(child) = byte_at(bytes, 1) else {
+                return Read::Refused(21, at);
+            };
+            let Word::Is(rank) = word_at(bytes, 2) else {
+                return Read::Refused(21, at);
+            };
+            Read::Next(Command::Step(child, rank), at + 6)
+        }
+        6 => {
+            let Word::Is(packet) = word_at(bytes, 1) else {
+                return Read::Refused(21, at);
+            };
+            let Word::Is(leaf_rank) = word_at(bytes, 5) else {
+                return Read::Refused(21, at);
+            };
+            Read::Next(Command::Push(packet, leaf_rank), at + 9)
+        }
+        7 => Read::Next(Command::Pop, at + 1),
+        _ => Read::Refused(20, at),
+    }
+}
+
+// What the reader finds at an offset.
+pub(crate) fn command_at(script: &[u8], at: usize) -> Read
+    ensures { λ r. ⌜ r ≡ readAt (now (script .entry)) at ⌝ }
+{
+    if script.len() <= at {
+        return Read::End;
+    }
+    command_by(script[at], &script[at..], at)
+}
