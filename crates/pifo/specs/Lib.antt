@@ -1,3 +1,5 @@
+-- To believe: Queue, Tree and Machine (PIFO trees and the machine over them), Runs (what is said of runs), and Numbered, by which a state of
+-- arrays stands for a tree. Addressed is for the laws.
 pub mod Queue
 pub mod Tree
 pub mod Addressed

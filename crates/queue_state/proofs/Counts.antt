@@ -3,8 +3,7 @@ use mathlib.Core.Path.{_≡_, sym, ap, _∙_}
 use Prim.Native.Nat.{ℕ}
 use mathlib.Core.Bool.{Bool, true, false}
 use Rattle.queue_state.specs.State.{wellFormed}
-use Rattle.queue_state.specs.Sound.{Tests}
-use Rattle.queue_state.specs.Opening.{amount}
+use Rattle.queue_state.specs.Opening.{Tests, amount}
 use Rattle.queue_state.specs.declared.Amount.the-variants.{Count, Refused}
 use Rattle.queue_state.specs.declared.State.{State}
 use Rattle.queue_state.specs.declared.Test.{Test}

@@ -24,7 +24,8 @@ use Rattle.pifo.proofs.Order.{both, join}
 use Rattle.pifo.proofs.Wellness.{length-held}
 use Rattle.pifo.proofs.Local.{LocalAt, AllLocal, all-well, well-all}
 use Rattle.queue_state.specs.State.{queueIn, queues, bytes, treeOf, allBelow, inBounds, wellFormed}
-use Rattle.queue_state.specs.Sound.{Counts, fine, AllMatch, Mismatch, Tallied, Tests}
+use Rattle.queue_state.specs.Sound.{Counts, fine, AllMatch, Mismatch, Tallied}
+use Rattle.queue_state.specs.Opening.{Tests}
 use Rattle.queue_state.specs.declared.State.{State}
 use Rattle.queue_state.specs.declared.Test.{Test}
 use Rattle.queue_state.specs.declared.soundness.Counted.{Counted}

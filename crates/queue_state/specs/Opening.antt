@@ -1,4 +1,4 @@
--- What an opening promises, and how counts are answered.
+-- What an opening promises, what the test of a state says, and how counts are answered.
 use mathlib.Core.Path.{_≡_}
 use mathlib.Core.Logic.{_≢_}
 use Prim.Native.Nat.{ℕ}
@@ -6,9 +6,11 @@ use mathlib.Core.List.{List}
 use mathlib.Core.Bool.{Bool, true, false, _&&_}
 use lib.Dec.{leb}
 use Rattle.topology.specs.Reader.{pick, orElse, fault, tree}
+use Rattle.pifo.specs.Tree.{held}
 use Rattle.pifo.specs.Machine.{opened}
-use Rattle.queue_state.specs.State.{machine, wellFormed}
+use Rattle.queue_state.specs.State.{machine, treeOf, wellFormed}
 use Rattle.queue_state.specs.declared.State.{State}
+use Rattle.queue_state.specs.declared.Test.{Test}
 use Rattle.queue_state.specs.declared.Opened.{Opened}
 use Rattle.queue_state.specs.declared.Amount.{Amount}
 use Rattle.queue_state.specs.declared.Amount.the-variants.{Count, Refused}
@@ -27,13 +29,10 @@ pub record Opens (bytes : List ℕ) (limit : ℕ) (r : Opened) : Type 0 where
   pub formed : r .refusal ≡ 0 → wellFormed (r .state) ≡ true
   pub nothing : r .refusal ≢ 0 → wellFormed (r .state) ≡ false
 
--- a state with no entries and nothing counted
-pub record Empty (bytes : List ℕ) (count most : ℕ) (r : State) : Type 0 where
-  pub topology : r .topology ≡ bytes
-  pub nodes : r .nodes ≡ count
-  pub limit : r .limit ≡ most
-  pub refused : r .refused ≡ 0
-  pub used : r .used ≡ 0
+-- the test of a state: whether it is well formed, and how many packets it then holds
+pub record Tests (s : State) (r : Test) : Type 0 where
+  pub sound : r .sound ≡ wellFormed s
+  pub count : r .sound ≡ true → r .held ≡ held (treeOf s)
 
 -- a count where the state is well formed, else 18
 abbrev pub amount : Bool → ℕ → Amount

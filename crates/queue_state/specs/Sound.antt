@@ -1,4 +1,4 @@
--- What the private functions of the state's test promise, and what those of push and pop share with them.
+-- What the private functions of the state's opening and test promise, and what those of push and pop share with them.
 use mathlib.Core.Path.{_≡_}
 use mathlib.Core.Logic.{_⊎_}
 use Prim.Native.Nat.{ℕ, zero, suc, _+_, _*_, _≤_, _<_}
@@ -11,10 +11,8 @@ use lib.Dec.{eqb}
 use Rattle.topology.specs.Reader.{pick}
 use Rattle.pifo.specs.Queue.{Item, Entry, risesFrom, allowed, every, isOf, occurs}
 use Rattle.pifo.specs.Numbered.{Queues}
-use Rattle.pifo.specs.Tree.{held}
 use Rattle.queue_state.specs.declared.State.{State}
-use Rattle.queue_state.specs.declared.Test.{Test}
-use Rattle.queue_state.specs.State.{itemOf, allBelow, treeOf, wellFormed}
+use Rattle.queue_state.specs.State.{itemOf, allBelow}
 use Rattle.queue_state.specs.declared.Item.the-variants.{Child}
 use Rattle.queue_state.specs.declared.Entry.{Entry as CodeEntry}
 use Rattle.queue_state.specs.declared.soundness.Counted.{Counted}
@@ -79,7 +77,10 @@ AllMatch bytes counts lengths n = (i : ℕ) → i < getD bytes n 0 → Match byt
 abbrev pub Mismatch : List ℕ → List ℕ → List ℕ → ℕ → Type 0
 Mismatch bytes counts lengths n = (i : ℕ) × (i < getD bytes n 0) × (Match bytes counts lengths n i → ⊥)
 
--- the test of a state: whether it is well formed, and how many packets it then holds
-pub record Tests (s : State) (r : Test) : Type 0 where
-  pub sound : r .sound ≡ wellFormed s
-  pub count : r .sound ≡ true → r .held ≡ held (treeOf s)
+-- a state with no entries and nothing counted
+pub record Empty (bytes : List ℕ) (count most : ℕ) (r : State) : Type 0 where
+  pub topology : r .topology ≡ bytes
+  pub nodes : r .nodes ≡ count
+  pub limit : r .limit ≡ most
+  pub refused : r .refused ≡ 0
+  pub used : r .used ≡ 0

@@ -10,8 +10,7 @@ use topology::TARGET_NODES;
 ghost use mathlib.Core.Path.{_≡_};
 ghost use Rattle.pifo.specs.Tree.{held};
 ghost use Rattle.queue_state.specs.State.{wellFormed, treeOf};
-ghost use Rattle.queue_state.specs.Sound.{Tests};
-ghost use Rattle.queue_state.specs.Opening.{Opens, amount};
+ghost use Rattle.queue_state.specs.Opening.{Opens, Tests, amount};
 
 // What a queue orders: child numbers at inner nodes, packets at leaves.
 pub enum Item {

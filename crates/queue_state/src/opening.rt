@@ -7,7 +7,8 @@ use topology::TARGET_NODES;
 ghost use mathlib.Core.Path.{_≡_};
 ghost use Prim.Native.Nat.{_≤_};
 ghost use lib.ListN.{length, take};
-ghost use Rattle.queue_state.specs.Opening.{openFault, limitFault, Empty};
+ghost use Rattle.queue_state.specs.Opening.{openFault, limitFault};
+ghost use Rattle.queue_state.specs.Sound.{Empty};
 
 fn limit_refusal(limit: usize) -> u8
     ensures { λ r. ⌜ r ≡ limitFault limit ⌝ }
