@@ -35,10 +35,10 @@ pub fn walk_slowly(write: impl FnOnce(&mut dyn Write) -> io::Result<()> + Send) 
     printed
 }
 
-/// How gatewalk ends, with nothing said on standard error, on a script that it
+/// How gatewalk ends, and what it says on standard error, on a script that it
 /// may not be able to answer: its standard streams are changed by `streams` as
 /// a shell has it, and its reader goes after `taken` bytes.
-pub fn end(script: &[u8], streams: &str, taken: u64) -> ExitStatus {
+pub fn end(script: &[u8], streams: &str, taken: u64) -> (ExitStatus, String) {
     let mut child = Command::new("sh")
         .arg("-c")
         .arg(format!("exec \"$0\" {streams}"))
@@ -70,11 +70,10 @@ pub fn end(script: &[u8], streams: &str, taken: u64) -> ExitStatus {
         }
         thread::sleep(Duration::from_millis(1));
     };
-    let mut said = Vec::new();
+    let mut said = String::new();
     let mut errors = child.stderr.take().expect("a pipe");
-    errors.read_to_end(&mut said).expect("what it says");
-    assert!(said.is_empty(), "{}", String::from_utf8_lossy(&said));
-    status
+    errors.read_to_string(&mut said).expect("what it says");
+    (status, said)
 }
 
 /// The program, or another in its place.

@@ -101,18 +101,21 @@ fn ten_megabytes() {
 
 /// Without input, or with output that cannot be written, gatewalk ends all the
 /// same. A reader that goes ends it by the signal for that, as it ends other
-/// programs; what else cannot be written is lost.
+/// programs; of other output that cannot be written it says so.
 fn lost_streams() {
     const GONE: i32 = 13;
+    const LOST: &str = "gatewalk: cannot write all of the output\n";
     let long = [opening(&[0], &[0], 1).concat(), vec![POP; 60_000]].concat();
     for script in [&paper::EXAMPLE[..], &long] {
-        assert_eq!(end(script, "", 0).signal(), Some(GONE));
-        for streams in ["<&-", ">&-", "<&- >&-", ">/dev/full"] {
-            assert!(end(script, streams, 0).success(), "{streams}");
+        assert_eq!(end(script, "", 0).0.signal(), Some(GONE));
+        for (streams, says) in [("<&-", ""), (">&-", LOST), ("<&- >&-", ""), (">/dev/full", LOST)] {
+            let (status, said) = end(script, streams, 0);
+            assert!(status.success(), "{streams}");
+            assert_eq!(said, says, "{streams}");
         }
     }
-    assert_eq!(end(&long, "", 1_000).signal(), Some(GONE));
-    assert!(end(&[], "", 0).success());
+    assert_eq!(end(&long, "", 1_000).0.signal(), Some(GONE));
+    assert!(end(&[], "", 0).0.success());
     println!("streams that are closed, full or without a reader: it ends");
 }
 
