@@ -22,6 +22,7 @@ ghost use Rattle.svg.specs.Elements.{mark};
 ghost use Rattle.drawing.specs.Sheet.{className, column, row, limbOf, nodeOf, treeOf, joinOf, joinsOf, pairOf, refusedEnd, refusal, nothing, limitFault, sheet};
 
 const SOURCE_LEFT: usize = 40;
+
 const CHIP_LEFT: usize = 480;
 
 // Where a node's column is in the tree whose root is at `left`.
@@ -68,7 +69,14 @@ fn put_role(out: &mut [u8], at: usize, role: Role, x: usize, y: usize, node: usi
 }
 
 // A node with the line to it.
-fn put_node(out: &mut [u8], at: usize, left: usize, bytes: &[u8], images: &[u8], node: usize) -> usize
+fn put_node(
+    out: &mut [u8],
+    at: usize,
+    left: usize,
+    bytes: &[u8],
+    images: &[u8],
+    node: usize,
+) -> usize
     requires { ⌜ (left ≤ 480) × (node < 256) ⌝ }
     ensures { λ r. ⌜ Puts (now (out .entry)) at (nodeOf left (now (bytes .entry)) (now (images .entry)) node) (now (out .exit)) r ⌝ }
 {
@@ -94,7 +102,14 @@ fn put_tree(out: &mut [u8], at: usize, left: usize, bytes: &[u8], images: &[u8])
 }
 
 // The line from a source node to its image.
-fn put_join_of(out: &mut [u8], at: usize, source: &[u8], target: &[u8], node: usize, image: usize) -> usize
+fn put_join_of(
+    out: &mut [u8],
+    at: usize,
+    source: &[u8],
+    target: &[u8],
+    node: usize,
+    image: usize,
+) -> usize
     requires { ⌜ (node < 256) × (image < 256) ⌝ }
     ensures { λ r. ⌜ Puts (now (out .entry)) at (joinOf (now (source .entry)) (now (target .entry)) node image) (now (out .exit)) r ⌝ }
 {
@@ -163,7 +178,11 @@ pub fn draw_nothing(out: &mut [u8], at: usize) -> usize
     ensures { λ r. ⌜ Puts (now (out .entry)) at nothing (now (out .exit)) r ⌝ }
 {
     let head = put_head(out, at, 64);
-    put_word(out, head, b"<text class=\"note\" x=\"200\" y=\"20\">nothing to draw</text>\n</svg>\n")
+    put_word(
+        out,
+        head,
+        b"<text class=\"note\" x=\"200\" y=\"20\">nothing to draw</text>\n</svg>\n",
+    )
 }
 
 // The number by which the command that compiles a pair is refused, from the search's number and the limit; 0: it is not.
@@ -184,7 +203,14 @@ fn compile_refusal(number: u8, limit: usize) -> u8
 
 // What the command at `offset` compiles, a source and a target with a packet limit: both trees with the least map between them; without a
 // map the trees and the refusal; with another refusal that alone.
-pub fn draw(source: &[u8], target: &[u8], limit: usize, offset: usize, out: &mut [u8], at: usize) -> usize
+pub fn draw(
+    source: &[u8],
+    target: &[u8],
+    limit: usize,
+    offset: usize,
+    out: &mut [u8],
+    at: usize,
+) -> usize
     ensures { λ r. ⌜ Puts (now (out .entry)) at (sheet (now (source .entry)) (now (target .entry)) limit offset) (now (out .exit)) r ⌝ }
 {
     let found = search(source, target);

@@ -66,8 +66,16 @@ pub fn put_head(out: &mut [u8], at: usize, height: usize) -> usize
         open,
         b"svg{background:white}text{font:10px sans-serif;text-anchor:middle}path{fill:none;stroke:black}circle{fill:white;stroke:black}\n",
     );
-    let joins = put_word(out, shapes, b".title,.note{font-size:14px;text-anchor:start}.child{font-size:9px}.joins path{stroke:skyblue}\n");
-    put_word(out, joins, b".image{fill:skyblue}.between{stroke-dasharray:3}.unused{fill:lightgrey}</style>\n")
+    let joins = put_word(
+        out,
+        shapes,
+        b".title,.note{font-size:14px;text-anchor:start}.child{font-size:9px}.joins path{stroke:skyblue}\n",
+    );
+    put_word(
+        out,
+        joins,
+        b".image{fill:skyblue}.between{stroke-dasharray:3}.unused{fill:lightgrey}</style>\n",
+    )
 }
 
 // The line from a node's parent, at x and `above`, down to the node's row y and right to its column; and the node's child number at it.
@@ -100,12 +108,22 @@ pub fn put_mark(out: &mut [u8], at: usize, class: &[u8], x: usize, y: usize, nod
 pub fn put_join(out: &mut [u8], at: usize, x: usize, y: usize, over: usize, down: usize) -> usize
     ensures { λ r. ⌜ Puts (now (out .entry)) at (join x y over down) (now (out .exit)) r ⌝ }
 {
-    put_filled(out, at, b"<path d=\"M#,#H320L456,#H#\"/>\n", &[x, y, down, over])
+    put_filled(
+        out,
+        at,
+        b"<path d=\"M#,#H320L456,#H#\"/>\n",
+        &[x, y, down, over],
+    )
 }
 
 // A refusal's number, and the offset of the command refused.
 pub fn put_note(out: &mut [u8], at: usize, number: usize, offset: usize) -> usize
     ensures { λ r. ⌜ Puts (now (out .entry)) at (note number offset) (now (out .exit)) r ⌝ }
 {
-    put_filled(out, at, b"<text class=\"note\" x=\"200\" y=\"20\">no # #</text>\n", &[number, offset])
+    put_filled(
+        out,
+        at,
+        b"<text class=\"note\" x=\"200\" y=\"20\">no # #</text>\n",
+        &[number, offset],
+    )
 }

@@ -2,7 +2,6 @@
 use mathlib.Core.Path.{_∙_}
 use Prim.Native.Nat.{_-_}
 use lib.ListN.{length}
-use native.Mathlib.Omega.{arith}
 use borrow.Author.Needs.{needs}
 use Rattle.text.proofs.Writing.{puts-length, puts-still, puts-then}
 use Rattle.svg.proofs.Filling.{Filling, filling-none, filling-next, filling-all}
