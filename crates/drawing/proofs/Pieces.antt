@@ -1,0 +1,40 @@
+-- The texts of nodes one behind the other, and the texts of a node's parts from the numbers that the code finds.
+use mathlib.Core.Path.{_≡_, ap}
+use Prim.Native.Nat.{ℕ, _+_, _≤_}
+use native.Mathlib.Numerals.{add-one}
+use native.Mathlib.Omega.{arith}
+use mathlib.Core.List.{List, []}
+use borrow.Author.Tests.{eq-eqb, ne-eqb}
+use Rattle.text.specs.Text.{Puts}
+use Rattle.text.proofs.Writing.{puts-as, puts-then}
+use Rattle.places.specs.Places.{parent, childNumber, roleOf}
+use Rattle.places.specs.declared.Role.{Role}
+use Rattle.svg.specs.Elements.{limb, mark, join}
+use Rattle.drawing.specs.Sheet.{column, row, each, limbOf, className, nodeOf, joinOf}
+
+pub each-next : {before middle after : List ℕ} {at place end : ℕ} (text : ℕ → List ℕ) (k : ℕ) → Puts before at (each text k) middle place
+    → Puts middle place (text k) after end → Puts before at (each text (k + 1)) after end
+each-next text k p q = rw add-one (puts-then p q)
+
+pub each-all : {before after : List ℕ} {at place : ℕ} (text : ℕ → List ℕ) (k n : ℕ) → k ≤ n → n ≤ k → Puts before at (each text k) after place
+    → Puts before at (each text n) after place
+each-all text k n h g p = let e : k ≡ n = omega arith in puts-as (ap (each text) e) p
+
+module _ (left : ℕ) (tree : List ℕ) (k : ℕ) where
+  pub limb-root : k ≡ 0 → [] ≡ limbOf left tree k
+  limb-root e = rw (eq-eqb k 0 e)
+
+  pub limb-below : (k ≡ 0 → ⊥) → (above x top y child : ℕ) → above ≡ parent tree k → x ≡ column left tree above → top ≡ row above
+      → y ≡ row k → child ≡ childNumber tree k → limb x top y child ≡ limbOf left tree k
+  limb-below n above x top y child a b c d e = rw (ne-eqb k 0 n, b, c, d, e, a)
+
+  pub node-parts : {before middle after : List ℕ} {at place end : ℕ} (images : List ℕ) (x y : ℕ) (kind : Role) → Puts before at (limbOf left tree k) middle place
+      → kind ≡ roleOf tree images k → x ≡ column left tree k → y ≡ row k → Puts middle place (mark (className kind) x y k) after end
+      → Puts before at (nodeOf left tree images k) after end
+  unfolding nodeOf
+  node-parts images x y kind p a b c q = puts-then p (rw (a, b, c) at q)
+
+pub join-parts : (source target : List ℕ) (a image x y over down : ℕ) → x ≡ column 40 source a → y ≡ row a → over ≡ column 480 target image
+    → down ≡ row image → join x y over down ≡ joinOf source target a image
+unfolding joinOf
+join-parts source target a image x y over down b c d e = rw (b, c, d, e)

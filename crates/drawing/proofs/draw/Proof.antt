@@ -1,0 +1,126 @@
+-- `draw` meets its contract: the drawings of a pair with a map, of one without, and of a refusal.
+use mathlib.Core.Path.{sym}
+use lib.ListN.{length, length-take}
+use lib.Seq.{length-take-le}
+use denote.Ref.{now}
+use native.Mathlib.Omega.{arith}
+use Rattle.text.proofs.Writing.{puts-as, puts-then}
+use Rattle.drawing.proofs.Sheets.{compiled, small, map-room, sheet-mapped, sheet-unmapped, sheet-refused}
+use borrow.Author.Needs.{needs}
+use Rattle.drawing.proofs.draw.Statement.{statement}
+use Rattle.drawing.proofs.draw.Tie as tie
+
+search-requires : tie.Need-search-requires
+search-requires c κs = search needs
+
+compile-refusal-requires : tie.Need-compile-refusal-requires
+compile-refusal-requires c κs = search needs
+
+array-share-prefix-map : tie.Need-array-share-prefix-map
+array-share-prefix-map c =
+    let found = c .before .before .before .before in
+    let args = found .before .before .before .before .args in
+    let e = compiled (now (args .source)) (now (args .target)) _ _ _ (found .search .ensures .0) (c .before .before .before .compile-refusal .ensures) in
+    let fits = small _ _ _ _ e (λ h. c .before .before .if1 .taken) in
+    omega (arith, fits .source-fits, map-room _ _ _ (found .search .ensures .1))
+
+slice-aggregate-put-pair : tie.Need-slice-aggregate-put-pair
+slice-aggregate-put-pair c =
+    let found = c .before .before .before .before .before in
+    let args = found .before .before .before .before .args in
+    let e = compiled (now (args .source)) (now (args .target)) _ _ _ (found .search .ensures .0) (c .before .before .before .before .compile-refusal .ensures) in
+    let fits = small _ _ _ _ e (λ h. c .before .before .before .if1 .taken) in
+    sym (length-take-le _ _ (omega (arith, fits .source-fits, map-room _ _ _ (found .search .ensures .1))))
+
+put-pair-requires : tie.Need-put-pair-requires
+put-pair-requires c κs =
+    let found = c .before .before .before .before .before in
+    let args = found .before .before .before .before .args in
+    let source = now (args .source) in
+    let e = compiled source (now (args .target)) _ _ _ (found .search .ensures .0) (c .before .before .before .before .compile-refusal .ensures) in
+    let fits = small _ _ _ _ e (λ h. c .before .before .before .if1 .taken) in
+    (omega (arith, fits .source-fits), fits .target-fits, omega (arith, fits .source-fits, length-take (length source) (found .search .result .map)))
+
+slice-aggregate-put-word : tie.Need-slice-aggregate-put-word
+slice-aggregate-put-word c = search needs
+
+put-word-requires : tie.Need-put-word-requires
+put-word-requires c κs = search needs
+
+same-length : tie.Need-same-length
+same-length c = search needs
+
+returns : tie.Need-returns
+returns c =
+    let end = c .before .before in
+    let pair = end .before .before .before .before .before in
+    let tested = pair .before .before .before .before in
+    let found = tested .before .before in
+    let args = found .before .before .before .before .args in
+    let e = compiled (now (args .source)) (now (args .target)) _ _ _ (found .search .ensures .0) (tested .before .compile-refusal .ensures) in
+    puts-as (sheet-mapped _ _ _ _ e _ (tested .if1 .taken) _ (found .search .ensures .1))
+    (puts-then (pair .put-pair .ensures) (end .put-word .ensures))
+
+slice-aggregate-put-pair-2 : tie.Need-slice-aggregate-put-pair-2
+slice-aggregate-put-pair-2 c = search needs
+
+put-pair-requires-2 : tie.Need-put-pair-requires-2
+put-pair-requires-2 c κs =
+    let found = c .before .before .before .before .before in
+    let args = found .before .before .before .before .args in
+    let e = compiled (now (args .source)) (now (args .target)) _ _ _ (found .search .ensures .0) (c .before .before .before .before .compile-refusal .ensures) in
+    let fits = small _ _ _ _ e (λ h. absurd (omega (arith, c .before .before .if2 .taken))) in
+    (omega (arith, fits .source-fits), fits .target-fits, omega arith)
+
+put-refused-requires : tie.Need-put-refused-requires
+put-refused-requires c κs = search needs
+
+same-length-2 : tie.Need-same-length-2
+same-length-2 c = search needs
+
+returns-2 : tie.Need-returns-2
+returns-2 c =
+    let end = c .before .before in
+    let pair = end .before .before .before .before in
+    let twelve = pair .before .before .before in
+    let found = twelve .before .before .before in
+    let args = found .before .before .before .before .args in
+    let e = compiled (now (args .source)) (now (args .target)) _ _ _ (found .search .ensures .0) (twelve .before .before .compile-refusal .ensures) in
+    puts-as (sheet-unmapped _ _ _ _ e _ (twelve .if2 .taken)) (puts-then (pair .put-pair2 .ensures) (end .put-refused .ensures))
+
+draw-refusal-requires : tie.Need-draw-refusal-requires
+draw-refusal-requires c κs = search needs
+
+same-length-3 : tie.Need-same-length-3
+same-length-3 c = search needs
+
+returns-3 : tie.Need-returns-3
+returns-3 c =
+    let end = c .before .before in
+    let other = end .before .before in
+    let found = other .before .before .before in
+    let args = found .before .before .before .before .args in
+    let e = compiled (now (args .source)) (now (args .target)) _ _ _ (found .search .ensures .0) (other .before .before .compile-refusal .ensures) in
+    puts-as (sheet-refused _ _ _ _ e _ (other .before .if1 .left) (other .if2 .left)) (end .draw-refusal .ensures)
+
+pub draw-spec : {M : Type 1} → statement M
+draw-spec =
+    tie.close
+    (tie.spec
+    search-requires
+    compile-refusal-requires
+    array-share-prefix-map
+    slice-aggregate-put-pair
+    put-pair-requires
+    slice-aggregate-put-word
+    put-word-requires
+    same-length
+    returns
+    slice-aggregate-put-pair-2
+    put-pair-requires-2
+    put-refused-requires
+    same-length-2
+    returns-2
+    draw-refusal-requires
+    same-length-3
+    returns-3)

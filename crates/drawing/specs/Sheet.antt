@@ -1,0 +1,93 @@
+-- The drawing of a pair of trees, byte by byte, as a definition over the trees' bytes: the source left, the chip right, a row for each node
+-- number and a column for each step below the root.
+use Prim.Native.Nat.{ℕ, zero, suc, _+_, _*_, max}
+use mathlib.Core.List.{List, [], _++_}
+use lib.ListN.{length, getD, take}
+use mathlib.Core.Bool.{_&&_}
+use lib.Dec.{eqb, leb}
+use Rattle.topology.specs.Reader.{pick, orElse}
+use Rattle.embedding_laws.specs.Least.{searchFault, searchMap}
+use Rattle.places.specs.Places.{depth, parent, childNumber, roleOf}
+use Rattle.places.specs.declared.Role.{Role}
+use Rattle.places.specs.declared.Role.the-variants.{Plain, Image, Between, Unused}
+use Rattle.svg.specs.Template.{bytes}
+use Rattle.svg.specs.Elements.{head, limb, mark, join, note}
+
+-- the column of a node in the tree whose root is at `left`, and its row
+abbrev pub column : ℕ → List ℕ → ℕ → ℕ
+column left tree k = left + 32 * depth tree k
+
+abbrev pub row : ℕ → ℕ
+row k = 40 + 24 * k
+
+-- the texts of the numbers below n, joined
+abbrev pub each : (ℕ → List ℕ) → ℕ → List ℕ
+each text zero = []
+each text (suc n) = each text n ++ text n
+
+-- the line to node k from its parent, with the child number; nothing for the root
+abbrev pub limbOf : ℕ → List ℕ → ℕ → List ℕ
+limbOf left tree k =
+    let above = parent tree k in
+    pick (eqb k 0) [] (limb (column left tree above) (row above) (row k) (childNumber tree k))
+
+abbrev pub className : Role → List ℕ
+className Plain = bytes "plain"
+className Image = bytes "image"
+className Between = bytes "between"
+className Unused = bytes "unused"
+
+-- node k of a tree, in the look of its role to the images
+unfoldable pub nodeOf : ℕ → List ℕ → List ℕ → ℕ → List ℕ
+nodeOf left tree images k = limbOf left tree k ++ mark (className (roleOf tree images k)) (column left tree k) (row k) k
+
+unfoldable pub treeOf : ℕ → List ℕ → List ℕ → List ℕ
+treeOf left tree images = bytes "<g>\n" ++ (each (nodeOf left tree images) (length tree) ++ bytes "</g>\n")
+
+-- the line from a source node to its image
+unfoldable pub joinOf : List ℕ → List ℕ → ℕ → ℕ → List ℕ
+joinOf source target a image = join (column 40 source a) (row a) (column 480 target image) (row image)
+
+unfoldable pub joinsOf : List ℕ → List ℕ → List ℕ → List ℕ
+joinsOf source target images =
+    bytes "<g class=\"joins\">\n" ++ (each (λ a. joinOf source target a (getD images a 0)) (length images) ++ bytes "</g>\n")
+
+abbrev pub titles : List ℕ
+titles = bytes "<text class=\"title\" x=\"40\" y=\"20\">source</text><text class=\"title\" x=\"480\" y=\"20\">chip</text>\n"
+
+-- both trees, and the lines from the source's nodes to the images; there are none of these where there is no map
+unfoldable pub pairOf : List ℕ → List ℕ → List ℕ → List ℕ
+pairOf source target images =
+    head (row (max (length source) (length target)))
+    ++ (titles ++ (joinsOf source target images ++ (treeOf 40 source [] ++ treeOf 480 target images)))
+
+abbrev pub foot : List ℕ
+foot = bytes "</svg>\n"
+
+abbrev pub refusedEnd : ℕ → ℕ → List ℕ
+refusedEnd number offset = note number offset ++ foot
+
+-- a refusal alone
+unfoldable pub refusal : ℕ → ℕ → List ℕ
+refusal number offset = head 64 ++ refusedEnd number offset
+
+-- a script that ends before 04
+unfoldable pub nothing : List ℕ
+nothing = head 64 ++ bytes "<text class=\"note\" x=\"200\" y=\"20\">nothing to draw</text>\n</svg>\n"
+
+-- 17, for a packet limit that is 0 or above 256; else 0
+unfoldable pub limitFault : ℕ → ℕ
+limitFault limit = pick (leb 1 limit && leb limit 256) 0 17
+
+-- The number by which an 04 is refused, tested for 1 to 5, 12, 17; 0: it is not.
+unfoldable pub compileFault : List ℕ → List ℕ → ℕ → ℕ
+compileFault source target limit = orElse (searchFault source target) (limitFault limit)
+
+-- The drawing of what the 04 at `offset` compiles: both trees with the least map; without a map, with refusal 12; with another refusal, that
+-- alone.
+unfoldable pub sheet : List ℕ → List ℕ → ℕ → ℕ → List ℕ
+sheet source target limit offset =
+    let number = compileFault source target limit in
+    let mapped = pairOf source target (take (length source) (searchMap source target)) ++ foot in
+    let unmapped = pairOf source target [] ++ refusedEnd 12 offset in
+    pick (eqb number 0) mapped (pick (eqb number 12) unmapped (refusal number offset))

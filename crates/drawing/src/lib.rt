@@ -1,0 +1,228 @@
+// Both trees of a pair and the map between them as one drawing in SVG: the source left, the chip right, a row for each node number and a
+// column for each step below the root.
+use embedding_search::search;
+use places::Role;
+use places::child_number;
+use places::depth;
+use places::parent;
+use places::role_of;
+use svg::put_head;
+use svg::put_join;
+use svg::put_limb;
+use svg::put_mark;
+use svg::put_note;
+use text::put_word;
+use topology::wide;
+ghost use mathlib.Core.Path.{_≡_};
+ghost use Prim.Native.Nat.{_<_, _≤_, max};
+ghost use lib.ListN.{length};
+ghost use Rattle.topology.specs.Reader.{orElse};
+ghost use Rattle.text.specs.Text.{Puts};
+ghost use Rattle.svg.specs.Elements.{mark};
+ghost use Rattle.drawing.specs.Sheet.{className, column, row, limbOf, nodeOf, treeOf, joinOf, joinsOf, pairOf, refusedEnd, refusal, nothing, limitFault, sheet};
+
+const SOURCE_LEFT: usize = 40;
+
+const CHIP_LEFT: usize = 480;
+
+// Where a node's column is in the tree whose root is at `left`.
+fn column_of(left: usize, bytes: &[u8], node: usize) -> usize
+    requires { ⌜ (left ≤ 480) × (node < 256) ⌝ }
+    ensures { λ r. ⌜ r ≡ column left (now (bytes .entry)) node ⌝ }
+{
+    left + 32 * depth(bytes, node)
+}
+
+fn row_of(node: usize) -> usize
+    requires { ⌜ node < 256 ⌝ }
+    ensures { λ r. ⌜ r ≡ row node ⌝ }
+{
+    40 + 24 * node
+}
+
+// The line to a node from its parent; nothing for the root.
+fn put_limb_of(out: &mut [u8], at: usize, left: usize, bytes: &[u8], node: usize) -> usize
+    requires { ⌜ (left ≤ 480) × (node < 256) ⌝ }
+    ensures { λ r. ⌜ Puts (now (out .entry)) at (limbOf left (now (bytes .entry)) node) (now (out .exit)) r ⌝ }
+{
+    if node == 0 {
+        return put_word(out, at, &bytes[..0]);
+    }
+    let above = parent(bytes, node);
+    let x = column_of(left, bytes, above);
+    let top = row_of(above);
+    let y = row_of(node);
+    let child = child_number(bytes, node);
+    put_limb(out, at, x, top, y, child)
+}
+
+// A node's circle, of the class that its role names.
+fn put_role(out: &mut [u8], at: usize, role: Role, x: usize, y: usize, node: usize) -> usize
+    ensures { λ r. ⌜ Puts (now (out .entry)) at (mark (className role) x y node) (now (out .exit)) r ⌝ }
+{
+    match role {
+        Role::Plain => put_mark(out, at, b"plain", x, y, node),
+        Role::Image => put_mark(out, at, b"image", x, y, node),
+        Role::Between => put_mark(out, at, b"between", x, y, node),
+        Role::Unused => put_mark(out, at, b"unused", x, y, node),
+    }
+}
+
+// A node with the line to it.
+fn put_node(
+    out: &mut [u8],
+    at: usize,
+    left: usize,
+    bytes: &[u8],
+    images: &[u8],
+    node: usize,
+) -> usize
+    requires { ⌜ (left ≤ 480) × (node < 256) ⌝ }
+    ensures { λ r. ⌜ Puts (now (out .entry)) at (nodeOf left (now (bytes .entry)) (now (images .entry)) node) (now (out .exit)) r ⌝ }
+{
+    let limb = put_limb_of(out, at, left, bytes, node);
+    let kind = role_of(bytes, images, node);
+    let x = column_of(left, bytes, node);
+    let y = row_of(node);
+    put_role(out, limb, kind, x, y, node)
+}
+
+// A tree, node by node.
+fn put_tree(out: &mut [u8], at: usize, left: usize, bytes: &[u8], images: &[u8]) -> usize
+    requires { ⌜ (left ≤ 480) × (length (now bytes) ≤ 64) ⌝ }
+    ensures { λ r. ⌜ Puts (now (out .entry)) at (treeOf left (now (bytes .entry)) (now (images .entry))) (now (out .exit)) r ⌝ }
+{
+    let mut place = put_word(out, at, b"<g>\n");
+    let mut k = 0;
+    while k < bytes.len() {
+        place = put_node(out, place, left, bytes, images, k);
+        k += 1;
+    }
+    put_word(out, place, b"</g>\n")
+}
+
+// The line from a source node to its image.
+fn put_join_of(
+    out: &mut [u8],
+    at: usize,
+    source: &[u8],
+    target: &[u8],
+    node: usize,
+    image: usize,
+) -> usize
+    requires { ⌜ (node < 256) × (image < 256) ⌝ }
+    ensures { λ r. ⌜ Puts (now (out .entry)) at (joinOf (now (source .entry)) (now (target .entry)) node image) (now (out .exit)) r ⌝ }
+{
+    let x = column_of(SOURCE_LEFT, source, node);
+    let y = row_of(node);
+    let over = column_of(CHIP_LEFT, target, image);
+    let down = row_of(image);
+    put_join(out, at, x, y, over, down)
+}
+
+// The lines from all source nodes to their images.
+fn put_joins(out: &mut [u8], at: usize, source: &[u8], target: &[u8], images: &[u8]) -> usize
+    requires { ⌜ length (now images) ≤ 64 ⌝ }
+    ensures { λ r. ⌜ Puts (now (out .entry)) at (joinsOf (now (source .entry)) (now (target .entry)) (now (images .entry))) (now (out .exit)) r ⌝ }
+{
+    let mut place = put_word(out, at, b"<g class=\"joins\">\n");
+    let mut a = 0;
+    while a < images.len() {
+        place = put_join_of(out, place, source, target, a, wide(images[a]));
+        a += 1;
+    }
+    put_word(out, place, b"</g>\n")
+}
+
+fn larger(a: usize, b: usize) -> usize
+    ensures { λ r. ⌜ r ≡ max a b ⌝ }
+{
+    if a < b { b } else { a }
+}
+
+// Both trees and the lines between them.
+fn put_pair(out: &mut [u8], at: usize, source: &[u8], target: &[u8], images: &[u8]) -> usize
+    requires { ⌜ (length (now source) ≤ 64) × (length (now target) ≤ 64) × (length (now images) ≤ 64) ⌝ }
+    ensures { λ r. ⌜ Puts (now (out .entry)) at (pairOf (now (source .entry)) (now (target .entry)) (now (images .entry))) (now (out .exit)) r ⌝ }
+{
+    let rows = larger(source.len(), target.len());
+    let head = put_head(out, at, row_of(rows));
+    let titles = put_word(
+        out,
+        head,
+        b"<text class=\"title\" x=\"40\" y=\"20\">source</text><text class=\"title\" x=\"480\" y=\"20\">chip</text>\n",
+    );
+    let joins = put_joins(out, titles, source, target, images);
+    let left = put_tree(out, joins, SOURCE_LEFT, source, &images[..0]);
+    put_tree(out, left, CHIP_LEFT, target, images)
+}
+
+// The end of a drawing, with a refusal before it.
+fn put_refused(out: &mut [u8], at: usize, number: u8, offset: usize) -> usize
+    ensures { λ r. ⌜ Puts (now (out .entry)) at (refusedEnd number offset) (now (out .exit)) r ⌝ }
+{
+    let note = put_note(out, at, number as usize, offset);
+    put_word(out, note, b"</svg>\n")
+}
+
+// A refusal alone: its number, and the offset of the command refused.
+pub fn draw_refusal(number: u8, offset: usize, out: &mut [u8], at: usize) -> usize
+    ensures { λ r. ⌜ Puts (now (out .entry)) at (refusal number offset) (now (out .exit)) r ⌝ }
+{
+    let head = put_head(out, at, 64);
+    put_refused(out, head, number, offset)
+}
+
+// A script that ends before there is a pair.
+pub fn draw_nothing(out: &mut [u8], at: usize) -> usize
+    ensures { λ r. ⌜ Puts (now (out .entry)) at nothing (now (out .exit)) r ⌝ }
+{
+    let head = put_head(out, at, 64);
+    put_word(
+        out,
+        head,
+        b"<text class=\"note\" x=\"200\" y=\"20\">nothing to draw</text>\n</svg>\n",
+    )
+}
+
+// The number by which the command that compiles a pair is refused, from the search's number and the limit; 0: it is not.
+fn compile_refusal(number: u8, limit: usize) -> u8
+    ensures { λ r. ⌜ r ≡ orElse number (limitFault limit) ⌝ }
+{
+    if number != 0 {
+        return number;
+    }
+    if limit == 0 {
+        return 17;
+    }
+    if 256 < limit {
+        return 17;
+    }
+    0
+}
+
+// What the command at `offset` compiles, a source and a target with a packet limit: both trees with the least map between them; without a
+// map the trees and the refusal; with another refusal that alone.
+pub fn draw(
+    source: &[u8],
+    target: &[u8],
+    limit: usize,
+    offset: usize,
+    out: &mut [u8],
+    at: usize,
+) -> usize
+    ensures { λ r. ⌜ Puts (now (out .entry)) at (sheet (now (source .entry)) (now (target .entry)) limit offset) (now (out .exit)) r ⌝ }
+{
+    let found = search(source, target);
+    let number = compile_refusal(found.number, limit);
+    if number == 0 {
+        let map = found.map;
+        let pair = put_pair(out, at, source, target, &map[..source.len()]);
+        return put_word(out, pair, b"</svg>\n");
+    }
+    if number == 12 {
+        let pair = put_pair(out, at, source, target, &source[..0]);
+        return put_refused(out, pair, 12, offset);
+    }
+    draw_refusal(number, offset, out, at)
+}
