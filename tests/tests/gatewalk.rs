@@ -104,7 +104,7 @@ fn ten_megabytes() {
 /// programs; of other output that cannot be written it says so.
 fn lost_streams() {
     const GONE: i32 = 13;
-    const LOST: &str = "gatewalk: cannot write all of the output\n";
+    const LOST: &str = "cannot write all of the output\n";
     let long = [opening(&[0], &[0], 1).concat(), vec![POP; 60_000]].concat();
     for script in [&paper::EXAMPLE[..], &long] {
         assert_eq!(end(script, "", 0).0.signal(), Some(GONE));

@@ -3,3 +3,4 @@ pub mod Found
 pub mod Keeping
 pub mod Loop
 pub mod Others
+pub mod Limited

@@ -1,53 +1,27 @@
 -- Which drawing an 04 gets, by the number that refuses it; and that the trees that are drawn are small.
-use mathlib.Core.Path.{_≡_, refl, sym, ap, _∙_}
-use Prim.Native.Nat.{ℕ, zero, suc, _-_, _≤_, _<_}
+use mathlib.Core.Path.{_≡_, refl, sym, _∙_}
+use Prim.Native.Nat.{ℕ, zero, suc, _≤_}
+use native.Mathlib.Decide.{ℕ-discrete}
 use native.Mathlib.Omega.{arith}
 use mathlib.Core.List.{List, [], _++_}
-use lib.ListN.{length, take, replicate, length-append, length-replicate}
-use borrow.Author.Tests.{eq-eqb, ne-eqb, le-leb, lt-leb}
+use mathlib.Core.Bool.{Bool, true, false}
+use mathlib.Core.Option.{Option, none, some}
+use lib.ListN.{length, take}
+use borrow.Author.Tests.{eq-eqb, ne-eqb}
 use Rattle.topology.specs.Reader.{orElse, fault}
 use Rattle.topology.proofs.Refusals.{fault-most}
 use Rattle.topology.proofs.Lookup.{valid-length}
-use Rattle.embedding_laws.specs.Least.{Found, nothing, list, noneFault, leastMap, padded, unlessRefused, searchFault, searchMap}
-use Rattle.drawing.specs.Sheet.{pairOf, foot, refusedEnd, refusal, limitFault, compileFault, sheet}
-
-module _ (number limit : ℕ) where
-  pub refused-before : (number ≡ 0 → ⊥) → number ≡ orElse number (limitFault limit)
-  refused-before n = by-number number n
-    where
-      by-number : (m : ℕ) → (m ≡ 0 → ⊥) → m ≡ orElse m (limitFault limit)
-      by-number zero f = absurd (f refl)
-      by-number (suc m) f = refl
-
-  pub limit-none : number ≡ 0 → limit ≡ 0 → 17 ≡ orElse number (limitFault limit)
-  unfolding limitFault
-  limit-none z e = rw (z, lt-leb 1 limit (omega arith))
-
-  pub limit-much : number ≡ 0 → 256 < limit → 17 ≡ orElse number (limitFault limit)
-  unfolding limitFault
-  limit-much z h = rw (z, le-leb 1 limit (omega arith), lt-leb limit 256 h)
-
-  pub limit-good : number ≡ 0 → (limit ≡ 0 → ⊥) → limit ≤ 256 → 0 ≡ orElse number (limitFault limit)
-  unfolding limitFault
-  limit-good z n h = rw (z, le-leb 1 limit (omega arith), le-leb limit 256 h)
-
-pub compiled : (source target : List ℕ) (limit number refused : ℕ) → number ≡ searchFault source target
-    → refused ≡ orElse number (limitFault limit) → refused ≡ compileFault source target limit
-unfolding compileFault
-compiled source target limit number refused e f = f ∙ ap (λ (n : ℕ). orElse n (limitFault limit)) e
-
--- the map that comes back has a place for each of 32 nodes
-pub map-room : (source target m : List ℕ) → m ≡ searchMap source target → 32 ≤ length m
-unfolding searchMap
-map-room source target m e = rw e (unless-room (searchFault source target) (padded (leastMap source target)) (padded-room (leastMap source target)))
-  where
-    unless-room : (f : ℕ) (l : List ℕ) → 32 ≤ length l → 32 ≤ length (unlessRefused f l)
-    unless-room zero l h = h
-    unless-room (suc f) l h = omega (arith, length-replicate {A = ℕ} 32 0)
-
-    padded-room : (f : Found) → 32 ≤ length (padded f)
-    padded-room nothing = omega (arith, length-replicate {A = ℕ} 32 0)
-    padded-room (list m) = omega (arith, length-append m (replicate (32 - length m) 0), length-replicate {A = ℕ} (32 - length m) 0)
+use Rattle.embedding_laws.specs.Least.{noneFault, leastMap, searchFault, searchMap}
+use Rattle.queue_state.specs.Opening.{limitFault}
+use Rattle.pair_state.specs.Opening.{bothFault}
+use Rattle.pair_state.proofs.Kept.{whole, both-kept}
+use Rattle.commands.specs.Gathering.{Given, gathered, limitOf, Draws}
+use Rattle.commands.specs.declared.Drawing.{Drawing}
+use Rattle.commands.specs.declared.Ending.{Ending}
+use Rattle.commands.specs.declared.Ending.the-variants.{End, Refused, Compile}
+use Rattle.commands.proofs.Found.{clash}
+use Rattle.commands.proofs.Limited.{limited}
+use Rattle.drawing.specs.Sheet.{pairOf, foot, refusedEnd, refusal, nothing, sheet, limitIn, sheetBy, scriptSheet}
 
 -- the lengths of trees that are drawn
 pub record Small (source target : List ℕ) : Type 0 where
@@ -55,38 +29,81 @@ pub record Small (source target : List ℕ) : Type 0 where
   pub target-fits : length target ≤ 64
 
 -- by the faults of the trees, each at most 5
-module _ (source target : List ℕ) (limit number : ℕ) (e : number ≡ compileFault source target limit) where
+module _ (source target : List ℕ) (limit number : ℕ) (e : number ≡ bothFault source target limit) where
   valid : (number ≤ 5 → number ≡ 0) → (fault 32 source ≡ 0) × (fault 64 target ≡ 0)
-  unfolding compileFault searchFault
-  valid none = by-fault (fault 32 source) (fault 64 target) (fault-most 32 source) (fault-most 64 target) e
+  unfolding bothFault searchFault
+  valid few = by-fault (fault 32 source) (fault 64 target) (fault-most 32 source) (fault-most 64 target) e
     where
       by-fault : (f g : ℕ) → f ≤ 5 → g ≤ 5
           → number ≡ orElse (orElse f (orElse g (noneFault (leastMap source target)))) (limitFault limit) → (f ≡ 0) × (g ≡ 0)
       by-fault zero zero i j q = (refl, refl)
-      by-fault zero (suc g) i j q = absurd (omega (arith, none (omega arith)))
-      by-fault (suc f) g i j q = absurd (omega (arith, none (omega arith)))
+      by-fault zero (suc g) i j q = absurd (omega (arith, few (omega arith)))
+      by-fault (suc f) g i j q = absurd (omega (arith, few (omega arith)))
 
   pub small : (number ≤ 5 → number ≡ 0) → Small source target
-  small none =
-      let v = valid none in
+  small few =
+      let v = valid few in
       record { source-fits = valid-length 32 source (v .0); target-fits = valid-length 64 target (v .1) }
 
   pub sheet-mapped : (offset : ℕ) → number ≡ 0 → (m : List ℕ) → m ≡ searchMap source target
       → pairOf source target (take (length source) m) ++ foot ≡ sheet source target limit offset
   unfolding sheet
-  sheet-mapped offset z m f = rw (eq-eqb (compileFault source target limit) 0 (sym e ∙ z), f)
+  sheet-mapped offset z m f = rw (eq-eqb (bothFault source target limit) 0 (sym e ∙ z), f)
 
   pub sheet-unmapped : (offset : ℕ) → number ≡ 12 → pairOf source target [] ++ refusedEnd 12 offset ≡ sheet source target limit offset
   unfolding sheet
   sheet-unmapped offset z =
-      let twelve : compileFault source target limit ≡ 12 = sym e ∙ z in
-      rw (ne-eqb (compileFault source target limit) 0 (λ n. omega arith), eq-eqb (compileFault source target limit) 12 twelve)
+      let twelve : bothFault source target limit ≡ 12 = sym e ∙ z in
+      rw (ne-eqb (bothFault source target limit) 0 (λ n. omega arith), eq-eqb (bothFault source target limit) 12 twelve)
 
   pub sheet-refused : (offset : ℕ) → (number ≡ 0 → ⊥) → (number ≡ 12 → ⊥) → refusal number offset ≡ sheet source target limit offset
   unfolding sheet
   sheet-refused offset n m =
       rw (
-        ne-eqb (compileFault source target limit) 0 (λ z. n (e ∙ z)),
-        ne-eqb (compileFault source target limit) 12 (λ z. m (e ∙ z)),
+        ne-eqb (bothFault source target limit) 0 (λ z. n (e ∙ z)),
+        ne-eqb (bothFault source target limit) 12 (λ z. m (e ∙ z)),
         e,
       )
+
+-- The drawings as they are kept give the same drawing as the whole ones.
+pub sheet-kept : (s t : List ℕ) (limit offset : ℕ) → sheet (take 33 s) (take 65 t) limit offset ≡ sheet s t limit offset
+sheet-kept s t limit offset = by-zero (ℕ-discrete (bothFault s t limit) 0)
+  where
+    same : (bothFault s t limit ≤ 5 → bothFault s t limit ≡ 0) → sheet (take 33 s) (take 65 t) limit offset ≡ sheet s t limit offset
+    same few =
+        let v = valid s t limit (bothFault s t limit) refl few in
+        rw (whole 32 s (v .0), whole 64 t (v .1)) refl
+
+    by-twelve : (bothFault s t limit ≡ 0 → ⊥) → Dec (bothFault s t limit ≡ 12) → sheet (take 33 s) (take 65 t) limit offset ≡ sheet s t limit offset
+    by-twelve n (yes z) = same (λ h. absurd (omega arith))
+    by-twelve n (no m) =
+        sym (sheet-refused (take 33 s) (take 65 t) limit (bothFault s t limit) (sym (both-kept s t limit)) offset n m)
+        ∙ sheet-refused s t limit (bothFault s t limit) refl offset n m
+
+    by-zero : Dec (bothFault s t limit ≡ 0) → sheet (take 33 s) (take 65 t) limit offset ≡ sheet s t limit offset
+    by-zero (yes z) = same (λ _. z)
+    by-zero (no n) = by-twelve n (ℕ-discrete (bothFault s t limit) 12)
+
+-- The drawing of a script by how the commands before 04 end.
+module _ (script : List ℕ) where
+  by-ending : (e : Ending) → gathered script .ending ≡ e → sheetBy e (gathered script) ≡ scriptSheet script
+  unfolding scriptSheet
+  by-ending e q = rw q refl
+
+  pub ends-with-script : gathered script .ending ≡ End → nothing ≡ scriptSheet script
+  ends-with-script q = by-ending End q
+
+  pub ends-refused : (n offset : ℕ) → gathered script .ending ≡ Refused n offset → refusal n offset ≡ scriptSheet script
+  ends-refused n offset q = by-ending (Refused n offset) q
+
+  pub ends-compiled : (d : Drawing) (at next : ℕ) → Draws d (gathered script .source) (gathered script .target) (gathered script .limit)
+      → gathered script .ending ≡ Compile at next
+      → sheet (take (d .nodes) (d .source)) (take (d .places) (d .target)) (d .limit) at ≡ scriptSheet script
+  ends-compiled d at next w q =
+      let n = limited script at next q in
+      rw (w .source .are, w .target .are, limit-is (d .limited) (d .limit) (gathered script .limit) (n .0) (w .limit) (n .1))
+      (sheet-kept (gathered script .source) (gathered script .target) (limitIn (gathered script .limit)) at ∙ by-ending (Compile at next) q)
+    where
+      limit-is : (b : Bool) (m : ℕ) (l : Option ℕ) (n : ℕ) → limitOf b m ≡ l → l ≡ some n → m ≡ limitIn l
+      limit-is true m l n e f = rw (← e) refl
+      limit-is false m l n e f = clash (let z : none ≡ some n = e ∙ f in cc)

@@ -2,14 +2,18 @@
 -- number and a column for each step below the root.
 use Prim.Native.Nat.{ℕ, zero, suc, _+_, _*_, max}
 use mathlib.Core.List.{List, [], _++_}
+use mathlib.Core.Option.{Option, none, some}
 use lib.ListN.{length, getD, take}
-use mathlib.Core.Bool.{_&&_}
-use lib.Dec.{eqb, leb}
-use Rattle.topology.specs.Reader.{pick, orElse}
-use Rattle.embedding_laws.specs.Least.{searchFault, searchMap}
+use lib.Dec.{eqb}
+use Rattle.topology.specs.Reader.{pick}
+use Rattle.embedding_laws.specs.Least.{searchMap}
+use Rattle.pair_state.specs.Opening.{bothFault}
 use Rattle.places.specs.Places.{depth, parent, childNumber, roleOf}
 use Rattle.places.specs.declared.Role.{Role}
 use Rattle.places.specs.declared.Role.the-variants.{Plain, Image, Between, Unused}
+use Rattle.commands.specs.Gathering.{Given, gathered}
+use Rattle.commands.specs.declared.Ending.{Ending}
+use Rattle.commands.specs.declared.Ending.the-variants.{End, Refused, Compile}
 use Rattle.svg.specs.Template.{bytes}
 use Rattle.svg.specs.Elements.{head, limb, mark, join, note}
 
@@ -75,19 +79,25 @@ refusal number offset = head 64 ++ refusedEnd number offset
 unfoldable pub nothing : List ℕ
 nothing = head 64 ++ bytes "<text class=\"note\" x=\"200\" y=\"20\">nothing to draw</text>\n</svg>\n"
 
--- 17, for a packet limit that is 0 or above 256; else 0
-unfoldable pub limitFault : ℕ → ℕ
-limitFault limit = pick (leb 1 limit && leb limit 256) 0 17
-
--- The number by which an 04 is refused, tested for 1 to 5, 12, 17; 0: it is not.
-unfoldable pub compileFault : List ℕ → List ℕ → ℕ → ℕ
-compileFault source target limit = orElse (searchFault source target) (limitFault limit)
-
 -- The drawing of what the 04 at `offset` compiles: both trees with the least map; without a map, with refusal 12; with another refusal, that
 -- alone.
 unfoldable pub sheet : List ℕ → List ℕ → ℕ → ℕ → List ℕ
 sheet source target limit offset =
-    let number = compileFault source target limit in
+    let number = bothFault source target limit in
     let mapped = pairOf source target (take (length source) (searchMap source target)) ++ foot in
     let unmapped = pairOf source target [] ++ refusedEnd 12 offset in
     pick (eqb number 0) mapped (pick (eqb number 12) unmapped (refusal number offset))
+
+-- the limit that a script gave; 0 where it gave none
+abbrev pub limitIn : Option ℕ → ℕ
+limitIn none = 0
+limitIn (some n) = n
+
+abbrev pub sheetBy : Ending → Given → List ℕ
+sheetBy End g = nothing
+sheetBy (Refused n offset) g = refusal n offset
+sheetBy (Compile at next) g = sheet (g .source) (g .target) (limitIn (g .limit)) at
+
+-- The drawing of a script, by how the commands before 04 end: of what 04 compiles, of a refusal before it, or of nothing.
+unfoldable pub scriptSheet : List ℕ → List ℕ
+scriptSheet script = sheetBy (gathered script .ending) (gathered script)

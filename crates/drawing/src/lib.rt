@@ -1,6 +1,7 @@
 // Both trees of a pair and the map between them as one drawing in SVG: the source left, the chip right, a row for each node number and a
 // column for each step below the root.
-use embedding_search::search;
+use commands::Drawing;
+use commands::Ending;
 use places::Role;
 use places::child_number;
 use places::depth;
@@ -15,11 +16,10 @@ use text::put_word;
 use topology::wide;
 ghost use mathlib.Core.Path.{_≡_};
 ghost use Prim.Native.Nat.{_<_, _≤_, max};
-ghost use lib.ListN.{length};
-ghost use Rattle.topology.specs.Reader.{orElse};
+ghost use lib.ListN.{length, take};
 ghost use Rattle.text.specs.Text.{Puts};
 ghost use Rattle.svg.specs.Elements.{mark};
-ghost use Rattle.drawing.specs.Sheet.{className, column, row, limbOf, nodeOf, treeOf, joinOf, joinsOf, pairOf, refusedEnd, refusal, nothing, limitFault, sheet};
+ghost use Rattle.drawing.specs.Sheet.{className, column, row, limbOf, nodeOf, treeOf, joinOf, joinsOf, pairOf, refusedEnd, refusal, nothing, sheet, scriptSheet};
 
 const SOURCE_LEFT: usize = 40;
 
@@ -185,22 +185,6 @@ pub fn draw_nothing(out: &mut [u8], at: usize) -> usize
     )
 }
 
-// The number by which the command that compiles a pair is refused, from the search's number and the limit; 0: it is not.
-fn compile_refusal(number: u8, limit: usize) -> u8
-    ensures { λ r. ⌜ r ≡ orElse number (limitFault limit) ⌝ }
-{
-    if number != 0 {
-        return number;
-    }
-    if limit == 0 {
-        return 17;
-    }
-    if 256 < limit {
-        return 17;
-    }
-    0
-}
-
 // What the command at `offset` compiles, a source and a target with a packet limit: both trees with the least map between them; without a
 // map the trees and the refusal; with another refusal that alone.
 pub fn draw(
@@ -213,10 +197,11 @@ pub fn draw(
 ) -> usize
     ensures { λ r. ⌜ Puts (now (out .entry)) at (sheet (now (source .entry)) (now (target .entry)) limit offset) (now (out .exit)) r ⌝ }
 {
-    let found = search(source, target);
-    let number = compile_refusal(found.number, limit);
+    let both = pair_state::open(source, target, limit);
+    let number = both.refusal;
     if number == 0 {
-        let map = found.map;
+        let opened = both.pair;
+        let map = opened.map;
         let pair = put_pair(out, at, source, target, &map[..source.len()]);
         return put_word(out, pair, b"</svg>\n");
     }
@@ -225,4 +210,30 @@ pub fn draw(
         return put_refused(out, pair, 12, offset);
     }
     draw_refusal(number, offset, out, at)
+}
+
+// What the 04 at an offset compiles, for the drawings as a script's reader keeps them.
+fn draw_kept(drawing: Drawing, at: usize, out: &mut [u8]) -> usize
+    requires { ⌜ (drawing .nodes ≤ length (drawing .source)) × (drawing .places ≤ length (drawing .target)) ⌝ }
+    ensures { λ r. ⌜ Puts (now (out .entry)) 0 (sheet (take (drawing .nodes) (drawing .source)) (take (drawing .places) (drawing .target)) (drawing .limit) at) (now (out .exit)) r ⌝ }
+{
+    let source = drawing.source;
+    let nodes = drawing.nodes;
+    let target = drawing.target;
+    let places = drawing.places;
+    draw(&source[..nodes], &target[..places], drawing.limit as usize, at, out, 0)
+}
+
+// The drawing of a script: of what its 04 compiles, of a refusal before that, or of nothing.
+pub fn draw_script(script: &[u8], out: &mut [u8]) -> usize
+    ensures { λ r. ⌜ Puts (now (out .entry)) 0 (scriptSheet (now (script .entry))) (now (out .exit)) r ⌝ }
+{
+    let gathered = commands::gather(script);
+    let drawing = gathered.drawing;
+    let ending = gathered.ending;
+    match ending {
+        Ending::End => draw_nothing(out, 0),
+        Ending::Refused(number, offset) => draw_refusal(number, offset, out, 0),
+        Ending::Compile(at, _) => draw_kept(drawing, at, out),
+    }
 }

@@ -1,19 +1,9 @@
 // Gatewalk: runs a script over both trees. It reads the script from standard input, the first 65,536 bytes at most, and writes what the
 // script prints.
-const OUT: i32 = 1;
-const ERRORS: i32 = 2;
-
-// Writes a text; says so on standard error where it cannot all be written.
-fn print(text: &[u8]) {
-    if !io::write_all(OUT, text) {
-        io::write_all(ERRORS, b"gatewalk: cannot write all of the output\n");
-    }
-}
-
 fn walk(input: &mut [u8], text: &mut [u8]) {
     let n = io::read_full(0, input);
     let end = script::run(&input[..n], text);
-    print(&text[..end]);
+    stream::print(&text[..end]);
 }
 
 // The text fits: at most 13 bytes for each command, and 100 for a map (`output-fits` in script/proofs/Lengths).

@@ -1,5 +1,5 @@
 pub mod Examples
-pub mod Drawings
+pub mod Stopping
 pub mod Keeping
 pub mod Texts
 pub mod Opening

@@ -18,7 +18,8 @@ use Rattle.lines.specs.Lines.{noLine, mapLine}
 use Rattle.text.proofs.Writing.{puts-then}
 use Rattle.script.specs.Sheet.{serving}
 use Rattle.script.specs.Parts.{textAt, openingText}
-use Rattle.script.proofs.Drawings.{both-kept, both-whole, both-few, stops-opening, map-room}
+use Rattle.pair_state.proofs.Kept.{both-kept, both-whole, both-few, map-room}
+use Rattle.script.proofs.Stopping.{stops-opening}
 
 module _ (script : List ℕ) where
   refused-text : (s t : List ℕ) (n at next f : ℕ) → f ≡ bothFault s t n → f ≢ 0 → openingText script s t n at next ≡ noLine f at

@@ -5,41 +5,33 @@ use lib.Seq.{length-take-le}
 use denote.Ref.{now}
 use native.Mathlib.Omega.{arith}
 use Rattle.text.proofs.Writing.{puts-as, puts-then}
-use Rattle.drawing.proofs.Sheets.{compiled, small, map-room, sheet-mapped, sheet-unmapped, sheet-refused}
+use Rattle.pair_state.proofs.Kept.{map-room}
+use Rattle.drawing.proofs.Sheets.{small, sheet-mapped, sheet-unmapped, sheet-refused}
 use borrow.Author.Needs.{needs}
 use Rattle.drawing.proofs.draw.Statement.{statement}
 use Rattle.drawing.proofs.draw.Tie as tie
 
-search-requires : tie.Need-search-requires
-search-requires c κs = search needs
-
-compile-refusal-requires : tie.Need-compile-refusal-requires
-compile-refusal-requires c κs = search needs
+open-requires : tie.Need-open-requires
+open-requires c κs = search needs
 
 array-share-prefix-map : tie.Need-array-share-prefix-map
 array-share-prefix-map c =
-    let found = c .before .before .before .before in
-    let args = found .before .before .before .before .args in
-    let e = compiled (now (args .source)) (now (args .target)) _ _ _ (found .search .ensures .0) (c .before .before .before .compile-refusal .ensures) in
-    let fits = small _ _ _ _ e (λ h. c .before .before .if1 .taken) in
-    omega (arith, fits .source-fits, map-room _ _ _ (found .search .ensures .1))
+    let both = c .before .before .before .before in
+    let fits = small _ _ _ _ (both .«open» .ensures .refusal) (λ h. c .before .before .before .if1 .taken) in
+    omega (arith, fits .source-fits, map-room _ _ _ (both .«open» .ensures .map))
 
 slice-aggregate-put-pair : tie.Need-slice-aggregate-put-pair
 slice-aggregate-put-pair c =
-    let found = c .before .before .before .before .before in
-    let args = found .before .before .before .before .args in
-    let e = compiled (now (args .source)) (now (args .target)) _ _ _ (found .search .ensures .0) (c .before .before .before .before .compile-refusal .ensures) in
-    let fits = small _ _ _ _ e (λ h. c .before .before .before .if1 .taken) in
-    sym (length-take-le _ _ (omega (arith, fits .source-fits, map-room _ _ _ (found .search .ensures .1))))
+    let both = c .before .before .before .before .before in
+    let fits = small _ _ _ _ (both .«open» .ensures .refusal) (λ h. c .before .before .before .before .if1 .taken) in
+    sym (length-take-le _ _ (omega (arith, fits .source-fits, map-room _ _ _ (both .«open» .ensures .map))))
 
 put-pair-requires : tie.Need-put-pair-requires
 put-pair-requires c κs =
-    let found = c .before .before .before .before .before in
-    let args = found .before .before .before .before .args in
-    let source = now (args .source) in
-    let e = compiled source (now (args .target)) _ _ _ (found .search .ensures .0) (c .before .before .before .before .compile-refusal .ensures) in
-    let fits = small _ _ _ _ e (λ h. c .before .before .before .if1 .taken) in
-    (omega (arith, fits .source-fits), fits .target-fits, omega (arith, fits .source-fits, length-take (length source) (found .search .result .map)))
+    let both = c .before .before .before .before .before in
+    let source = now (both .before .before .before .before .args .source) in
+    let fits = small _ _ _ _ (both .«open» .ensures .refusal) (λ h. c .before .before .before .before .if1 .taken) in
+    (omega (arith, fits .source-fits), fits .target-fits, omega (arith, fits .source-fits, length-take (length source) (both .«open» .result .pair .map)))
 
 slice-aggregate-put-word : tie.Need-slice-aggregate-put-word
 slice-aggregate-put-word c = search needs
@@ -54,11 +46,9 @@ returns : tie.Need-returns
 returns c =
     let end = c .before .before in
     let pair = end .before .before .before .before .before in
-    let tested = pair .before .before .before .before in
-    let found = tested .before .before in
-    let args = found .before .before .before .before .args in
-    let e = compiled (now (args .source)) (now (args .target)) _ _ _ (found .search .ensures .0) (tested .before .compile-refusal .ensures) in
-    puts-as (sheet-mapped _ _ _ _ e _ (tested .if1 .taken) _ (found .search .ensures .1))
+    let tested = pair .before .before .before .before .before in
+    let both = tested .before in
+    puts-as (sheet-mapped _ _ _ _ (both .«open» .ensures .refusal) _ (tested .if1 .taken) _ (both .«open» .ensures .map))
     (puts-then (pair .put-pair .ensures) (end .put-word .ensures))
 
 slice-aggregate-put-pair-2 : tie.Need-slice-aggregate-put-pair-2
@@ -66,10 +56,8 @@ slice-aggregate-put-pair-2 c = search needs
 
 put-pair-requires-2 : tie.Need-put-pair-requires-2
 put-pair-requires-2 c κs =
-    let found = c .before .before .before .before .before in
-    let args = found .before .before .before .before .args in
-    let e = compiled (now (args .source)) (now (args .target)) _ _ _ (found .search .ensures .0) (c .before .before .before .before .compile-refusal .ensures) in
-    let fits = small _ _ _ _ e (λ h. absurd (omega (arith, c .before .before .if2 .taken))) in
+    let both = c .before .before .before .before in
+    let fits = small _ _ _ _ (both .«open» .ensures .refusal) (λ h. absurd (omega (arith, c .before .before .if2 .taken))) in
     (omega (arith, fits .source-fits), fits .target-fits, omega arith)
 
 put-refused-requires : tie.Need-put-refused-requires
@@ -83,10 +71,8 @@ returns-2 c =
     let end = c .before .before in
     let pair = end .before .before .before .before in
     let twelve = pair .before .before .before in
-    let found = twelve .before .before .before in
-    let args = found .before .before .before .before .args in
-    let e = compiled (now (args .source)) (now (args .target)) _ _ _ (found .search .ensures .0) (twelve .before .before .compile-refusal .ensures) in
-    puts-as (sheet-unmapped _ _ _ _ e _ (twelve .if2 .taken)) (puts-then (pair .put-pair2 .ensures) (end .put-refused .ensures))
+    let both = twelve .before .before in
+    puts-as (sheet-unmapped _ _ _ _ (both .«open» .ensures .refusal) _ (twelve .if2 .taken)) (puts-then (pair .put-pair2 .ensures) (end .put-refused .ensures))
 
 draw-refusal-requires : tie.Need-draw-refusal-requires
 draw-refusal-requires c κs = search needs
@@ -98,17 +84,14 @@ returns-3 : tie.Need-returns-3
 returns-3 c =
     let end = c .before .before in
     let other = end .before .before in
-    let found = other .before .before .before in
-    let args = found .before .before .before .before .args in
-    let e = compiled (now (args .source)) (now (args .target)) _ _ _ (found .search .ensures .0) (other .before .before .compile-refusal .ensures) in
-    puts-as (sheet-refused _ _ _ _ e _ (other .before .if1 .left) (other .if2 .left)) (end .draw-refusal .ensures)
+    let both = other .before .before in
+    puts-as (sheet-refused _ _ _ _ (both .«open» .ensures .refusal) _ (other .before .if1 .left) (other .if2 .left)) (end .draw-refusal .ensures)
 
 pub draw-spec : {M : Type 1} → statement M
 draw-spec =
     tie.close
     (tie.spec
-    search-requires
-    compile-refusal-requires
+    open-requires
     array-share-prefix-map
     slice-aggregate-put-pair
     put-pair-requires

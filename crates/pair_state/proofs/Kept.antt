@@ -1,23 +1,18 @@
 -- A drawing that is longer than a tree may be need not be kept whole: one byte more than the limit has the same fault, and where it has
--- none it is whole. And after a fault of an opening a script stops.
+-- none it is whole. And the map of an opening has a place for each node.
 use mathlib.Core.Path.{_≡_, refl}
-use mathlib.Core.Logic.{_⊎_, inl, inr}
 use Prim.Native.Nat.{ℕ, zero, suc, _+_, _-_, _≤_}
 use native.Mathlib.Omega.{arith}
 use mathlib.Core.List.{List, [], _∷_}
-use mathlib.Core.Bool.{Bool, true, false, not, _&&_}
 use lib.ListN.{length, take, replicate, length-append, length-replicate}
 use lib.Seq.{take-all}
-use lib.Dec.{leb}
-use borrow.Author.Tests.{lt-leb}
-use Rattle.topology.specs.Reader.{pick, orElse, faultAt, faultFrom, fault, after}
+use Rattle.topology.specs.Reader.{orElse, faultAt, faultFrom, fault, after}
 use Rattle.topology.proofs.Reader.{sound}
 use Rattle.topology.proofs.Lookup.{valid-length}
-use Rattle.topology.proofs.Refusals.{orElse-none, fault-most}
+use Rattle.topology.proofs.Refusals.{orElse-none}
 use Rattle.embedding_laws.specs.Least.{Found, nothing, list, noneFault, leastMap, searchFault, padded, unlessRefused, searchMap}
 use Rattle.queue_state.specs.Opening.{limitFault}
 use Rattle.pair_state.specs.Opening.{bothFault}
-use Rattle.script.specs.Sheet.{no-by, stops}
 
 -- what comes after matters only where the first is 0
 orElse-same : (f r s : ℕ) → (f ≡ 0 → r ≡ s) → orElse f r ≡ orElse f s
@@ -35,7 +30,7 @@ fault-kept : (limit : ℕ) (bytes : List ℕ) → fault limit (take (suc limit) 
 unfolding fault
 fault-kept limit bytes = fault-part limit 0 (suc limit) (1 ∷ []) bytes (omega arith) (omega arith)
 
-whole : (limit : ℕ) (bytes : List ℕ) → fault limit bytes ≡ 0 → take (suc limit) bytes ≡ bytes
+pub whole : (limit : ℕ) (bytes : List ℕ) → fault limit bytes ≡ 0 → take (suc limit) bytes ≡ bytes
 whole limit bytes e = take-all (suc limit) bytes (omega (arith, valid-length limit bytes e))
 
 search-kept : (s t : List ℕ) → searchFault (take 33 s) (take 65 t) ≡ searchFault s t
@@ -64,41 +59,6 @@ module _ (s t : List ℕ) (limit : ℕ) where
       let f = orElse-none (searchFault s t) (limitFault limit) e .0 in
       let g = orElse-none (fault 32 s) (orElse (fault 64 t) (noneFault (leastMap s t))) f in
       valid-length 32 s (g .0)
-
--- a number that is not 13 to 16
-abbrev Beside : ℕ → Type 0
-Beside f = (f ≤ 12) ⊎ (17 ≤ f)
-
-beside-or : (f g : ℕ) → Beside f → Beside g → Beside (orElse f g)
-beside-or zero g h k = k
-beside-or (suc f) g h k = h
-
-beside-pick : (b : Bool) (f g : ℕ) → Beside f → Beside g → Beside (pick b f g)
-beside-pick true f g h k = h
-beside-pick false f g h k = k
-
-beside-fault : (limit : ℕ) (bytes : List ℕ) → Beside (fault limit bytes)
-beside-fault limit bytes = inl (omega (arith, fault-most limit bytes))
-
-beside-none : (f : Found) → Beside (noneFault f)
-beside-none nothing = inl (omega arith)
-beside-none (list m) = inl (omega arith)
-
-stops-beside : (f : ℕ) → Beside f → stops (no-by f) ≡ true
-stops-beside f (inl h) = simp (lt-leb 13 f (omega arith))
-stops-beside f (inr h) = by-test (leb 13 f)
-  where
-    by-test : (b : Bool) → not (b && leb f 16) ≡ true
-    by-test true = simp (lt-leb f 16 (omega arith))
-    by-test false = refl
-
-pub stops-opening : (s t : List ℕ) (limit : ℕ) → stops (no-by (bothFault s t limit)) ≡ true
-unfolding bothFault searchFault
-stops-opening s t limit =
-    stops-beside _
-    (beside-or (searchFault s t) (limitFault limit)
-    (beside-or (fault 32 s) _ (beside-fault 32 s) (beside-or (fault 64 t) _ (beside-fault 64 t) (beside-none (leastMap s t))))
-    (beside-pick (leb 1 limit && leb limit 256) 0 17 (inl (omega arith)) (inr (omega arith))))
 
 -- the map that comes back has a place for each of 32 nodes
 pub map-room : (s t m : List ℕ) → m ≡ searchMap s t → 32 ≤ length m

@@ -1,0 +1,71 @@
+-- `draw_script` meets its contract, by how the commands before 04 end.
+use mathlib.Core.Path.{sym, _∙_}
+use borrow.Author.Needs.{needs}
+use Rattle.text.proofs.Writing.{puts-as, puts-length}
+use Rattle.commands.proofs.Keeping.{kept-fits}
+use Rattle.drawing.proofs.Sheets.{ends-with-script, ends-refused, ends-compiled}
+use borrow.Author.Needs.{needs}
+use Rattle.drawing.proofs.draw_script.Statement.{statement}
+use Rattle.drawing.proofs.draw_script.Tie as tie
+
+gather-requires : tie.Need-gather-requires
+gather-requires c κs = search needs
+
+enum-told : tie.Need-enum-told
+enum-told c = search needs
+
+draw-nothing-requires : tie.Need-draw-nothing-requires
+draw-nothing-requires c κs = search needs
+
+enum-known-ending : tie.Need-enum-known-ending
+enum-known-ending c = search needs
+
+draw-refusal-requires : tie.Need-draw-refusal-requires
+draw-refusal-requires c κs = search needs
+
+enum-known-ending-2 : tie.Need-enum-known-ending-2
+enum-known-ending-2 c = search needs
+
+draw-kept-requires : tie.Need-draw-kept-requires
+draw-kept-requires c κs = search needs
+
+same-length : tie.Need-same-length
+same-length c = search needs
+
+returns : tie.Need-returns
+returns c = puts-as (ends-with-script _ (sym (c .before .before .before .before .before .before .before .gather .ensures .ending) ∙ c .before .before .before .before .enum-told .given .1)) (c .before .before .draw-nothing .ensures)
+
+same-length-2 : tie.Need-same-length-2
+same-length-2 c = search needs
+
+returns-2 : tie.Need-returns-2
+returns-2 c =
+    puts-as (ends-refused _ _ _ (sym (c .before .before .before .before .before .before .before .before .gather .ensures .ending) ∙ c .before .before .before .before .before .ending .given .1))
+    (c .before .before .draw-refusal .ensures)
+
+same-length-3 : tie.Need-same-length-3
+same-length-3 c = search needs
+
+returns-3 : tie.Need-returns-3
+returns-3 c =
+    let gathered = c .before .before .before .before .before .before .before .before .gather .ensures in
+    puts-as (ends-compiled _ _ _ _ (gathered .draws) (sym (gathered .ending) ∙ c .before .before .before .before .before .ending2 .given .1))
+    (c .before .before .draw-kept .ensures)
+
+pub draw-script-spec : {M : Type 1} → statement M
+draw-script-spec =
+    tie.close
+    (tie.spec
+    gather-requires
+    enum-told
+    draw-nothing-requires
+    enum-known-ending
+    draw-refusal-requires
+    enum-known-ending-2
+    draw-kept-requires
+    same-length
+    returns
+    same-length-2
+    returns-2
+    same-length-3
+    returns-3)

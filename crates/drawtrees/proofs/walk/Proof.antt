@@ -1,0 +1,55 @@
+-- What `draw_script` wrote lies within the buffer.
+use mathlib.Core.Path.{sym}
+use native.Mathlib.Omega.{arith}
+use lib.Seq.{length-take-le}
+use Rattle.text.proofs.Writing.{puts-length}
+use borrow.Author.Needs.{needs}
+use Rattle.drawtrees.proofs.walk.Statement.{statement}
+use Rattle.drawtrees.proofs.walk.Tie as tie
+
+read-full-requires : tie.Need-read-full-requires
+read-full-requires c κs = search needs
+
+slice-reshare-prefix-draw-script : tie.Need-slice-reshare-prefix-draw-script
+slice-reshare-prefix-draw-script c = search needs
+
+slice-aggregate-draw-script : tie.Need-slice-aggregate-draw-script
+slice-aggregate-draw-script c = search needs
+
+draw-script-requires : tie.Need-draw-script-requires
+draw-script-requires c κs = search needs
+
+slice-reshare-prefix-print : tie.Need-slice-reshare-prefix-print
+slice-reshare-prefix-print c = search needs
+
+slice-aggregate-print : tie.Need-slice-aggregate-print
+slice-aggregate-print c =
+    let puts = c .before .before .before .draw-script .ensures in
+    sym (length-take-le _ _ (omega (arith, puts .next, puts-length puts)))
+
+print-requires : tie.Need-print-requires
+print-requires c κs = search needs
+
+same-length : tie.Need-same-length
+same-length c = search needs
+
+same-length-2 : tie.Need-same-length-2
+same-length-2 c = search needs
+
+returns : tie.Need-returns
+returns c = search needs
+
+pub walk-spec : {M : Type 1} → statement M
+walk-spec =
+    tie.close
+    (tie.spec
+    read-full-requires
+    slice-reshare-prefix-draw-script
+    slice-aggregate-draw-script
+    draw-script-requires
+    slice-reshare-prefix-print
+    slice-aggregate-print
+    print-requires
+    same-length
+    same-length-2
+    returns)
