@@ -1,4 +1,4 @@
-//! Starts the program gatewalk and sends a script down its pipe.
+//! Starts the program gatewalk, or drawtrees, and sends a script down its pipe.
 
 use std::io::{self, ErrorKind, Read, Write};
 use std::path::{Path, PathBuf};
@@ -13,11 +13,24 @@ pub fn walk(script: &[u8]) -> Vec<u8> {
 
 /// What gatewalk prints for a script that `write` sends as it likes.
 pub fn walk_slowly(write: impl FnOnce(&mut dyn Write) -> io::Result<()> + Send) -> Vec<u8> {
-    let mut child = Command::new(program())
+    output_of(program(), write)
+}
+
+/// What drawtrees prints for a script.
+pub fn drawn(script: &[u8]) -> Vec<u8> {
+    let program = Path::new(env!("CARGO_MANIFEST_DIR")).join("../target/bin/drawtrees");
+    output_of(there(program), |input| input.write_all(script))
+}
+
+fn output_of(
+    program: PathBuf,
+    write: impl FnOnce(&mut dyn Write) -> io::Result<()> + Send,
+) -> Vec<u8> {
+    let mut child = Command::new(program)
         .stdin(Stdio::piped())
         .stdout(Stdio::piped())
         .spawn()
-        .expect("gatewalk starts");
+        .expect("the program starts");
     let mut input = child.stdin.take().expect("a pipe");
     let mut output = child.stdout.take().expect("a pipe");
     let mut printed = Vec::new();
@@ -31,7 +44,7 @@ pub fn walk_slowly(write: impl FnOnce(&mut dyn Write) -> io::Result<()> + Send) 
         output.read_to_end(&mut printed).expect("what it prints");
     });
     let status = child.wait().expect("it was started");
-    assert!(status.success(), "gatewalk: {status}");
+    assert!(status.success(), "{status}");
     printed
 }
 
@@ -78,13 +91,16 @@ pub fn end(script: &[u8], streams: &str, taken: u64) -> (ExitStatus, String) {
 
 /// The program, or another in its place.
 pub fn program() -> PathBuf {
-    let program = match env::var_os("LINDUVAR_GATEWALK") {
+    there(match env::var_os("LINDUVAR_GATEWALK") {
         Some(path) => PathBuf::from(path),
         None => Path::new(env!("CARGO_MANIFEST_DIR")).join("../target/bin/gatewalk"),
-    };
+    })
+}
+
+fn there(program: PathBuf) -> PathBuf {
     assert!(
         program.is_file(),
-        "{} is missing; run `rt check gatewalk` first",
+        "{} is missing; run `rt check` first",
         program.display()
     );
     program

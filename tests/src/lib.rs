@@ -5,6 +5,7 @@
 
 pub mod both_trees;
 pub mod commands;
+pub mod drawing;
 pub mod embedding;
 pub mod gatewalk;
 pub mod generate;

@@ -166,7 +166,7 @@ fn put_refused(out: &mut [u8], at: usize, number: u8, offset: usize) -> usize
 }
 
 // A refusal alone: its number, and the offset of the command refused.
-pub fn draw_refusal(number: u8, offset: usize, out: &mut [u8], at: usize) -> usize
+fn draw_refusal(number: u8, offset: usize, out: &mut [u8], at: usize) -> usize
     ensures { λ r. ⌜ Puts (now (out .entry)) at (refusal number offset) (now (out .exit)) r ⌝ }
 {
     let head = put_head(out, at, 64);
@@ -174,7 +174,7 @@ pub fn draw_refusal(number: u8, offset: usize, out: &mut [u8], at: usize) -> usi
 }
 
 // A script that ends before there is a pair.
-pub fn draw_nothing(out: &mut [u8], at: usize) -> usize
+fn draw_nothing(out: &mut [u8], at: usize) -> usize
     ensures { λ r. ⌜ Puts (now (out .entry)) at nothing (now (out .exit)) r ⌝ }
 {
     let head = put_head(out, at, 64);
@@ -187,7 +187,7 @@ pub fn draw_nothing(out: &mut [u8], at: usize) -> usize
 
 // What the command at `offset` compiles, a source and a target with a packet limit: both trees with the least map between them; without a
 // map the trees and the refusal; with another refusal that alone.
-pub fn draw(
+fn draw(
     source: &[u8],
     target: &[u8],
     limit: usize,
@@ -221,7 +221,14 @@ fn draw_kept(drawing: Drawing, at: usize, out: &mut [u8]) -> usize
     let nodes = drawing.nodes;
     let target = drawing.target;
     let places = drawing.places;
-    draw(&source[..nodes], &target[..places], drawing.limit as usize, at, out, 0)
+    draw(
+        &source[..nodes],
+        &target[..places],
+        drawing.limit as usize,
+        at,
+        out,
+        0,
+    )
 }
 
 // The drawing of a script: of what its 04 compiles, of a refusal before that, or of nothing.

@@ -1,7 +1,7 @@
 // Many calls of the queue tree at once, for the benchmark in `tests/`. A state crosses as plain numbers.
 use plain_state::PlainState;
-use queue_state::State;
 use queue_push::Path;
+use queue_state::State;
 ghost use mathlib.Core.Path.{_≡_};
 ghost use Rattle.plain_state.specs.Plain.{stateOf, Written};
 ghost use Rattle.exports_bench.specs.Churn.{inTurn, Rounded, Churned};

@@ -1,7 +1,7 @@
 // Pushes and pops of a queue tree for a program in C or Rust: what `tests/` links and compares. A state crosses as plain numbers.
 use plain_state::PlainState;
-use queue_push::Path;
 use queue_pop::PopAnswer;
+use queue_push::Path;
 use queue_push::PushAnswer;
 ghost use mathlib.Core.Path.{_≡_};
 ghost use Rattle.pifo.specs.Machine.{pushing, popping, numberOf};

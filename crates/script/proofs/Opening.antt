@@ -58,7 +58,7 @@ module _ (a t : List ℕ) (i n : ℕ) (h : i ≤ length a) (r : PairOpened) (w :
   unfolding openingText
   opened-text script at next =
       let e : openingText script (take i a) t n at next
-          ≡ mapLine (take (length (take i a)) (searchMap (take i a) t)) ++ textAt script next (serving (opened (tree (take i a)) n) []) = rw fault refl in
+      ≡ mapLine (take (length (take i a)) (searchMap (take i a) t)) ++ textAt script next (serving (opened (tree (take i a)) n) []) = rw fault refl in
       e ∙ rw (length-take-le i a h, w .map, w .drawn z) refl
 
   pub opened-puts : (script : List ℕ) (at next : ℕ) (before mid after : List ℕ) (end place : ℕ) → Puts before 0 (mapLine (take i (r .pair .map))) mid end

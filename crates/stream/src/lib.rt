@@ -1,5 +1,6 @@
 // A program's text to standard output.
 const OUT: i32 = 1;
+
 const ERRORS: i32 = 2;
 
 // Writes a text; says so on standard error where it cannot all be written.
