@@ -15,7 +15,7 @@ use Rattle.embedding_laws.specs.Least.{noneFault, leastMap, searchFault, search
 use Rattle.queue_state.specs.Opening.{limitFault}
 use Rattle.pair_state.specs.Opening.{bothFault}
 use Rattle.pair_state.proofs.Kept.{whole, both-kept}
-use Rattle.commands.specs.Gathering.{Given, gathered, limitOf, Draws}
+use Rattle.commands.specs.Gathering.{gathered, limitOf, Draws}
 use Rattle.commands.specs.declared.Drawing.{Drawing}
 use Rattle.commands.specs.declared.Ending.{Ending}
 use Rattle.commands.specs.declared.Ending.the-variants.{End, Refused, Compile}

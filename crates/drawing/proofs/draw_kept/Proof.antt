@@ -1,8 +1,6 @@
 -- `draw_kept` meets its contract: what is kept lies within the arrays.
 use mathlib.Core.Path.{sym}
-use borrow.Author.Needs.{needs}
 use lib.Seq.{length-take-le}
-use Rattle.text.proofs.Writing.{puts-length}
 use borrow.Author.Needs.{needs}
 use Rattle.drawing.proofs.draw_kept.Statement.{statement}
 use Rattle.drawing.proofs.draw_kept.Tie as tie

@@ -1,8 +1,6 @@
 -- `draw_script` meets its contract, by how the commands before 04 end.
 use mathlib.Core.Path.{sym, _∙_}
-use borrow.Author.Needs.{needs}
-use Rattle.text.proofs.Writing.{puts-as, puts-length}
-use Rattle.commands.proofs.Keeping.{kept-fits}
+use Rattle.text.proofs.Writing.{puts-as}
 use Rattle.drawing.proofs.Sheets.{ends-with-script, ends-refused, ends-compiled}
 use borrow.Author.Needs.{needs}
 use Rattle.drawing.proofs.draw_script.Statement.{statement}
@@ -33,14 +31,17 @@ same-length : tie.Need-same-length
 same-length c = search needs
 
 returns : tie.Need-returns
-returns c = puts-as (ends-with-script _ (sym (c .before .before .before .before .before .before .before .gather .ensures .ending) ∙ c .before .before .before .before .enum-told .given .1)) (c .before .before .draw-nothing .ensures)
+returns c =
+    let told = c .before .before .before .before in
+    puts-as (ends-with-script _ (sym (told .before .before .before .gather .ensures .ending) ∙ told .enum-told .given .1)) (c .before .before .draw-nothing .ensures)
 
 same-length-2 : tie.Need-same-length-2
 same-length-2 c = search needs
 
 returns-2 : tie.Need-returns-2
 returns-2 c =
-    puts-as (ends-refused _ _ _ (sym (c .before .before .before .before .before .before .before .before .gather .ensures .ending) ∙ c .before .before .before .before .before .ending .given .1))
+    let told = c .before .before .before .before .before in
+    puts-as (ends-refused _ _ _ (sym (told .before .before .before .gather .ensures .ending) ∙ told .ending .given .1))
     (c .before .before .draw-refusal .ensures)
 
 same-length-3 : tie.Need-same-length-3
@@ -48,8 +49,9 @@ same-length-3 c = search needs
 
 returns-3 : tie.Need-returns-3
 returns-3 c =
-    let gathered = c .before .before .before .before .before .before .before .before .gather .ensures in
-    puts-as (ends-compiled _ _ _ _ (gathered .draws) (sym (gathered .ending) ∙ c .before .before .before .before .before .ending2 .given .1))
+    let told = c .before .before .before .before .before in
+    let gathered = told .before .before .before .gather .ensures in
+    puts-as (ends-compiled _ _ _ _ (gathered .draws) (sym (gathered .ending) ∙ told .ending2 .given .1))
     (c .before .before .draw-kept .ensures)
 
 pub draw-script-spec : {M : Type 1} → statement M
