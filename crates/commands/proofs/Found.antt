@@ -9,14 +9,12 @@ use lib.ListN.{length, drop}
 use lib.Dec.{eqb, leb}
 use borrow.Author.Tests.{leb-true, leb-false}
 use Rattle.topology.specs.Reader.{pick}
+use Rattle.topology.proofs.Cases.{clash}
 use Rattle.commands.specs.declared.Command.{Command}
 use Rattle.commands.specs.declared.Read.{Read}
 use Rattle.commands.specs.declared.Read.the-variants.{End, Next, Refused}
 use Rattle.commands.specs.Reading.{sized, commandBy, commandOf, readAt}
 use Rattle.commands.proofs.Numbers.{read-end}
-
-pub clash : {A : Type 0} → _≡_ {A = ℕ} 0 1 → A
-clash e = absurd (omega arith)
 
 module _ (P : Read → Type 0) (at : ℕ) (command : (c : Command) (size : ℕ) → 0 < size → P (Next c (at + size)))
     (refusal : (n : ℕ) → n ≤ 21 → P (Refused n at)) where
@@ -51,14 +49,14 @@ module _ (P : Read → Type 0) (at : ℕ) (command : (c : Command) (size : ℕ) 
 pub further : (script : List ℕ) (at : ℕ) (c : Command) (next : ℕ) → readAt script at ≡ Next c next → at < next
 further script at =
     read-all (λ r. (c : Command) (next : ℕ) → r ≡ Next c next → at < next) at
-    (λ d size h c next e. let f : next ≡ at + size = cc in omega arith) (λ n h c next e. clash (cc)) script (λ c next e. clash (cc))
+    (λ d size h c next e. let f : next ≡ at + size = cc in omega arith) (λ n h c next e. absurd (clash (cc))) script (λ c next e. absurd (clash (cc)))
 
 -- a refusal is 20 or 21, at the offset
 pub told : (script : List ℕ) (at n offset : ℕ) → readAt script at ≡ Refused n offset → (n ≤ 21) × (offset ≡ at)
 told script at =
     read-all (λ r. (n offset : ℕ) → r ≡ Refused n offset → (n ≤ 21) × (offset ≡ at)) at
-    (λ c size h n offset e. clash (cc))
-    (λ m h n offset e. let f : n ≡ m = cc in let g : offset ≡ at = cc in (omega arith, g)) script (λ n offset e. clash (cc))
+    (λ c size h n offset e. absurd (clash (cc)))
+    (λ m h n offset e. let f : n ≡ m = cc in let g : offset ≡ at = cc in (omega arith, g)) script (λ n offset e. absurd (clash (cc)))
 
 -- where the reader finds anything but the end, the script has not ended
 inside : (script : List ℕ) (at : ℕ) (r : Read) → readAt script at ≡ r → (r ≡ End → ⊥) → at < length script
@@ -69,7 +67,7 @@ inside script at r e h = by-test (leb (length script) at) refl
     by-test false t = leb-false _ _ t
 
 pub next-inside : (script : List ℕ) (at : ℕ) (c : Command) (next : ℕ) → readAt script at ≡ Next c next → at < length script
-next-inside script at c next e = inside script at (Next c next) e (λ f. clash (cc))
+next-inside script at c next e = inside script at (Next c next) e (λ f. absurd (clash (cc)))
 
 pub refused-inside : (script : List ℕ) (at n offset : ℕ) → readAt script at ≡ Refused n offset → at < length script
-refused-inside script at n offset e = inside script at (Refused n offset) e (λ f. clash (cc))
+refused-inside script at n offset e = inside script at (Refused n offset) e (λ f. absurd (clash (cc)))

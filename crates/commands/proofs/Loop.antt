@@ -19,7 +19,8 @@ use Rattle.commands.specs.Reading.{readAt}
 use Rattle.commands.specs.Gathering.{Given, ended, gatherBy, gatherFrom, gathered, limitOf, Draws, Gathers}
 use Rattle.commands.specs.Turns.{turnOf, foundBy, Undrawn, given}
 use Rattle.commands.proofs.Numbers.{read-end}
-use Rattle.commands.proofs.Found.{clash, further, next-inside}
+use Rattle.topology.proofs.Cases.{clash}
+use Rattle.commands.proofs.Found.{further, next-inside}
 use Rattle.commands.proofs.Keeping.{undrawn, draws-source, draws-target, draws-limit}
 
 -- a command that gives something: what is gathered then
@@ -36,8 +37,8 @@ module _ (at : ℕ) (s t : List ℕ) (l : Option ℕ) (d : Drawing) (w : Draws d
   limit-is b q = rw (← q) (w .limit)
 
   gives-on : (c : Command) (next : ℕ) (r : Read) → foundBy r at (d .limited) ≡ Gives c next → On r at s t l d c next
-  gives-on c next End e = clash (cc)
-  gives-on c next (Refused n offset) e = clash (cc)
+  gives-on c next End e = absurd (clash (cc))
+  gives-on c next (Refused n offset) e = absurd (clash (cc))
   gives-on c next (Next (Source b) after) e =
       let q : c ≡ Source b = cc in
       let p : after ≡ next = cc in
@@ -49,7 +50,7 @@ module _ (at : ℕ) (s t : List ℕ) (l : Option ℕ) (d : Drawing) (w : Draws d
   gives-on c next (Next (Limit n) after) e = by-limit (d .limited) refl e
     where
       by-limit : (b : Bool) → d .limited ≡ b → turnOf b at (Limit n) after ≡ Gives c next → On (Next (Limit n) after) at s t l d c next
-      by-limit true f e = clash (cc)
+      by-limit true f e = absurd (clash (cc))
       by-limit false f e =
           let q : c ≡ Limit n = cc in
           let p : after ≡ next = cc in
@@ -64,23 +65,23 @@ module _ (at : ℕ) (s t : List ℕ) (l : Option ℕ) (d : Drawing) (w : Draws d
   gives-on c next (Next Compile after) e = by-limit (d .limited) e
     where
       by-limit : (b : Bool) → turnOf b at Compile after ≡ Gives c next → On (Next Compile after) at s t l d c next
-      by-limit true e = clash (cc)
-      by-limit false e = clash (cc)
-  gives-on c next (Next (Step i x) after) e = clash (cc)
-  gives-on c next (Next (Push p x) after) e = clash (cc)
-  gives-on c next (Next Pop after) e = clash (cc)
+      by-limit true e = absurd (clash (cc))
+      by-limit false e = absurd (clash (cc))
+  gives-on c next (Next (Step i x) after) e = absurd (clash (cc))
+  gives-on c next (Next (Push p x) after) e = absurd (clash (cc))
+  gives-on c next (Next Pop after) e = absurd (clash (cc))
 
   ends-at : (g : Ending) (r : Read) (more : ℕ → List ℕ → List ℕ → Option ℕ → Given) → foundBy r at (d .limited) ≡ Ends g
       → gatherBy r at s t l more ≡ ended s t l g
   ends-at g End more e = let q : g ≡ AtEnd = cc in rw q refl
   ends-at g (Refused n offset) more e = let q : g ≡ AtRefusal n offset = cc in rw q refl
-  ends-at g (Next (Source b) after) more e = clash (cc)
-  ends-at g (Next (Target b) after) more e = clash (cc)
+  ends-at g (Next (Source b) after) more e = absurd (clash (cc))
+  ends-at g (Next (Target b) after) more e = absurd (clash (cc))
   ends-at g (Next (Limit n) after) more e = by-limit (d .limited) refl e
     where
       by-limit : (b : Bool) → d .limited ≡ b → turnOf b at (Limit n) after ≡ Ends g → gatherBy (Next (Limit n) after) at s t l more ≡ ended s t l g
       by-limit true f e = let q : g ≡ AtRefusal 22 at = cc in rw (← limit-is true f, q) refl
-      by-limit false f e = clash (cc)
+      by-limit false f e = absurd (clash (cc))
   ends-at g (Next Compile after) more e = by-limit (d .limited) refl e
     where
       by-limit : (b : Bool) → d .limited ≡ b → turnOf b at Compile after ≡ Ends g → gatherBy (Next Compile after) at s t l more ≡ ended s t l g

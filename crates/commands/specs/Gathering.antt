@@ -62,7 +62,7 @@ pub record Draws (d : Drawing) (s t : List ℕ) (l : Option ℕ) : Type 0 where
   pub target : Kept (d .target) (d .places) 65 t
   pub limit : limitOf (d .limited) (d .limit) ≡ l
 
--- how the code has all that is gathered
+-- How the code has all that is gathered. Left free is what stands past the counts of the two arrays, and the number where no limit is given.
 pub record Gathers (g : Given) (r : Gathered) : Type 0 where
   pub draws : Draws (r .drawing) (g .source) (g .target) (g .limit)
   pub ending : r .ending ≡ g .ending

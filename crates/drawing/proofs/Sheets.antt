@@ -19,7 +19,7 @@ use Rattle.commands.specs.Gathering.{gathered, limitOf, Draws}
 use Rattle.commands.specs.declared.Drawing.{Drawing}
 use Rattle.commands.specs.declared.Ending.{Ending}
 use Rattle.commands.specs.declared.Ending.the-variants.{End, Refused, Compile}
-use Rattle.commands.proofs.Found.{clash}
+use Rattle.topology.proofs.Cases.{clash}
 use Rattle.commands.proofs.Limited.{limited}
 use Rattle.drawing.specs.Sheet.{pairOf, foot, refusedEnd, refusal, nothing, sheet, limitIn, sheetBy, scriptSheet}
 
@@ -106,4 +106,4 @@ module _ (script : List ℕ) where
     where
       limit-is : (b : Bool) (m : ℕ) (l : Option ℕ) (n : ℕ) → limitOf b m ≡ l → l ≡ some n → m ≡ limitIn l
       limit-is true m l n e f = rw (← e) refl
-      limit-is false m l n e f = clash (let z : none ≡ some n = e ∙ f in cc)
+      limit-is false m l n e f = absurd (clash (let z : none ≡ some n = e ∙ f in cc))

@@ -10,7 +10,7 @@ use Rattle.topology.specs.declared.Reading.the-variants.{Tree, Refused}
 use Rattle.topology.proofs.Reader.{drawn, within}
 use Rattle.topology.proofs.Ancestry.{size-pos}
 use Rattle.topology.proofs.Decoding.{length-code}
-use Rattle.embedding_laws.proofs.All.{clash}
+use Rattle.topology.proofs.Cases.{clash}
 use Rattle.embedding.specs.Trees.{treesFault}
 
 refused-first : (r : Reading) (f rest number : ℕ) → r ≡ reading f → r ≡ Refused number → number ≡ orElse f rest

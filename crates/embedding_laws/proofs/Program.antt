@@ -22,7 +22,7 @@ use Rattle.topology.proofs.Children.{HasChild, childOf-lt, addr-childOf, childO
 use Rattle.embedding_laws.specs.Rules.{image, Passes, Before}
 use Rattle.embedding_laws.specs.Sets.{pack, digit, none}
 use Rattle.embedding_laws.specs.Placing.{Member}
-use Rattle.embedding_laws.proofs.All.{clash}
+use Rattle.topology.proofs.Cases.{clash}
 use Rattle.embedding_laws.proofs.Sets.{weight-le, member-length, pack-bound, digit-pack, pack-less}
 use Rattle.embedding_laws.proofs.Placing.{placed-map}
 use Rattle.embedding_laws.specs.Meaning.{end, kid, full, Fits, PlacedAt, Entry, TruthFor, ReadOff}

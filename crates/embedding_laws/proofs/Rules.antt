@@ -20,7 +20,8 @@ use Rattle.topology.proofs.Reader.{drawn}
 use Rattle.topology.proofs.Refusals.{orElse-none, orElse-most, pick-most, fault-most}
 use Rattle.embedding_laws.specs.Rules.{image, Passes}
 use Rattle.embedding_laws.specs.Check.{all, same, areNodes, rule1, rule2, rule3, rule4, listFault, mapFault}
-use Rattle.embedding_laws.proofs.All.{clash, all-below, below-all}
+use Rattle.topology.proofs.Cases.{clash}
+use Rattle.embedding_laws.proofs.All.{all-below, below-all}
 
 same-true : (x y : Bool) → same x y ≡ true → x ≡ y
 same-true true y e = sym e

@@ -13,6 +13,7 @@ use Rattle.topology.specs.Address.{nth, ahead}
 use Rattle.topology.specs.Reader.{pick}
 use Rattle.topology.proofs.Numbering.{ahead-lt}
 use Rattle.topology.proofs.Ancestry.{size-pos, nth-height}
+use Rattle.topology.proofs.Cases.{clash}
 use Rattle.pifo.specs.Queue.{Entry, child, packet, entry}
 use Rattle.pifo.specs.Tree.{Step, step, pathFault, PTree, PForest, pnode, pnil, pcons, shape, shapes, empty, empties, push, pushAt, pop, popAt, with-queue, with-later, with-elder}
 use Rattle.pifo.specs.Numbered.{Queues, kidAt, assemble, assembleAll, entered, pushed, through, descentBy, descent, isIn, rest, popped}
@@ -39,9 +40,6 @@ kid-range (node ts) k i m h g =
 or-cases {ℓ} : {A : Type ℓ} (x y : Bool) → x || y ≡ true → (x ≡ true → A) → (y ≡ true → A) → A
 or-cases true y e f g = f refl
 or-cases false y e f g = g e
-
-clash : _≡_ {A = ℕ} 0 1 → ⊥
-clash e = omega arith
 
 module _ {P : Type 0} where
   mutual

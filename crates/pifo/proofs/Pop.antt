@@ -17,7 +17,8 @@ use Rattle.topology.specs.Tree.{node, count}
 use Rattle.pifo.specs.Queue.{Entry, child, packet, entry, allowed, every, occurs}
 use Rattle.pifo.specs.Tree.{PTree, PForest, pnode, pnil, pcons, shape, shapes, pop, popAt, with-queue, with-later, with-elder, packets, packetsIn, held, counted, well, wells}
 use Rattle.pifo.proofs.Order.{both, join, rises-head, rises-from}
-use Rattle.pifo.proofs.Wellness.{Well, well-parts, parts-well, counted-parts, counted-cons, is-same, is-other, clash, length-held}
+use Rattle.topology.proofs.Cases.{clash}
+use Rattle.pifo.proofs.Wellness.{Well, well-parts, parts-well, counted-parts, counted-cons, is-same, is-other, length-held}
 use Rattle.pifo.proofs.Push.{packets-inner}
 
 module _ {P : Type 0} where

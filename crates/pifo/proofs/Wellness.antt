@@ -12,12 +12,10 @@ use lib.Dec.{leb, eqb}
 use borrow.Author.Tests.{leb-true, eqb-true, eq-eqb, ne-eqb}
 use Rattle.topology.specs.Tree.{Topo, Forest, node, fnil, fcons, count}
 use Rattle.topology.specs.Reader.{pick}
+use Rattle.topology.proofs.Cases.{clash}
 use Rattle.pifo.specs.Queue.{Entry, child, packet, entry, risesFrom, allowed, every, occurs}
 use Rattle.pifo.specs.Tree.{PTree, PForest, pnode, pnil, pcons, shape, shapes, empty, empties, packetsOf, leafQueue, packets, packetsIn, held, counted, well, wells}
 use Rattle.pifo.proofs.Order.{both, join}
-
-pub clash : _≡_ {A = ℕ} 0 1 → ⊥
-clash e = omega arith
 
 -- what an entry of child j counts for child i
 pub is-same : (i j : ℕ) → i ≡ j → _≡_ {A = ℕ} (pick (eqb i j) 1 0) 1

@@ -20,13 +20,11 @@ use Rattle.queue_state.specs.Sound.{Slot, Placed, Counts, fine, noEntry,
 use Rattle.queue_state.specs.declared.soundness.Counted.{Counted}
 use Rattle.queue_state.specs.declared.Entry.{Entry as CodeEntry}
 use Rattle.queue_state.proofs.Owned.{queue-own, queue-other, queue-front, queue-length}
+use Rattle.queue_state.proofs.Matches.{off}
 
 false-of : (b : Bool) → (b ≡ true → ⊥) → b ≡ false
 false-of true f = absurd (f refl)
 false-of false f = refl
-
-off : false ≡ true → ⊥
-off e = let z : _≡_ {A = ℕ} 0 1 = cc in omega arith
 
 and-first : (a b : Bool) → a && b ≡ true → a ≡ true
 and-first true b e = refl

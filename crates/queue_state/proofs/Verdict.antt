@@ -83,16 +83,16 @@ form s f =
     (le-leb (held (treeOf s)) (s .limit) (f .room))
 
 -- a test that says no, and one that says yes
-pub says-no : (s : State) (r : Test) → r .sound ≡ false → (Formed s → ⊥) → Tests s r
-says-no s r e f =
-    record { sound = e ∙ sym (never (wellFormed s) refl); count = λ t. absurd (off (sym e ∙ t)) }
+pub says-no : (s : State) (r : Test) → r .sound ≡ false → r .held ≡ 0 → (Formed s → ⊥) → Tests s r
+says-no s r e z f =
+    record { sound = e ∙ sym (never (wellFormed s) refl); count = λ t. absurd (off (sym e ∙ t)); none = λ _. z }
   where
     never : (b : Bool) → wellFormed s ≡ b → wellFormed s ≡ false
     never true t = absurd (f (formed s t))
     never false t = t
 
 pub says-yes : (s : State) (r : Test) → r .sound ≡ true → Formed s → r .held ≡ held (treeOf s) → Tests s r
-says-yes s r e f h = record { sound = e ∙ sym (form s f); count = λ _. h }
+says-yes s r e f h = record { sound = e ∙ sym (form s f); count = λ _. h; none = λ t. absurd (off (sym t ∙ e)) }
 
 -- in a well-formed tree the root's queue is as long as packets are held
 pub held-root : {P : Type 0} (t : Topo) (q : Queues P) (k : ℕ) → well (assemble t q k) ≡ true → length (q k) ≡ held (assemble t q k)

@@ -29,10 +29,11 @@ pub record Opens (bytes : List ℕ) (limit : ℕ) (r : Opened) : Type 0 where
   pub formed : r .refusal ≡ 0 → wellFormed (r .state) ≡ true
   pub nothing : r .refusal ≢ 0 → wellFormed (r .state) ≡ false
 
--- the test of a state: whether it is well formed, and how many packets it then holds
+-- the test of a state: whether it is well formed, and how many packets it then holds, else 0
 pub record Tests (s : State) (r : Test) : Type 0 where
   pub sound : r .sound ≡ wellFormed s
   pub count : r .sound ≡ true → r .held ≡ held (treeOf s)
+  pub none : r .sound ≡ false → r .held ≡ 0
 
 -- a count where the state is well formed, else 18
 abbrev pub amount : Bool → ℕ → Amount

@@ -18,7 +18,8 @@ use Rattle.commands.specs.declared.Drawing.{Drawing}
 use Rattle.commands.specs.Reading.{readAt}
 use Rattle.commands.specs.Gathering.{Given, gatherBy, gatherFrom, gathered, limitOf, Draws}
 use Rattle.commands.proofs.Numbers.{read-end}
-use Rattle.commands.proofs.Found.{clash, further}
+use Rattle.topology.proofs.Cases.{clash}
+use Rattle.commands.proofs.Found.{further}
 use Rattle.script.specs.Sheet.{drawing, obey}
 use Rattle.script.specs.Output.{output}
 use Rattle.script.specs.Parts.{textAt, openingText}
@@ -95,4 +96,4 @@ module _ (script : List ℕ) where
     where
       limit-is : (b : Bool) (m n : ℕ) → limitOf b m ≡ some n → m ≡ n
       limit-is true m n q = cc
-      limit-is false m n q = clash (cc)
+      limit-is false m n q = absurd (clash (cc))

@@ -27,10 +27,10 @@ arrays c =
     }
 
 returns : tie.Need-returns
-returns c = says-no _ _ refl (λ f. omega (arith, f .nodes))
+returns c = says-no _ _ refl refl (λ f. omega (arith, f .nodes))
 
 returns-2 : tie.Need-returns-2
-returns-2 c = says-no _ _ refl (λ f. omega (arith, f .used))
+returns-2 c = says-no _ _ refl refl (λ f. omega (arith, f .used))
 
 array-share-prefix-topology : tie.Need-array-share-prefix-topology
 array-share-prefix-topology c = omega (arith, arrays (c .before .before .before) .topology)
@@ -43,7 +43,7 @@ refusal-requires c κs = search needs
 
 returns-3 : tie.Need-returns-3
 unfolding bytes
-returns-3 c = says-no _ _ refl (λ f. c .if3 .taken (c .before .refusal .ensures ∙ none-refused _ _ (f .valid) (f .least) (f .most)))
+returns-3 c = says-no _ _ refl refl (λ f. c .if3 .taken (c .before .refusal .ensures ∙ none-refused _ _ (f .valid) (f .least) (f .most)))
 
 tally-requires : tie.Need-tally-requires
 tally-requires c κs =
@@ -53,7 +53,7 @@ tally-requires c κs =
 returns-4 : tie.Need-returns-4
 returns-4 c =
     let st = c .before .before .before .before .before .before .before .before .before .before .before in
-    says-no _ _ refl (ill-tally _ (arrays st) (search needs) _ (c .before .before .tally .ensures) (not-true _ (c .if4 .taken)))
+    says-no _ _ refl refl (ill-tally _ (arrays st) (search needs) _ (c .before .before .tally .ensures) (not-true _ (c .if4 .taken)))
 
 slice-aggregate-all-match : tie.Need-slice-aggregate-all-match
 slice-aggregate-all-match c = search needs
@@ -73,7 +73,7 @@ returns-5 c =
     let v = refused-none _ _ (sym (c .before .before .before .before .before .before .before .before .before .before .before .before .refusal .ensures) ∙ c .before .before .before .before .before .before .before .before .before .before .before .if3 .left) .0 in
     let t = c .before .before .before .before .before .before .before .before .tally .ensures in
     let yes = not-false _ (c .before .before .before .before .before .before .if4 .left) in
-    says-no _ _ refl (ill-match _ (arrays st) (search needs) _ t yes v (c .before .all-match .ensures .if-false (not-true _ (c .if5 .taken))))
+    says-no _ _ refl refl (ill-match _ (arrays st) (search needs) _ t yes v (c .before .all-match .ensures .if-false (not-true _ (c .if5 .taken))))
 
 array-read-wide16 : tie.Need-array-read-wide16
 array-read-wide16 c = search needs
@@ -89,7 +89,7 @@ returns-6 c =
     let yes = not-false _ (c .before .before .before .before .before .before .before .before .if4 .left) in
     let m = c .before .before .before .all-match .ensures .if-true (not-false _ (c .before .before .if5 .left)) in
     let h = root-held _ (arrays st) (search needs) _ t yes v m in
-    says-no _ _ refl (λ f. omega (arith, f .room, c .before .wide16 .ensures))
+    says-no _ _ refl refl (λ f. omega (arith, f .room, c .before .wide16 .ensures))
 
 returns-7 : tie.Need-returns-7
 returns-7 c =
