@@ -9,7 +9,7 @@ use Rattle.text.specs.Text.{Puts}
 use Rattle.text.proofs.Writing.{puts-as, puts-then}
 use Rattle.places.specs.Places.{parent, childNumber, roleOf}
 use Rattle.places.specs.declared.Role.{Role}
-use Rattle.svg.specs.Elements.{limb, mark, join}
+use Rattle.drawing.specs.Elements.{limb, mark, join}
 use Rattle.drawing.specs.Sheet.{column, row, each, limbOf, className, nodeOf, joinOf}
 
 pub each-next : {before middle after : List ℕ} {at place end : ℕ} (text : ℕ → List ℕ) (k : ℕ) → Puts before at (each text k) middle place

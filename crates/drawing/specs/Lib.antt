@@ -1,2 +1,3 @@
--- To believe: `scriptSheet` in Sheet, the drawing of a script, with Places in the crate `places` and Elements in `svg`.
+-- To believe: `scriptSheet` in Sheet, the drawing of a script, and Elements, with Places in the crate `places` and Template in `templates`.
+pub mod Elements
 pub mod Sheet

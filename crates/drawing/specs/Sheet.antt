@@ -14,8 +14,8 @@ use Rattle.places.specs.declared.Role.the-variants.{Plain, Image, Between, Unus
 use Rattle.commands.specs.Gathering.{Given, gathered}
 use Rattle.commands.specs.declared.Ending.{Ending}
 use Rattle.commands.specs.declared.Ending.the-variants.{End, Refused, Compile}
-use Rattle.svg.specs.Template.{bytes}
-use Rattle.svg.specs.Elements.{head, limb, mark, join, note}
+use Rattle.templates.specs.Template.{bytes}
+use Rattle.drawing.specs.Elements.{head, limb, mark, join, note}
 
 -- the column of a node in the tree whose root is at `left`, and its row
 abbrev pub column : ℕ → List ℕ → ℕ → ℕ

@@ -1,24 +1,26 @@
 // Both trees of a pair and the map between them as one drawing in SVG: the source left, the chip right, a row for each node number and a
 // column for each step below the root.
+mod elements;
+
 use commands::Drawing;
 use commands::Ending;
+use elements::put_head;
+use elements::put_join;
+use elements::put_limb;
+use elements::put_mark;
+use elements::put_note;
 use places::Role;
 use places::child_number;
 use places::depth;
 use places::parent;
 use places::role_of;
-use svg::put_head;
-use svg::put_join;
-use svg::put_limb;
-use svg::put_mark;
-use svg::put_note;
 use text::put_word;
 use topology::wide;
 ghost use mathlib.Core.Path.{_≡_};
 ghost use Prim.Native.Nat.{_<_, _≤_, max};
 ghost use lib.ListN.{length, take};
 ghost use Rattle.text.specs.Text.{Puts};
-ghost use Rattle.svg.specs.Elements.{mark};
+ghost use Rattle.drawing.specs.Elements.{mark};
 ghost use Rattle.drawing.specs.Sheet.{className, column, row, limbOf, nodeOf, treeOf, joinOf, joinsOf, pairOf, refusedEnd, refusal, nothing, sheet, scriptSheet};
 
 const SOURCE_LEFT: usize = 40;

@@ -1,3 +1,1 @@
-pub mod Trees
-pub mod EndTable
 pub mod Tests

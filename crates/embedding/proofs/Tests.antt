@@ -14,12 +14,12 @@ use Rattle.embedding_laws.specs.Rules.{image}
 use Rattle.embedding_laws.specs.Check.{all, same, areNodes, rule1, rule2, rule3, rule4, listFault, mapFault}
 use Rattle.embedding_laws.proofs.All.{and-both, all-below, all-false, all-cong}
 use Rattle.embedding.specs.Answers.{checked}
-use Rattle.embedding.specs.Trees.{treesFault, branchEnds}
+use Rattle.two_trees.specs.Trees.{treesFault, branchEnds}
 use Rattle.embedding.specs.Tests.{fresh, leafKept, aboveBy, alike, rows, Sized, Tabled}
 use Rattle.embedding.specs.declared.Checked.the-variants.{Passes}
 use Rattle.embedding.specs.declared.Checked.the-variants as answer
-use Rattle.embedding.proofs.Trees.{orElse-both, tree-fits}
-use Rattle.embedding.proofs.EndTable.{is-table}
+use Rattle.two_trees.proofs.Trees.{orElse-both, tree-fits}
+use Rattle.two_trees.proofs.EndTable.{is-table}
 
 all-next : (p : ℕ → Bool) (a : ℕ) → all a p ≡ true → p a ≡ true → all (a + 1) p ≡ true
 all-next p a e f = rw add-one (and-both (all a p) (p a) e f)

@@ -1,51 +1,20 @@
 // The check of a map between two trees.
 //
-// It tests each rule over all nodes or pairs of nodes, with tables of where the branches end: a few thousand steps at the most. The table
-// and the reading of both trees are open to other crates, because the search needs them too.
+// It tests each rule over all nodes or pairs of nodes, with tables of where the branches end: a few thousand steps at the most.
 ghost use mathlib.Core.Path.{_≡_};
 ghost use Prim.Native.Nat.{_≤_, _<_};
 ghost use mathlib.Core.Bool.{true};
 ghost use lib.ListN.{length};
 ghost use Rattle.embedding_laws.specs.Check.{same, areNodes, rule1, rule3, rule4, listFault, mapFault};
 ghost use Rattle.embedding.specs.Answers.{checked};
-ghost use Rattle.embedding.specs.Trees.{treesFault, branchEnds};
 ghost use Rattle.embedding.specs.Tests.{fresh, leafKept, aboveBy, alike, Sized, Tabled};
-use topology::Reading;
-use topology::SOURCE_NODES;
-use topology::TARGET_NODES;
-use topology::branch_end;
-use topology::read;
+use two_trees::branch_ends;
+use two_trees::trees_fault;
 
 // The check's answer: the list passes as a map, or it is refused by a number of paper 01.
 pub enum Checked {
     Passes,
     Refused(u8),
-}
-
-// The reader's refusal of the source or, where that is a tree, of the target; or 0.
-pub fn trees_fault(source: &[u8], target: &[u8]) -> u8
-    ensures { λ r. ⌜ r ≡ treesFault (now (source .entry)) (now (target .entry)) ⌝ }
-{
-    match read(source, SOURCE_NODES) {
-        Reading::Refused(number) => number,
-        Reading::Tree => match read(target, TARGET_NODES) {
-            Reading::Refused(number) => number,
-            Reading::Tree => 0,
-        },
-    }
-}
-
-// Where the branches of the nodes 0 to 63 end; past the last node a number stands for itself.
-pub fn branch_ends(bytes: &[u8]) -> [usize; 64]
-    ensures { λ r. ⌜ r ≡ branchEnds (now (bytes .entry)) ⌝ }
-{
-    let mut ends = [0usize; 64];
-    let mut i = 0;
-    while i < 64 {
-        ends[i] = branch_end(bytes, i);
-        i += 1;
-    }
-    ends
 }
 
 // Whether every image is a target node.

@@ -18,8 +18,8 @@ use Rattle.embedding_laws.specs.Least.{Found, nothing, list, leastMap, noneFaul
 use Rattle.embedding_laws.specs.Tables.{bestBy, Draws}
 use Rattle.embedding_laws.specs.Meaning.{Truth, ReadTo}
 use Rattle.embedding_laws.proofs.Images.{found-none, found-list}
-use Rattle.embedding.specs.Trees.{treesFault}
-use Rattle.embedding.proofs.Trees.{orElse-both, tree-fits}
+use Rattle.two_trees.specs.Trees.{treesFault}
+use Rattle.two_trees.proofs.Trees.{orElse-both, tree-fits}
 
 draws : (limit : ℕ) (bytes : List ℕ) → fault limit bytes ≡ 0 → Draws limit bytes
 draws limit bytes z =

@@ -19,8 +19,8 @@ ghost use Rattle.embedding_laws.specs.Sets.{power, none};
 ghost use Rattle.embedding_laws.specs.Tables.{Ends, Frame, endBy, triedBy, RowTried, ChildTried, RowCopied, RowFilled, LastRow, BranchOf, PlacedBelow, Room, NodeFrame, Draws, Pair, bestBy};
 ghost use Rattle.embedding_laws.specs.Meaning.{KidsOf, EntryBy, NodeTo, Truth, Different, Put, ReadTo};
 ghost use Rattle.embedding_laws.specs.Least.{noneFault, leastMap, padded, searchFault, searchMap};
-use embedding::branch_ends;
-use embedding::trees_fault;
+use two_trees::branch_ends;
+use two_trees::trees_fault;
 
 // The search's answer: the least map in 32 places, those past the last source node 0, and the number 0; or a refusal's number of paper
 // 01, and 32 zeros.

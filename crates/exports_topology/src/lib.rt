@@ -23,7 +23,7 @@ pub extern "C" fn linduvar_read(bytes: &[u8], limit: usize) -> u8
 pub extern "C" fn linduvar_branch(bytes: &[u8], node: usize, refusal: &mut u8) -> usize
     ensures { λ r. ⌜ (now (refusal .exit) ≡ branchFault (now (bytes .entry)) node) × (r ≡ length (branchPart (now (bytes .entry)) node)) ⌝ }
 {
-    let part = topology::branch(bytes, node, refusal);
+    let part = branches::branch(bytes, node, refusal);
     part.len()
 }
 
@@ -33,7 +33,7 @@ pub extern "C" fn linduvar_branch_byte(bytes: &[u8], node: usize, at: usize) -> 
     ensures { λ r. ⌜ r ≡ getD (branchPart (now (bytes .entry)) node) at 255 ⌝ }
 {
     let mut refusal = 0;
-    let part = topology::branch(bytes, node, &mut refusal);
+    let part = branches::branch(bytes, node, &mut refusal);
     if at < part.len() { part[at] } else { 255 }
 }
 
@@ -42,7 +42,7 @@ pub extern "C" fn linduvar_branch_byte(bytes: &[u8], node: usize, at: usize) -> 
 pub extern "C" fn linduvar_branch_end(bytes: &[u8], node: usize) -> usize
     ensures { λ r. ⌜ r ≡ branchEnd (now (bytes .entry)) node ⌝ }
 {
-    topology::branch_end(bytes, node)
+    branches::branch_end(bytes, node)
 }
 
 // The number of child `index` of `node`, or 0.
@@ -50,7 +50,7 @@ pub extern "C" fn linduvar_branch_end(bytes: &[u8], node: usize) -> usize
 pub extern "C" fn linduvar_child(bytes: &[u8], node: usize, index: usize) -> usize
     ensures { λ r. ⌜ r ≡ nodeOr0 (childAt (now (bytes .entry)) node index) ⌝ }
 {
-    match topology::child(bytes, node, index) {
+    match branches::child(bytes, node, index) {
         Found::Node(child) => child,
         Found::Missing => 0,
     }
@@ -61,7 +61,7 @@ pub extern "C" fn linduvar_child(bytes: &[u8], node: usize, index: usize) -> usi
 pub extern "C" fn linduvar_above(bytes: &[u8], a: usize, b: usize) -> u8
     ensures { λ r. ⌜ r ≡ bit (isAbove (now (bytes .entry)) a b) ⌝ }
 {
-    if topology::is_above(bytes, a, b) {
+    if branches::is_above(bytes, a, b) {
         1
     } else {
         0

@@ -1,26 +1,16 @@
 // The lines that gatewalk prints.
+use templates::put_filled;
 use text::put;
-use text::put_decimal;
 use text::put_hex8;
 use text::put_word;
 ghost use Rattle.text.specs.Text.{Puts};
 ghost use Rattle.lines.specs.Lines.{spaced, inLine, outLine, noLine, mapLine};
 
-// A space and a number.
-fn put_spaced(out: &mut [u8], at: usize, number: usize) -> usize
-    ensures { λ r. ⌜ Puts (now (out .entry)) at (spaced number) (now (out .exit)) r ⌝ }
-{
-    let place = put(out, at, b' ');
-    put_decimal(out, place, number)
-}
-
 // The line of an accepted push: the packets held after it.
 pub fn put_in(out: &mut [u8], at: usize, held: u32) -> usize
     ensures { λ r. ⌜ Puts (now (out .entry)) at (inLine held) (now (out .exit)) r ⌝ }
 {
-    let word = put_word(out, at, b"in");
-    let number = put_spaced(out, word, held as usize);
-    put(out, number, b'\n')
+    put_filled(out, at, b"in #\n", &[held as usize])
 }
 
 // The line of a pop: the packet that departs.
@@ -36,10 +26,7 @@ pub fn put_out(out: &mut [u8], at: usize, packet: u32) -> usize
 pub fn put_no(out: &mut [u8], at: usize, number: u8, offset: usize) -> usize
     ensures { λ r. ⌜ Puts (now (out .entry)) at (noLine number offset) (now (out .exit)) r ⌝ }
 {
-    let word = put_word(out, at, b"no");
-    let first = put_spaced(out, word, number as usize);
-    let second = put_spaced(out, first, offset);
-    put(out, second, b'\n')
+    put_filled(out, at, b"no # #\n", &[number as usize, offset])
 }
 
 // The line of a map: the images.
@@ -59,5 +46,5 @@ pub fn put_map(out: &mut [u8], at: usize, images: &[u8]) -> usize
 fn put_image(out: &mut [u8], at: usize, image: u8) -> usize
     ensures { λ r. ⌜ Puts (now (out .entry)) at (spaced image) (now (out .exit)) r ⌝ }
 {
-    put_spaced(out, at, image as usize)
+    put_filled(out, at, b" #", &[image as usize])
 }

@@ -1,5 +1,5 @@
 // Where a node stands in a tree, how deep, under which node and as which child of it, and what it is to the images of a map.
-use topology::is_above;
+use branches::is_above;
 use topology::wide;
 ghost use mathlib.Core.Path.{_≡_};
 ghost use Prim.Native.Nat.{_≤_};

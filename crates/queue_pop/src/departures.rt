@@ -86,7 +86,7 @@ pub(crate) fn pop_from(bytes: &[u8], heads: Heads, node: usize, left: usize) -> 
             }
         }
         Item::Child(index) => {
-            let Found::Node(child) = topology::child(bytes, node, index as usize) else {
+            let Found::Node(child) = branches::child(bytes, node, index as usize) else {
                 return no_trail();
             };
             let below = pop_from(bytes, heads, child, left - 1);

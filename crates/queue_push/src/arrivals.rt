@@ -40,7 +40,7 @@ pub(crate) fn walk(bytes: &[u8], path: Path, packet: u32) -> Added
     let mut i = 0;
     while i < count {
         let step = steps[i];
-        let Found::Node(child) = topology::child(bytes, node, step.child as usize) else {
+        let Found::Node(child) = branches::child(bytes, node, step.child as usize) else {
             return Added {
                 fault: 13,
                 pending,

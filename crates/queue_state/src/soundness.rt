@@ -101,7 +101,7 @@ fn children_match(bytes: &[u8], counts: &[u16], lengths: &[u16], node: usize) ->
         if counts[node * 9 + (i + 1)] != lengths[child] {
             return false;
         }
-        child = topology::branch_end(bytes, child);
+        child = branches::branch_end(bytes, child);
         i += 1;
     }
     true

@@ -12,7 +12,7 @@ fn print(n: usize, after: u8) {
 }
 
 fn print_node(bytes: &[u8], node: usize) {
-    let end = topology::branch_end(bytes, node);
+    let end = branches::branch_end(bytes, node);
     if node < bytes.len() {
         print(node, b' ');
         print(wide(bytes[node]), b' ');

@@ -54,10 +54,10 @@ fn toward(bytes: &[u8], from: usize, to: usize) -> Turn
 {
     let mut index = 1u8;
     let mut node = from + 1;
-    let mut end = topology::branch_end(bytes, node);
+    let mut end = branches::branch_end(bytes, node);
     while end <= to {
         node = end;
-        end = topology::branch_end(bytes, node);
+        end = branches::branch_end(bytes, node);
         index += 1;
     }
     Turn { index, node }
@@ -95,7 +95,7 @@ fn walk(source: &[u8], target: &[u8], map: &[u8], path: Path) -> Carried
     let mut i = 0;
     while i < count {
         let step = steps[i];
-        let Found::Node(child) = topology::child(source, node, step.child as usize) else {
+        let Found::Node(child) = branches::child(source, node, step.child as usize) else {
             return Carried { path, refusal: 13 };
         };
         let from = map[node] as usize;

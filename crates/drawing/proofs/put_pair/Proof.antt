@@ -2,7 +2,7 @@
 use mathlib.Core.Path.{ap, _∙_}
 use Prim.Native.Nat.{ℕ, _+_, _*_}
 use native.Mathlib.Omega.{arith}
-use Rattle.svg.specs.Elements.{head}
+use Rattle.drawing.specs.Elements.{head}
 use Rattle.text.proofs.Writing.{puts-as, puts-then}
 use Rattle.drawing.specs.Sheet.{pairOf}
 use borrow.Author.Needs.{needs}

@@ -4,7 +4,7 @@ use mathlib.Core.Path.{refl}
 use native.Mathlib.Omega.{arith}
 use denote.Ref.{now}
 use Rattle.embedding_laws.proofs.Cells.{room-zeros}
-use Rattle.embedding.proofs.EndTable.{is-table}
+use Rattle.two_trees.proofs.EndTable.{is-table}
 use Rattle.embedding_search.proofs.Outcome.{solve-none, solve-found}
 use Rattle.embedding_search.proofs.solve.Statement.{statement}
 use Rattle.embedding_search.proofs.solve.Tie as tie

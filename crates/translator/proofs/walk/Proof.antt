@@ -10,7 +10,7 @@ use Rattle.translator.proofs.walk.Statement.{statement}
 use Rattle.translator.proofs.walk.Tie as tie
 use Rattle.translator.proofs.walk.Reads as reads
 use Rattle.translator.proofs.walk.Lts as lts
-use Rattle.topology.proofs.child.Reads as child-reads
+use Rattle.branches.proofs.child.Reads as child-reads
 use Rattle.translator.proofs.descend.Reads as descend-reads
 
 abbrev Inv-loop : tie.InvT-loop

@@ -12,7 +12,7 @@ use Rattle.queue_pop.proofs.departures.pop_from.Reads as pop-from
 use Rattle.queue_pop.proofs.departures.pop_from.Kinds as pop-from-kinds
 use Rattle.queue_pop.proofs.departures.+pop_from.Lts-pop_from as pop-from-lts
 use Rattle.queue_pop.proofs.departures.no_trail.Reads as no-trail-reads
-use Rattle.topology.proofs.child.Reads as child-reads
+use Rattle.branches.proofs.child.Reads as child-reads
 use Rattle.queue_pop.proofs.departures.+pop_from.{statement}
 use Rattle.queue_pop.proofs.departures.+pop_from.Tie.{close}
 

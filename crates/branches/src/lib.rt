@@ -1,0 +1,85 @@
+// Where a tree's branches lie in its bytes.
+//
+// `branch` is the call of paper 01. `branch_end`, `child` and `is_above` serve the crates above; they take any bytes and mean what their
+// names say where `topology::read` accepts those bytes.
+use topology::Found;
+use topology::Reading;
+use topology::TARGET_NODES;
+use topology::read;
+ghost use mathlib.Core.Path.{_≡_};
+ghost use Rattle.topology.specs.Branch.{branchEnd, childAt, isAbove, branchFault, branchPart};
+
+// One past the last node of the branch under `node`; the end of the bytes where they stop short of that.
+pub fn branch_end(bytes: &[u8], node: usize) -> usize
+    ensures { λ r. ⌜ r ≡ branchEnd (now (bytes .entry)) node ⌝ }
+{
+    if bytes.len() <= node {
+        return node;
+    }
+    let mut end = node + 1;
+    let mut i = node;
+    while i < end {
+        let children = bytes[i] as usize;
+        if bytes.len() - end < children {
+            return bytes.len();
+        }
+        end += children;
+        i += 1;
+    }
+    end
+}
+
+// Child `index`, from 1, of `node`.
+pub fn child(bytes: &[u8], node: usize, index: usize) -> Found
+    ensures { λ r. ⌜ r ≡ childAt (now (bytes .entry)) node index ⌝ }
+{
+    if index == 0 {
+        return Found::Missing;
+    }
+    if bytes.len() <= node {
+        return Found::Missing;
+    }
+    if (bytes[node] as usize) < index {
+        return Found::Missing;
+    }
+    let mut at = node + 1;
+    let mut k = 1;
+    while k < index {
+        at = branch_end(bytes, at);
+        k += 1;
+    }
+    Found::Node(at)
+}
+
+// Whether node `a` is node `b` or lies above it.
+pub fn is_above(bytes: &[u8], a: usize, b: usize) -> bool
+    ensures { λ r. ⌜ r ≡ isAbove (now (bytes .entry)) a b ⌝ }
+{
+    if a <= b {
+        b < branch_end(bytes, a)
+    } else {
+        false
+    }
+}
+
+// The branch under `node`, as the stretch of the caller's own bytes, and 0 in `refusal`; or nothing, and the refusal's number.
+pub fn branch<'a>(bytes: &'a [u8], node: usize, refusal: &mut u8) -> &'a [u8]
+    ensures { λ r. ⌜ (now (refusal .exit) ≡ branchFault (now (bytes .entry)) node) × (now r ≡ branchPart (now (bytes .entry)) node) ⌝ }
+{
+    match read(bytes, TARGET_NODES) {
+        Reading::Refused(number) => {
+            *refusal = number;
+            &bytes[..0]
+        }
+        Reading::Tree => {
+            if node < bytes.len() {
+                *refusal = 0;
+                let end = branch_end(bytes, node);
+                &bytes[node..end]
+            } else {
+                *refusal = 19;
+                &bytes[..0]
+            }
+        }
+    }
+}
