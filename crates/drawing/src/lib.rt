@@ -1,7 +1,7 @@
 // Both trees of a pair and the map between them as one drawing in SVG: the source left, the chip right, a row for each node number and a
 // column for each step below the root.
-use commands::Drawing;
-use commands::Ending;
+use gathering::Drawing;
+use gathering::Ending;
 use places::Role;
 use places::child_number;
 use places::depth;
@@ -235,7 +235,7 @@ fn draw_kept(drawing: Drawing, at: usize, out: &mut [u8]) -> usize
 pub fn draw_script(script: &[u8], out: &mut [u8]) -> usize
     ensures { λ r. ⌜ Puts (now (out .entry)) 0 (scriptSheet (now (script .entry))) (now (out .exit)) r ⌝ }
 {
-    let gathered = commands::gather(script);
+    let gathered = gathering::gather(script);
     let drawing = gathered.drawing;
     let ending = gathered.ending;
     match ending {
