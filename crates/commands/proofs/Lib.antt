@@ -1,6 +1,2 @@
 pub mod Numbers
 pub mod Found
-pub mod Keeping
-pub mod Loop
-pub mod Others
-pub mod Limited

@@ -15,12 +15,12 @@ use Rattle.embedding_laws.specs.Least.{noneFault, leastMap, searchFault, search
 use Rattle.queue_state.specs.Opening.{limitFault}
 use Rattle.pair_state.specs.Opening.{bothFault}
 use Rattle.pair_state.proofs.Kept.{whole, both-kept}
-use Rattle.commands.specs.Gathering.{gathered, limitOf, Draws}
-use Rattle.commands.specs.declared.Drawing.{Drawing}
-use Rattle.commands.specs.declared.Ending.{Ending}
-use Rattle.commands.specs.declared.Ending.the-variants.{End, Refused, Compile}
+use Rattle.gathering.specs.Gathering.{gathered, limitOf, Draws}
+use Rattle.gathering.specs.declared.Drawing.{Drawing}
+use Rattle.gathering.specs.declared.Ending.{Ending}
+use Rattle.gathering.specs.declared.Ending.the-variants.{End, Refused, Compile}
 use Rattle.topology.proofs.Cases.{clash}
-use Rattle.commands.proofs.Limited.{limited}
+use Rattle.gathering.proofs.Limited.{limited}
 use Rattle.drawing.specs.Sheet.{pairOf, foot, refusedEnd, refusal, nothing, sheet, limitIn, sheetBy, scriptSheet}
 
 -- the lengths of trees that are drawn

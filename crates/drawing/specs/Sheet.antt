@@ -11,9 +11,9 @@ use Rattle.pair_state.specs.Opening.{bothFault}
 use Rattle.places.specs.Places.{depth, parent, childNumber, roleOf}
 use Rattle.places.specs.declared.Role.{Role}
 use Rattle.places.specs.declared.Role.the-variants.{Plain, Image, Between, Unused}
-use Rattle.commands.specs.Gathering.{Given, gathered}
-use Rattle.commands.specs.declared.Ending.{Ending}
-use Rattle.commands.specs.declared.Ending.the-variants.{End, Refused, Compile}
+use Rattle.gathering.specs.Gathering.{Given, gathered}
+use Rattle.gathering.specs.declared.Ending.{Ending}
+use Rattle.gathering.specs.declared.Ending.the-variants.{End, Refused, Compile}
 use Rattle.templates.specs.Template.{bytes}
 use Rattle.drawing.specs.Elements.{head, limb, mark, join, note}
 

@@ -2,8 +2,8 @@
 // column for each step below the root.
 mod elements;
 
-use commands::Drawing;
-use commands::Ending;
+use gathering::Drawing;
+use gathering::Ending;
 use elements::put_head;
 use elements::put_join;
 use elements::put_limb;
@@ -237,7 +237,7 @@ fn draw_kept(drawing: Drawing, at: usize, out: &mut [u8]) -> usize
 pub fn draw_script(script: &[u8], out: &mut [u8]) -> usize
     ensures { λ r. ⌜ Puts (now (out .entry)) 0 (scriptSheet (now (script .entry))) (now (out .exit)) r ⌝ }
 {
-    let gathered = commands::gather(script);
+    let gathered = gathering::gather(script);
     let drawing = gathered.drawing;
     let ending = gathered.ending;
     match ending {

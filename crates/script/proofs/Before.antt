@@ -12,11 +12,11 @@ use Rattle.commands.specs.declared.Command.{Command}
 use Rattle.commands.specs.declared.Command.the-variants.{Source, Target, Limit, Compile, Step as StepTo, Push, Pop}
 use Rattle.commands.specs.declared.Read.{Read}
 use Rattle.commands.specs.declared.Read.the-variants.{End, Next, Refused}
-use Rattle.commands.specs.declared.Ending.{Ending}
-use Rattle.commands.specs.declared.Ending.the-variants.{End as AtEnd, Refused as AtRefusal, Compile as AtCompile}
-use Rattle.commands.specs.declared.Drawing.{Drawing}
+use Rattle.gathering.specs.declared.Ending.{Ending}
+use Rattle.gathering.specs.declared.Ending.the-variants.{End as AtEnd, Refused as AtRefusal, Compile as AtCompile}
+use Rattle.gathering.specs.declared.Drawing.{Drawing}
 use Rattle.commands.specs.Reading.{readAt}
-use Rattle.commands.specs.Gathering.{Given, gatherBy, gatherFrom, gathered, limitOf, Draws}
+use Rattle.gathering.specs.Gathering.{Given, gatherBy, gatherFrom, gathered, limitOf, Draws}
 use Rattle.commands.proofs.Numbers.{read-end}
 use Rattle.topology.proofs.Cases.{clash}
 use Rattle.commands.proofs.Found.{further}

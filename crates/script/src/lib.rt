@@ -3,8 +3,8 @@ mod replies;
 mod steps;
 mod turns;
 
-use commands::Drawing;
-use commands::Ending;
+use gathering::Drawing;
+use gathering::Ending;
 use pair_state::Pair;
 use turns::Turn;
 ghost use mathlib.Core.List.{[]};
@@ -22,7 +22,7 @@ ghost use Rattle.script.specs.Parts.{textAt, openingText};
 pub fn run(script: &[u8], out: &mut [u8]) -> usize
     ensures { λ r. ⌜ Puts (now (out .entry)) 0 (output (now (script .entry))) (now (out .exit)) r ⌝ }
 {
-    let gathered = commands::gather(script);
+    let gathered = gathering::gather(script);
     let drawing = gathered.drawing;
     let ending = gathered.ending;
     match ending {

@@ -3,7 +3,7 @@ use mathlib.Core.Path.{sym, _∙_}
 use native.Mathlib.Omega.{arith}
 use borrow.Author.Needs.{needs}
 use Rattle.text.proofs.Writing.{puts-none, puts-length}
-use Rattle.commands.proofs.Keeping.{kept-fits}
+use Rattle.gathering.proofs.Keeping.{kept-fits}
 use Rattle.script.proofs.Before.{ends-with-script, ends-refused, opening-text}
 use Rattle.script.proofs.run.Statement.{statement}
 use Rattle.script.proofs.run.Tie as tie

@@ -10,9 +10,9 @@ use lib.Seq.{take-all, take-nil, take-suc-set, take-append-le}
 use lib.Dec.{ltb}
 use borrow.Author.Tests.{ltb-true, ltb-false}
 use Rattle.topology.specs.Reader.{pick}
-use Rattle.commands.specs.declared.Drawing.{Drawing}
-use Rattle.commands.specs.Gathering.{Kept, Draws}
-use Rattle.commands.specs.Turns.{Undrawn, sourceAdded, targetAdded, limitGiven}
+use Rattle.gathering.specs.declared.Drawing.{Drawing}
+use Rattle.gathering.specs.Gathering.{Kept, Draws}
+use Rattle.gathering.specs.Adding.{Undrawn, sourceAdded, targetAdded, limitGiven}
 use mathlib.Core.Option.{Option, none, some}
 
 module _ (array : List ℕ) (n most : ℕ) (bytes : List ℕ) (b : ℕ) (k : Kept array n most bytes) where

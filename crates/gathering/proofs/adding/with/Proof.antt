@@ -1,10 +1,10 @@
 -- The cases of the command.
 use mathlib.Core.Path.{sym, ap, _∙_}
-use Rattle.commands.specs.Turns.{given}
-use Rattle.commands.proofs.Others.{gives-none}
+use Rattle.gathering.specs.Adding.{given}
+use Rattle.gathering.proofs.Others.{gives-none}
 use borrow.Author.Needs.{needs}
-use Rattle.commands.proofs.gathering.with.Statement.{statement}
-use Rattle.commands.proofs.gathering.with.Tie as tie
+use Rattle.gathering.proofs.adding.with.Statement.{statement}
+use Rattle.gathering.proofs.adding.with.Tie as tie
 
 enum-known-command : tie.Need-enum-known-command
 enum-known-command c = search needs

@@ -1,9 +1,9 @@
 -- The byte is kept while there is a place for it.
 use borrow.Author.Tests.{lt-ltb, le-ltb}
-use Rattle.commands.specs.Turns.{targetAdded}
+use Rattle.gathering.specs.Adding.{targetAdded}
 use borrow.Author.Needs.{needs}
-use Rattle.commands.proofs.gathering.add_target.Statement.{statement}
-use Rattle.commands.proofs.gathering.add_target.Tie as tie
+use Rattle.gathering.proofs.adding.add_target.Statement.{statement}
+use Rattle.gathering.proofs.adding.add_target.Tie as tie
 
 element-write-next : tie.Need-element-write-next
 element-write-next c = search needs

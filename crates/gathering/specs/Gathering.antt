@@ -6,14 +6,14 @@ use mathlib.Core.List.{List, [], _∷_, _++_}
 use mathlib.Core.Bool.{Bool, true, false}
 use mathlib.Core.Option.{Option, none, some}
 use lib.ListN.{length, take}
 use Rattle.commands.specs.declared.Command.the-variants.{Source, Target, Limit, Compile, Step, Push, Pop}
 use Rattle.commands.specs.declared.Read.{Read}
 use Rattle.commands.specs.declared.Read.the-variants.{End, Next, Refused}
-use Rattle.commands.specs.declared.Ending.{Ending}
-use Rattle.commands.specs.declared.Ending.the-variants.{End as AtEnd, Refused as AtRefusal, Compile as AtCompile}
-use Rattle.commands.specs.declared.Drawing.{Drawing}
-use Rattle.commands.specs.declared.Gathered.{Gathered}
+use Rattle.gathering.specs.declared.Ending.{Ending}
+use Rattle.gathering.specs.declared.Ending.the-variants.{End as AtEnd, Refused as AtRefusal, Compile as AtCompile}
+use Rattle.gathering.specs.declared.Drawing.{Drawing}
+use Rattle.gathering.specs.declared.Gathered.{Gathered}
 use Rattle.commands.specs.Reading.{readAt}
 
 pub record Given : Type 0 where
   pub source : List ℕ

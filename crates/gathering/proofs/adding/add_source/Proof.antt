@@ -1,9 +1,9 @@
 -- The byte is kept while there is a place for it.
 use borrow.Author.Tests.{lt-ltb, le-ltb}
-use Rattle.commands.specs.Turns.{sourceAdded}
+use Rattle.gathering.specs.Adding.{sourceAdded}
 use borrow.Author.Needs.{needs}
-use Rattle.commands.proofs.gathering.add_source.Statement.{statement}
-use Rattle.commands.proofs.gathering.add_source.Tie as tie
+use Rattle.gathering.proofs.adding.add_source.Statement.{statement}
+use Rattle.gathering.proofs.adding.add_source.Tie as tie
 
 element-write-next : tie.Need-element-write-next
 element-write-next c = search needs

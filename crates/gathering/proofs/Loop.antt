@@ -7,21 +7,22 @@ use mathlib.Core.List.{List, [], _∷_, _++_}
 use mathlib.Core.Bool.{Bool, true, false}
 use mathlib.Core.Option.{Option, none, some}
 use lib.ListN.{length}
 use Rattle.commands.specs.declared.Command.{Command}
 use Rattle.commands.specs.declared.Command.the-variants.{Source, Target, Limit, Compile, Step, Push, Pop}
 use Rattle.commands.specs.declared.Read.{Read}
 use Rattle.commands.specs.declared.Read.the-variants.{End, Next, Refused}
-use Rattle.commands.specs.declared.Ending.{Ending}
-use Rattle.commands.specs.declared.Ending.the-variants.{End as AtEnd, Refused as AtRefusal, Compile as AtCompile}
-use Rattle.commands.specs.declared.Drawing.{Drawing}
-use Rattle.commands.specs.declared.gathering.Found.the-variants.{Ends, Gives}
+use Rattle.gathering.specs.declared.Ending.{Ending}
+use Rattle.gathering.specs.declared.Ending.the-variants.{End as AtEnd, Refused as AtRefusal, Compile as AtCompile}
+use Rattle.gathering.specs.declared.Drawing.{Drawing}
+use Rattle.gathering.specs.declared.turns.Found.the-variants.{Ends, Gives}
 use Rattle.commands.specs.Reading.{readAt}
-use Rattle.commands.specs.Gathering.{Given, ended, gatherBy, gatherFrom, gathered, limitOf, Draws, Gathers}
-use Rattle.commands.specs.Turns.{turnOf, foundBy, Undrawn, given}
+use Rattle.gathering.specs.Gathering.{Given, ended, gatherBy, gatherFrom, gathered, limitOf, Draws, Gathers}
+use Rattle.gathering.specs.Turns.{turnOf, foundBy}
+use Rattle.gathering.specs.Adding.{Undrawn, given}
 use Rattle.commands.proofs.Numbers.{read-end}
 use Rattle.topology.proofs.Cases.{clash}
 use Rattle.commands.proofs.Found.{further, next-inside}
-use Rattle.commands.proofs.Keeping.{undrawn, draws-source, draws-target, draws-limit}
+use Rattle.gathering.proofs.Keeping.{undrawn, draws-source, draws-target, draws-limit}
 
 -- a command that gives something: what is gathered then
 record On (r : Read) (at : ℕ) (s t : List ℕ) (l : Option ℕ) (d : Drawing) (c : Command) (next : ℕ) : Type 0 where

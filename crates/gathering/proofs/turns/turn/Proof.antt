@@ -1,8 +1,8 @@
 -- The cases of the command, and of whether the limit is given.
-use Rattle.commands.proofs.Others.{calls-early}
+use Rattle.gathering.proofs.Others.{calls-early}
 use borrow.Author.Needs.{needs}
-use Rattle.commands.proofs.gathering.turn.Statement.{statement}
-use Rattle.commands.proofs.gathering.turn.Tie as tie
+use Rattle.gathering.proofs.turns.turn.Statement.{statement}
+use Rattle.gathering.proofs.turns.turn.Tie as tie
 
 enum-told : tie.Need-enum-told
 enum-told c = search needs

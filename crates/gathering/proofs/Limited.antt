@@ -4,12 +4,12 @@ use Prim.Native.Nat.{ℕ, zero, suc}
 use mathlib.Core.List.{List, [], _∷_, _++_}
 use mathlib.Core.Option.{Option, none, some}
 use lib.ListN.{length}
 use Rattle.commands.specs.declared.Command.the-variants.{Source, Target, Limit, Compile, Step, Push, Pop}
 use Rattle.commands.specs.declared.Read.{Read}
 use Rattle.commands.specs.declared.Read.the-variants.{End, Next, Refused}
-use Rattle.commands.specs.declared.Ending.the-variants.{Compile as AtCompile}
+use Rattle.gathering.specs.declared.Ending.the-variants.{Compile as AtCompile}
 use Rattle.commands.specs.Reading.{readAt}
-use Rattle.commands.specs.Gathering.{Given, gatherBy, gatherFrom, gathered}
+use Rattle.gathering.specs.Gathering.{Given, gatherBy, gatherFrom, gathered}
 use Rattle.topology.proofs.Cases.{clash}
 
 abbrev Limited : Given → Type 0

@@ -3,9 +3,9 @@ use mathlib.Core.Path.{sym, _∙_}
 use Prim.Native.Nat.{_-_}
 use borrow.Author.Needs.{needs}
 use lib.ListN.{length}
-use Rattle.commands.proofs.Loop.{Going, start, finish, again, nearer}
-use Rattle.commands.proofs.gather.Statement.{statement}
-use Rattle.commands.proofs.gather.Tie as tie
+use Rattle.gathering.proofs.Loop.{Going, start, finish, again, nearer}
+use Rattle.gathering.proofs.gather.Statement.{statement}
+use Rattle.gathering.proofs.gather.Tie as tie
 
 abbrev Inv-loop : tie.InvT-loop
 Inv-loop script drawing₀ at₀ drawing at = Going script drawing at

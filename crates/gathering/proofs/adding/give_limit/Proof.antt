@@ -1,8 +1,8 @@
 -- Only the limit is another.
 use mathlib.Core.Path.{refl}
-use Rattle.commands.specs.Turns.{limitGiven}
-use Rattle.commands.proofs.gathering.give_limit.Statement.{statement}
-use Rattle.commands.proofs.gathering.give_limit.Tie as tie
+use Rattle.gathering.specs.Adding.{limitGiven}
+use Rattle.gathering.proofs.adding.give_limit.Statement.{statement}
+use Rattle.gathering.proofs.adding.give_limit.Tie as tie
 
 returns : tie.Need-returns
 unfolding limitGiven

@@ -5,13 +5,14 @@ use mathlib.Core.List.{[], _∷_}
 use mathlib.Core.Bool.{Bool}
 use types.Run.{OneOf, miss}
 use denote.Enum.Declared.{tagOf}
 use Rattle.commands.specs.declared.Command.{Command}
 use Rattle.commands.specs.declared.Command.the-variants.{Source, Target, Limit, Compile, Step, Push, Pop}
-use Rattle.commands.specs.declared.Ending.the-variants.{Refused as AtRefusal}
-use Rattle.commands.specs.declared.Drawing.{Drawing}
-use Rattle.commands.specs.declared.gathering.Found.the-variants.{Ends}
-use Rattle.commands.specs.Turns.{turnOf, given}
+use Rattle.gathering.specs.declared.Ending.the-variants.{Refused as AtRefusal}
+use Rattle.gathering.specs.declared.Drawing.{Drawing}
+use Rattle.gathering.specs.declared.turns.Found.the-variants.{Ends}
+use Rattle.gathering.specs.Turns.{turnOf}
+use Rattle.gathering.specs.Adding.{given}
 use Rattle.commands.proofs.Command.{the-type}
 
 pub calls-early : (limited : Bool) (at : ℕ) (c : Command) (next : ℕ) → OneOf (4 ∷ 5 ∷ 6 ∷ []) (tagOf the-type c)
     → Ends (AtRefusal 22 at) ≡ turnOf limited at c next

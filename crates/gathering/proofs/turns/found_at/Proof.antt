@@ -1,8 +1,8 @@
 -- The cases of what the reader finds.
 use mathlib.Core.Path.{refl}
 use borrow.Author.Needs.{needs}
-use Rattle.commands.proofs.gathering.found_at.Statement.{statement}
-use Rattle.commands.proofs.gathering.found_at.Tie as tie
+use Rattle.gathering.proofs.turns.found_at.Statement.{statement}
+use Rattle.gathering.proofs.turns.found_at.Tie as tie
 
 read-at-requires : tie.Need-read-at-requires
 read-at-requires c κs = search needs
