@@ -2,13 +2,13 @@
 // column for each step below the root.
 mod elements;
 
-use gathering::Drawing;
-use gathering::Ending;
 use elements::put_head;
 use elements::put_join;
 use elements::put_limb;
 use elements::put_mark;
 use elements::put_note;
+use gathering::Drawing;
+use gathering::Ending;
 use places::Role;
 use places::child_number;
 use places::depth;

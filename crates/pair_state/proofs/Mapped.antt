@@ -16,8 +16,7 @@ use Rattle.embedding.specs.Answers.{checked}
 use Rattle.embedding.specs.declared.Checked.{Checked}
 use Rattle.embedding.specs.declared.Checked.the-variants.{Passes, Refused}
 use Rattle.queue_state.specs.State.{bytes}
-use Rattle.queue_state.proofs.Verdict.{formed}
-use Rattle.queue_state.proofs.Matches.{off}
+use Rattle.queue_state.proofs.Formed.{off, formed}
 use Rattle.pair_state.specs.Pair.{images, mapped, mapPasses, wellPaired}
 use Rattle.pair_state.specs.declared.Pair.{Pair}
 use Rattle.pair_state.proofs.Parts.{Parts, parts, map-fault}

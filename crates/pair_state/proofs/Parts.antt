@@ -11,7 +11,7 @@ use Rattle.embedding_laws.specs.Check.{mapFault}
 use Rattle.embedding_laws.proofs.Rules.{mapFault-none}
 use Rattle.queue_state.specs.State.{bytes, wellFormed}
 use Rattle.queue_state.specs.declared.State.{State}
-use Rattle.queue_state.proofs.Verdict.{formed}
+use Rattle.queue_state.proofs.Formed.{formed}
 use Rattle.pair_state.specs.Pair.{sourceTree, chipTree, images, mapped, wellPaired}
 use Rattle.pair_state.specs.declared.Pair.{Pair}
 

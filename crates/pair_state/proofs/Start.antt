@@ -23,7 +23,7 @@ use Rattle.simulation.proofs.Simulation.{paired-opened}
 use Rattle.queue_state.specs.State.{bytes, machine}
 use Rattle.queue_state.specs.Opening.{limitFault, openFault, Opens}
 use Rattle.queue_state.specs.declared.Opened.{Opened}
-use Rattle.queue_state.proofs.Verdict.{formed}
+use Rattle.queue_state.proofs.Formed.{formed}
 use Rattle.pair_state.specs.Pair.{mapped, InStep}
 use Rattle.pair_state.specs.Opening.{bothFault, OpensBoth}
 use Rattle.pair_state.proofs.Parts.{joined, not-source}

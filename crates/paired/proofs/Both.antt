@@ -15,7 +15,7 @@ use Rattle.simulation.proofs.Simulation.{paired-next, answers-alike}
 use Rattle.queue_state.specs.State.{bytes, machine, wellFormed}
 use Rattle.queue_state.specs.Calls.{Serves}
 use Rattle.queue_state.specs.declared.State.{State}
-use Rattle.queue_state.proofs.Matches.{off}
+use Rattle.queue_state.proofs.Formed.{off}
 use Rattle.queue_state.proofs.Served.{apart}
 use Rattle.pair_state.specs.Pair.{sourceTree, chipTree, images, mapped, wellPaired, InStep}
 use Rattle.paired.specs.Calls.{ServesChip, ServesBoth}

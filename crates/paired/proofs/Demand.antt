@@ -28,8 +28,8 @@ use Rattle.queue_state.specs.Calls.{Serves}
 use Rattle.queue_push.specs.Calls.{stepsOf}
 use Rattle.queue_state.specs.declared.State.{State}
 use Rattle.queue_push.specs.declared.Path.{Path}
-use Rattle.queue_state.specs.declared.Amount.the-variants.{Count}
-use Rattle.queue_state.proofs.Verdict.{formed}
+use Rattle.queue_check.specs.declared.Amount.the-variants.{Count}
+use Rattle.queue_state.proofs.Formed.{formed}
 use Rattle.translator.specs.Carry.{carryFault, Carries}
 use Rattle.translator.specs.declared.Carried.{Carried}
 use Rattle.translator.proofs.Outcome.{carried-steps}

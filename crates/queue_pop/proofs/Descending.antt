@@ -23,13 +23,13 @@ use Rattle.topology.proofs.Lookup.{valid-size, valid-length, valid-child, valid
 use Rattle.pifo.specs.Queue.{Entry, entry, child, packet}
 use Rattle.pifo.specs.Numbered.{Queues, kidAt, through, descentBy, descent, isIn}
 use Rattle.queue_state.specs.State.{entryOf, itemOf}
-use Rattle.queue_state.specs.Sound.{noEntry, marked}
+use Rattle.queue_state.specs.Entries.{noEntry, marked}
 use Rattle.queue_pop.specs.Departures.{headOf, Heading, Down}
 use Rattle.queue_state.specs.declared.Item.{Item as CodeItem}
 use Rattle.queue_state.specs.declared.Item.the-variants.{Child, Packet}
 use Rattle.queue_pop.specs.declared.departures.Heads.{Heads}
 use Rattle.queue_pop.specs.declared.departures.Trail.{Trail}
-use Rattle.queue_state.proofs.Matches.{off}
+use Rattle.queue_state.proofs.Formed.{off}
 
 -- ---- heads
 

@@ -14,15 +14,14 @@ use borrow.Author.Tests.{lt-ltb}
 use Rattle.pifo.specs.Queue.{Entry}
 use Rattle.pifo.proofs.Order.{join}
 use Rattle.queue_state.specs.State.{entryOf, owned, queueIn, allBelow}
-use Rattle.queue_state.specs.Sound.{noEntry}
+use Rattle.queue_state.specs.Entries.{noEntry}
 use Rattle.queue_pop.specs.Departures.{unless, Stays}
 use Rattle.queue_state.specs.Calls.{withEntries}
 use Rattle.queue_state.specs.declared.State.{State}
 use Rattle.queue_pop.specs.declared.PopAnswer.the-variants.{Departed}
 use Rattle.queue_pop.specs.declared.departures.Trail.{Trail}
 use Rattle.queue_state.specs.declared.Entry.{Entry as CodeEntry}
-use Rattle.queue_state.proofs.Owned.{queue-own, queue-other}
-use Rattle.queue_state.proofs.Pass.{below-at, below-append}
+use Rattle.queue_state.proofs.Owned.{queue-own, queue-other, below-at, below-append}
 use Rattle.queue_state.proofs.Ranges.{range, range-empty, range-own, range-other}
 
 pub record Leaving (os : List ℕ) (es : List CodeEntry) (used nodes : ℕ) (lost : List ℕ) (marks owners : List ℕ) (entries : List CodeEntry) (kept i : ℕ) : Type 0 where

@@ -31,7 +31,7 @@ use Rattle.queue_state.specs.declared.State.{State}
 use Rattle.queue_pop.specs.declared.departures.Trail.{Trail}
 use Rattle.queue_pop.specs.declared.PopAnswer.{PopAnswer}
 use Rattle.queue_pop.specs.declared.Popped.{Popped}
-use Rattle.queue_state.proofs.Verdict.{Formed, Arrays, formed, form}
+use Rattle.queue_state.proofs.Formed.{Formed, Arrays, formed, form}
 use Rattle.queue_state.proofs.Served.{apart, served}
 
 wider : (k n : ℕ) (l : List ℕ) → k ≤ n → allBelow k l ≡ true → allBelow n l ≡ true

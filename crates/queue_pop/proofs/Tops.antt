@@ -12,10 +12,10 @@ use lib.Seq.{getD-set-same, getD-set-other, getD-take, length-take-le}
 use Rattle.lists.proofs.Replicate.{getD-everywhere}
 use Rattle.pifo.specs.Queue.{Entry}
 use Rattle.queue_state.specs.State.{entryOf, queueIn, allBelow}
-use Rattle.queue_state.specs.Sound.{noEntry, marked}
+use Rattle.queue_state.specs.Entries.{noEntry, marked}
 use Rattle.queue_pop.specs.Departures.{headOf, Heading}
 use Rattle.queue_state.specs.declared.Entry.{Entry as CodeEntry}
-use Rattle.queue_state.proofs.Pass.{below-at}
+use Rattle.queue_state.proofs.Owned.{below-at}
 use Rattle.queue_state.proofs.Ranges.{range, range-empty, range-own, range-other}
 
 -- the heads of the queues among the entries from index i on

@@ -10,7 +10,7 @@ use Rattle.pifo.specs.Queue.{Entry}
 use Rattle.pifo.specs.Numbered.{Queues, isIn, rest}
 use Rattle.queue_state.specs.State.{entryOf, queueIn, allBelow}
 use Rattle.queue_state.specs.Calls.{withEntries}
-use Rattle.queue_state.specs.Sound.{noEntry, marked}
+use Rattle.queue_state.specs.Entries.{noEntry, marked}
 use Rattle.queue_pop.specs.declared.departures.Heads.{Heads}
 use Rattle.queue_pop.specs.declared.departures.Trail.{Trail}
 use Rattle.queue_state.specs.declared.State.{State}

@@ -1,9 +1,9 @@
 // The pop of the queue tree, a PIFO tree with a packet limit: it takes the tree's state and gives back the state after it. The crate
-// `queue_state` has the state, its opening and its test, the crate `queue_push` the push.
+// `queue_state` has the state and its opening, `queue_check` its test, `queue_push` the push.
 mod departures;
 
+use queue_check::examine;
 use queue_state::State;
-use queue_state::examine;
 ghost use Rattle.pifo.specs.Machine.{popping};
 ghost use Rattle.queue_state.specs.Calls.{Serves};
 ghost use Rattle.queue_pop.specs.Calls.{popAnswer};

@@ -18,15 +18,14 @@ use Rattle.pifo.specs.Numbered.{insertSome}
 use Rattle.pifo.proofs.Append.{lastFrom, rises-append, last-append, insert-last, insert-before}
 use Rattle.pifo.proofs.Order.{both, join}
 use Rattle.queue_state.specs.State.{entryOf, owned, queueIn, allBelow}
-use Rattle.queue_state.specs.Sound.{noEntry, marked}
+use Rattle.queue_state.specs.Entries.{noEntry, marked}
 use Rattle.queue_push.specs.Arrivals.{sum, addedAt, Ready, Entered}
 use Rattle.queue_state.specs.Calls.{withEntries}
 use Rattle.queue_state.specs.declared.Entry.{Entry as CodeEntry}
 use Rattle.queue_state.specs.declared.State.{State}
 use Rattle.queue_push.specs.declared.arrivals.Added.{Added}
 use Rattle.queue_push.specs.declared.PushAnswer.the-variants.{Accepted}
-use Rattle.queue_state.proofs.Owned.{queue-own, queue-other, queue-front}
-use Rattle.queue_state.proofs.Pass.{below-at, below-append}
+use Rattle.queue_state.proofs.Owned.{queue-own, queue-other, queue-front, below-at, below-append}
 use Rattle.queue_state.proofs.Ranges.{range, queue-split, range-empty, stored-own, stored-other}
 use Rattle.queue_push.proofs.Walking.{sum-set}
 

@@ -28,7 +28,7 @@ use Rattle.queue_state.specs.declared.State.{State}
 use Rattle.queue_push.specs.declared.arrivals.Added.{Added}
 use Rattle.queue_push.specs.declared.PushAnswer.{PushAnswer}
 use Rattle.queue_push.specs.declared.Pushed.{Pushed}
-use Rattle.queue_state.proofs.Verdict.{Formed, Arrays, formed, form}
+use Rattle.queue_state.proofs.Formed.{Formed, Arrays, formed, form}
 use Rattle.queue_state.proofs.Served.{apart, served}
 use Rattle.queue_push.proofs.Rooms.{room}
 

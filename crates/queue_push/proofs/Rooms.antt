@@ -21,7 +21,7 @@ use Rattle.pifo.proofs.Numbered.{shape-assemble}
 use Rattle.pifo.proofs.Total.{total, total-held, total-assemble, sumFrom}
 use Rattle.queue_state.specs.State.{entryOf, owned, queueIn, queues, bytes, treeOf, allBelow}
 use Rattle.queue_state.specs.declared.State.{State}
-use Rattle.queue_state.proofs.Verdict.{Formed, Arrays}
+use Rattle.queue_state.proofs.Formed.{Formed, Arrays}
 
 -- ---- each element has one owner
 

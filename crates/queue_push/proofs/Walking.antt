@@ -29,7 +29,7 @@ use Rattle.pifo.specs.Tree.{Step, step, pathFault}
 use Rattle.pifo.specs.Numbered.{kidAt, entered}
 use Rattle.pifo.proofs.Paths.{fault-above, fault-on, fault-off}
 use Rattle.queue_state.specs.State.{entryOf}
-use Rattle.queue_state.specs.Sound.{noEntry, marked}
+use Rattle.queue_state.specs.Entries.{noEntry, marked}
 use Rattle.queue_push.specs.Arrivals.{sum, Walked}
 use Rattle.queue_push.specs.Calls.{stepOf, stepsOf}
 use Rattle.queue_push.specs.declared.Path.{Path}

@@ -10,7 +10,7 @@ use Rattle.pifo.specs.Queue.{Entry, risesFrom}
 use Rattle.pifo.specs.Tree.{Step, pathFault}
 use Rattle.pifo.specs.Numbered.{entered, insertSome}
 use Rattle.queue_state.specs.State.{entryOf, queueIn, allBelow}
-use Rattle.queue_state.specs.Sound.{noEntry, marked}
+use Rattle.queue_state.specs.Entries.{noEntry, marked}
 use Rattle.queue_state.specs.Calls.{withEntries}
 use Rattle.queue_state.specs.declared.Entry.{Entry as CodeEntry}
 use Rattle.queue_state.specs.declared.State.{State}

@@ -12,7 +12,7 @@ ghost use mathlib.Core.Logic.{_≢_, _⊎_};
 ghost use Prim.Native.Nat.{_≤_, _<_};
 ghost use lib.ListN.{length};
 ghost use Rattle.topology.specs.Reader.{fault, tree};
-ghost use Rattle.queue_state.specs.Sound.{Decides};
+ghost use Rattle.queue_check.specs.Sound.{Decides};
 ghost use Rattle.queue_push.specs.Arrivals.{Walked, Ready, Entered};
 ghost use Rattle.queue_push.specs.Calls.{stepsOf};
 

@@ -1,9 +1,9 @@
 // The push of the queue tree, a PIFO tree with a packet limit: it takes the tree's state and gives back the state after it. The crate
-// `queue_state` has the state, its opening and its test, the crate `queue_pop` the pop.
+// `queue_state` has the state and its opening, `queue_check` its test, `queue_pop` the pop.
 mod arrivals;
 
+use queue_check::examine;
 use queue_state::State;
-use queue_state::examine;
 ghost use mathlib.Core.Path.{_≡_};
 ghost use Prim.Native.Nat.{suc, min};
 ghost use Rattle.pifo.specs.Machine.{pushing, most};

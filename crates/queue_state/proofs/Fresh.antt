@@ -25,9 +25,9 @@ use Rattle.pifo.proofs.Numbered.{empty-assemble}
 use Rattle.pifo.proofs.Runs.{opened-sound}
 use Rattle.queue_state.specs.State.{queueIn, queues, bytes, treeOf, machine, allBelow, wellFormed}
 use Rattle.queue_state.specs.Opening.{limitFault, openFault, Opens}
-use Rattle.queue_state.specs.Sound.{Empty}
+use Rattle.queue_state.specs.Entries.{Empty}
 use Rattle.queue_state.specs.declared.Opened.{Opened}
-use Rattle.queue_state.proofs.Verdict.{formed, form}
+use Rattle.queue_state.proofs.Formed.{formed, form}
 
 -- ---- the refusal
 

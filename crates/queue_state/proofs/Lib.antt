@@ -1,9 +1,5 @@
+pub mod Formed
 pub mod Owned
-pub mod Slots
-pub mod Pass
-pub mod Matches
-pub mod Verdict
 pub mod Fresh
-pub mod Counts
 pub mod Ranges
 pub mod Served

@@ -1,18 +1,19 @@
--- The queue of a node as its entries are read one by one.
+-- The queue of a node as its entries are read one by one, and their owners.
 use mathlib.Core.Path.{_≡_, refl, sym, ap, _∙_}
 use mathlib.Core.Logic.{_≢_}
 use Prim.Native.Nat.{ℕ, zero, suc, _+_, _≤_, _<_}
 use native.Mathlib.Nat.{add-zero, not-suc-le-zero, le-of-suc-le-suc}
 use native.Mathlib.Omega.{arith}
 use mathlib.Core.List.{List, [], _∷_, _++_, map, map-append, append-assoc, append-nil}
-use mathlib.Core.Bool.{Bool, true, false}
+use mathlib.Core.Bool.{Bool, true, false, _&&_}
 use lib.ListN.{length, take, getD, length-take}
 use Rattle.lists.proofs.Map.{length-map}
-use lib.Dec.{eqb}
-use borrow.Author.Tests.{eq-eqb, ne-eqb}
+use lib.Dec.{eqb, ltb}
+use borrow.Author.Tests.{eq-eqb, ne-eqb, ltb-true}
 use Rattle.topology.specs.Reader.{pick}
 use Rattle.pifo.specs.Queue.{Entry}
-use Rattle.queue_state.specs.State.{entryOf, owned, queueIn}
+use Rattle.pifo.proofs.Order.{both}
+use Rattle.queue_state.specs.State.{entryOf, owned, queueIn, allBelow}
 use Rattle.queue_state.specs.declared.Entry.{Entry as CodeEntry}
 
 module _ {A : Type 0} (n : ℕ) where
@@ -79,3 +80,18 @@ module _ (os : List ℕ) (es : List CodeEntry) (d : CodeEntry) where
   pub queue-length : (i n : ℕ) → length (queueIn os es i n) ≤ i
   queue-length i n =
       omega (arith, length-map entryOf (owned n (take i os) (take i es)), owned-length n (take i os) (take i es), length-take i os)
+
+-- ---- owners
+
+pub below-append : (k : ℕ) (l m : List ℕ) → allBelow k (l ++ m) ≡ allBelow k l && allBelow k m
+below-append k [] m = refl
+below-append k (o ∷ l) m = by-first (ltb o k) (below-append k l m)
+  where
+    by-first : (b : Bool) → allBelow k (l ++ m) ≡ allBelow k l && allBelow k m → b && allBelow k (l ++ m) ≡ (b && allBelow k l) && allBelow k m
+    by-first true r = r
+    by-first false r = refl
+
+pub below-at : (k : ℕ) (l : List ℕ) (i : ℕ) → i < length l → allBelow k l ≡ true → getD l i 0 < k
+below-at k [] i h e = absurd (not-suc-le-zero h)
+below-at k (o ∷ l) zero h e = ltb-true o k (both (ltb o k) (allBelow k l) e .0)
+below-at k (o ∷ l) (suc i) h e = below-at k l i (le-of-suc-le-suc h) (both (ltb o k) (allBelow k l) e .1)

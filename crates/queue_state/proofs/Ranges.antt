@@ -13,7 +13,7 @@ use borrow.Author.Tests.{eq-eqb, ne-eqb}
 use Rattle.topology.specs.Reader.{pick}
 use Rattle.pifo.specs.Queue.{Entry}
 use Rattle.queue_state.specs.State.{entryOf, owned, queueIn}
-use Rattle.queue_state.specs.Sound.{noEntry}
+use Rattle.queue_state.specs.Entries.{noEntry}
 use Rattle.queue_state.specs.declared.Entry.{Entry as CodeEntry}
 
 -- the queue of node n among the entries from index k up to, not including, index b

@@ -1,16 +1,14 @@
-// The opening of a tree: its refusal, and the state with no entries.
+// The opening of a tree: the limit's refusal, and the state with no entries.
 use super::Entry;
 use super::Item;
 use super::State;
-use topology::Reading;
-use topology::TARGET_NODES;
 ghost use mathlib.Core.Path.{_≡_};
 ghost use Prim.Native.Nat.{_≤_};
 ghost use lib.ListN.{length, take};
-ghost use Rattle.queue_state.specs.Opening.{openFault, limitFault};
-ghost use Rattle.queue_state.specs.Sound.{Empty};
+ghost use Rattle.queue_state.specs.Opening.{limitFault};
+ghost use Rattle.queue_state.specs.Entries.{Empty};
 
-fn limit_refusal(limit: usize) -> u8
+pub(crate) fn limit_refusal(limit: usize) -> u8
     ensures { λ r. ⌜ r ≡ limitFault limit ⌝ }
 {
     if limit == 0 {
@@ -20,16 +18,6 @@ fn limit_refusal(limit: usize) -> u8
         return 17;
     }
     0
-}
-
-// The number by which an opening is refused, or 0.
-pub(crate) fn refusal(bytes: &[u8], limit: usize) -> u8
-    ensures { λ r. ⌜ r ≡ openFault (now (bytes .entry)) limit ⌝ }
-{
-    match topology::read(bytes, TARGET_NODES) {
-        Reading::Tree => limit_refusal(limit),
-        Reading::Refused(number) => number,
-    }
 }
 
 // The bytes in the first places of an array.

@@ -1,7 +1,7 @@
 // Replies to calls on both trees: from the answers of the chip's side to a line of text.
+use queue_check::Amount;
 use queue_pop::PopAnswer;
 use queue_push::PushAnswer;
-use queue_state::Amount;
 ghost use mathlib.Core.Path.{_≡_};
 ghost use mathlib.Core.Bool.{_&&_};
 ghost use lib.Dec.{leb};

@@ -3,7 +3,7 @@ use borrow.Author.Needs.{needs}
 use mathlib.Core.Path.{sym}
 use native.Mathlib.Omega.{arith}
 use lib.Seq.{length-take-le}
-use Rattle.queue_state.proofs.Verdict.{kept}
+use Rattle.queue_state.proofs.Formed.{kept}
 use Rattle.pair_state.proofs.Mapped.{Arrays, many-nodes, many-places, mapped-off}
 use Rattle.paired.proofs.Carrying.{no-carrying, as-pair, carrying, carrying-fault, carrying-ill}
 use Rattle.paired.proofs.carried.Statement.{statement}

@@ -10,7 +10,7 @@ use Rattle.topology.proofs.Ancestry.{size-pos}
 use Rattle.topology.proofs.Lookup.{valid-size}
 use Rattle.pifo.specs.Tree.{held}
 use Rattle.queue_state.specs.State.{bytes, queues, treeOf}
-use Rattle.queue_state.proofs.Verdict.{kept, Arrays, formed}
+use Rattle.queue_state.proofs.Formed.{kept, Arrays, formed}
 use Rattle.queue_state.proofs.Served.{ill-served}
 use Rattle.queue_pop.proofs.Popping.{none-served, narrow, long-marks, departed-served}
 use Rattle.queue_pop.proofs.pop.Statement.{statement}
@@ -20,7 +20,7 @@ use Rattle.queue_pop.proofs.pop.Lts as lts
 use Rattle.queue_pop.proofs.departures.find_heads.Reads as find-heads-reads
 use Rattle.queue_pop.proofs.departures.pop_from.Reads as pop-from-reads
 use Rattle.queue_pop.proofs.departures.take_out.Reads as take-out-reads
-use Rattle.queue_state.proofs.examine.Reads as examine-reads
+use Rattle.queue_check.proofs.examine.Reads as examine-reads
 
 arrays : (c : lts.Start (examine-reads.Asked, examine-reads.Learnt, find-heads-reads.Asked, find-heads-reads.Learnt, pop-from-reads.Asked, pop-from-reads.Learnt, take-out-reads.Asked, take-out-reads.Learnt) reads.Pre reads.Post) → Arrays (c .args .state)
 arrays c =

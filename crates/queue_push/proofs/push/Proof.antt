@@ -5,7 +5,7 @@ use mathlib.Core.Path.{sym, _∙_}
 use lib.Seq.{length-take-le}
 use borrow.Author.Tests.{not-true, not-false}
 use Rattle.queue_state.specs.State.{bytes}
-use Rattle.queue_state.proofs.Verdict.{kept, Arrays, formed}
+use Rattle.queue_state.proofs.Formed.{kept, Arrays, formed}
 use Rattle.queue_state.proofs.Served.{ill-served}
 use Rattle.queue_push.proofs.Pushing.{fault-served, full-served, ready, accepted-served}
 use Rattle.queue_push.proofs.push.Statement.{statement}
@@ -15,7 +15,7 @@ use Rattle.queue_push.proofs.push.Lts as lts
 use Rattle.queue_push.proofs.arrivals.enter.Reads as enter-reads
 use Rattle.queue_push.proofs.arrivals.walk.Reads as walk-reads
 use Rattle.queue_push.proofs.counted.Reads as counted-reads
-use Rattle.queue_state.proofs.examine.Reads as examine-reads
+use Rattle.queue_check.proofs.examine.Reads as examine-reads
 
 arrays : (c : lts.Start (examine-reads.Asked, examine-reads.Learnt, walk-reads.Asked, walk-reads.Learnt, counted-reads.Asked, counted-reads.Learnt, enter-reads.Asked, enter-reads.Learnt) reads.Pre reads.Post) → Arrays (c .args .state)
 arrays c =

@@ -2,7 +2,7 @@
 use borrow.Author.Needs.{needs}
 use native.Mathlib.Omega.{arith}
 use Prim.Native.Nat.{_-_}
-use Rattle.queue_state.proofs.Verdict.{kept, Arrays}
+use Rattle.queue_state.proofs.Formed.{kept, Arrays}
 use Rattle.queue_pop.proofs.Leaving.{Leaving, begin, owner-low, goes, stays, finish}
 use Rattle.queue_pop.proofs.departures.take_out.Statement.{statement}
 use Rattle.queue_pop.proofs.departures.take_out.Tie as tie

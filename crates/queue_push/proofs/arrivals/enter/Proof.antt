@@ -3,7 +3,7 @@ use borrow.Author.Needs.{needs}
 use native.Mathlib.Omega.{arith}
 use mathlib.Core.Path.{refl}
 use Prim.Native.Nat.{_+_, _-_}
-use Rattle.queue_state.proofs.Verdict.{kept, Arrays}
+use Rattle.queue_state.proofs.Formed.{kept, Arrays}
 use Rattle.queue_push.proofs.Entering.{Entering, begin, owner-low, behind, moved, at-pos, first, skipped, finish}
 use Rattle.queue_push.proofs.arrivals.enter.Statement.{statement}
 use Rattle.queue_push.proofs.arrivals.enter.Tie as tie

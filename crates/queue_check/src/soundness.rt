@@ -1,13 +1,13 @@
 // The test of a state (refusal 18): one pass over the entries, and then the counts of each node's children.
-use super::Entry;
-use super::Item;
+use queue_state::Entry;
+use queue_state::Item;
 use topology::wide;
 ghost use mathlib.Core.Path.{_≡_};
 ghost use Prim.Native.Nat.{ℕ, _≤_, _<_};
 ghost use lib.ListN.{length, take};
 ghost use Rattle.topology.specs.Reader.{fault};
 ghost use Rattle.queue_state.specs.State.{itemOf, queueIn};
-ghost use Rattle.queue_state.specs.Sound.{Small, Slot, Placed, Tallied, Decides, AllMatch, Mismatch};
+ghost use Rattle.queue_check.specs.Sound.{Small, Slot, Placed, Tallied, Decides, AllMatch, Mismatch};
 
 // What the pass has counted: the length of each node's queue, and at node * 9 + i how often child i occurs in it.
 pub(crate) struct Counted {

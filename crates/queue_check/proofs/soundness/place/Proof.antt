@@ -2,8 +2,8 @@
 use borrow.Author.Needs.{needs}
 use native.Mathlib.Omega.{arith}
 use mathlib.Core.Logic.{inl, inr}
-use Rattle.queue_state.proofs.soundness.place.Statement.{statement}
-use Rattle.queue_state.proofs.soundness.place.Tie as tie
+use Rattle.queue_check.proofs.soundness.place.Statement.{statement}
+use Rattle.queue_check.proofs.soundness.place.Tie as tie
 
 returns : tie.Need-returns
 returns c = record { owner = λ h. absurd (omega arith); rises = λ h. absurd (omega arith); slot = λ h. absurd (omega arith); fault = λ _. inl (c .if1 .taken) }

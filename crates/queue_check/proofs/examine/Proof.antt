@@ -5,17 +5,18 @@ use mathlib.Core.Path.{refl, sym, _∙_}
 use lib.Seq.{length-take-le}
 use borrow.Author.Tests.{not-true, not-false}
 use Rattle.topology.proofs.Lookup.{valid-length, valid-byte}
 use Rattle.queue_state.specs.State.{bytes}
 use Rattle.queue_state.proofs.Fresh.{refused-none, none-refused}
-use Rattle.queue_state.proofs.Verdict.{kept, Arrays, says-no, says-yes, ill-tally, ill-match, root-held, all-formed}
-use Rattle.queue_state.proofs.examine.Statement.{statement}
-use Rattle.queue_state.proofs.examine.Tie as tie
-use Rattle.queue_state.proofs.examine.Reads as reads
-use Rattle.queue_state.proofs.examine.Lts as lts
-use Rattle.queue_state.proofs.soundness.all_match.Reads as all-match-reads
-use Rattle.queue_state.proofs.soundness.tally.Reads as tally-reads
-use Rattle.queue_state.proofs.soundness.wide16.Reads as wide16-reads
-use Rattle.queue_state.proofs.opening.refusal.Reads as refusal-reads
+use Rattle.queue_state.proofs.Formed.{kept, Arrays}
+use Rattle.queue_check.proofs.Verdict.{says-no, says-yes, ill-tally, ill-match, root-held, all-formed}
+use Rattle.queue_check.proofs.examine.Statement.{statement}
+use Rattle.queue_check.proofs.examine.Tie as tie
+use Rattle.queue_check.proofs.examine.Reads as reads
+use Rattle.queue_check.proofs.examine.Lts as lts
+use Rattle.queue_check.proofs.soundness.all_match.Reads as all-match-reads
+use Rattle.queue_check.proofs.soundness.tally.Reads as tally-reads
+use Rattle.queue_check.proofs.soundness.wide16.Reads as wide16-reads
+use Rattle.queue_state.proofs.refusal.Reads as refusal-reads
 
 arrays : (c : lts.Start (refusal-reads.Asked, refusal-reads.Learnt, tally-reads.Asked, tally-reads.Learnt, all-match-reads.Asked, all-match-reads.Learnt, wide16-reads.Asked, wide16-reads.Learnt) reads.Pre reads.Post)
     → Arrays (c .args .state)

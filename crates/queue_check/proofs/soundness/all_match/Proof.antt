@@ -5,10 +5,10 @@ use Prim.Native.Nat.{ℕ, _≤_, _<_, _-_}
 use lib.ListN.{length}
 use borrow.Author.Count.{below-more}
 use borrow.Author.Tests.{not-true, not-false}
-use Rattle.queue_state.specs.Sound.{AllMatch}
-use Rattle.queue_state.proofs.Matches.{is-yes, is-not}
-use Rattle.queue_state.proofs.soundness.all_match.Statement.{statement}
-use Rattle.queue_state.proofs.soundness.all_match.Tie as tie
+use Rattle.queue_check.specs.Sound.{AllMatch}
+use Rattle.queue_check.proofs.Matches.{is-yes, is-not}
+use Rattle.queue_check.proofs.soundness.all_match.Statement.{statement}
+use Rattle.queue_check.proofs.soundness.all_match.Tie as tie
 
 abbrev Inv-loop : tie.InvT-loop
 Inv-loop bytes counts lengths node₀ node = (node ≤ length bytes) × ((n : ℕ) → n < node → AllMatch bytes counts lengths n)

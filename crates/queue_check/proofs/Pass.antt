@@ -2,25 +2,25 @@
 -- fault says of the whole.
 use mathlib.Core.Path.{_≡_, refl, sym, ap, _∙_, subst}
 use mathlib.Core.Logic.{_≢_, _⊎_, inl, inr, ⊎-elim}
-use Prim.Native.Nat.{ℕ, zero, suc, _+_, _-_, _*_, _≤_, _<_}
-use native.Mathlib.Nat.{not-suc-le-zero, le-of-suc-le-suc}
+use Prim.Native.Nat.{ℕ, suc, _+_, _-_, _*_, _≤_, _<_}
 use native.Mathlib.Decide.{ℕ-discrete, decLt}
 use native.Mathlib.Omega.{arith}
 use mathlib.Core.List.{List, [], _∷_, _++_}
 use mathlib.Core.Bool.{Bool, true, false, _&&_}
 use lib.ListN.{length, take, getD, set, replicate, length-set, length-append, getD-replicate, length-replicate, List·getD-eq-default}
 use lib.Seq.{getD-set-same, getD-set-other, take-suc, getD-take, length-take-le}
-use lib.Dec.{ltb, leb}
-use borrow.Author.Tests.{eq-eqb, ne-eqb, lt-ltb, le-leb, lt-leb, ltb-true}
+use lib.Dec.{leb}
+use borrow.Author.Tests.{eq-eqb, ne-eqb, lt-ltb, le-leb, lt-leb}
 use Rattle.topology.specs.Reader.{pick}
 use Rattle.pifo.specs.Queue.{Entry, risesFrom, every, allowed, isOf, occurs}
 use Rattle.pifo.proofs.Append.{lastFrom, last-append, rises-append, every-append, occurs-append}
 use Rattle.queue_state.specs.State.{entryOf, itemOf, queueIn, allBelow}
-use Rattle.queue_state.specs.Sound.{Slot, Placed, Counts, fine, noEntry, Tallied}
-use Rattle.queue_state.specs.declared.soundness.Counted.{Counted}
+use Rattle.queue_check.specs.Sound.{Slot, Placed, Counts, fine, Tallied}
+use Rattle.queue_state.specs.Entries.{noEntry}
+use Rattle.queue_check.specs.declared.soundness.Counted.{Counted}
 use Rattle.queue_state.specs.declared.Entry.{Entry as CodeEntry}
-use Rattle.queue_state.proofs.Owned.{queue-own, queue-other, queue-front, queue-length}
-use Rattle.queue_state.proofs.Matches.{off}
+use Rattle.queue_state.proofs.Owned.{queue-own, queue-other, queue-front, queue-length, below-append, below-at}
+use Rattle.queue_state.proofs.Formed.{off}
 
 false-of : (b : Bool) → (b ≡ true → ⊥) → b ≡ false
 false-of true f = absurd (f refl)
@@ -38,19 +38,6 @@ and-both : {a b : Bool} → a ≡ true → b ≡ true → a && b ≡ true
 and-both p q = rw (p, q)
 
 -- ---- owners
-
-pub below-append : (k : ℕ) (l m : List ℕ) → allBelow k (l ++ m) ≡ allBelow k l && allBelow k m
-below-append k [] m = refl
-below-append k (o ∷ l) m = by-first (ltb o k) (below-append k l m)
-  where
-    by-first : (b : Bool) → allBelow k (l ++ m) ≡ allBelow k l && allBelow k m → b && allBelow k (l ++ m) ≡ (b && allBelow k l) && allBelow k m
-    by-first true r = r
-    by-first false r = refl
-
-pub below-at : (k : ℕ) (l : List ℕ) (i : ℕ) → i < length l → allBelow k l ≡ true → getD l i 0 < k
-below-at k [] i h e = absurd (not-suc-le-zero h)
-below-at k (o ∷ l) zero h e = ltb-true o k (and-first (ltb o k) (allBelow k l) e)
-below-at k (o ∷ l) (suc i) h e = below-at k l i (le-of-suc-le-suc h) (and-second (ltb o k) (allBelow k l) e)
 
 pub owner-out : (k : ℕ) (l : List ℕ) (i used : ℕ) → i < used → used ≤ length l → k ≤ getD l i 0 → allBelow k (take used l) ≡ false
 owner-out k l i used h g e =

@@ -11,10 +11,8 @@ use lib.ListN.{length, getD}
 use Rattle.topology.specs.Reader.{fault}
 use Rattle.topology.specs.Branch.{branchEnd, start}
 use Rattle.topology.proofs.Lookup.{valid-length, valid-byte, start-lt}
-use Rattle.queue_state.specs.Sound.{Match, AllMatch, Mismatch, Decides}
-
-pub off : false ≡ true → ⊥
-off e = let z : _≡_ {A = ℕ} 0 1 = cc in omega arith
+use Rattle.queue_check.specs.Sound.{Match, AllMatch, Mismatch, Decides}
+use Rattle.queue_state.proofs.Formed.{off}
 
 -- an answer that is yes, and one that is not
 pub is-yes : {A B : Type 0} → A → Decides true A B

@@ -4,9 +4,9 @@ use native.Mathlib.Omega.{arith}
 use mathlib.Core.Path.{refl, sym}
 use native.Mathlib.Numerals.{add-one}
 use Prim.Native.Nat.{_≤_, _+_, _-_, _*_}
-use Rattle.queue_state.proofs.Pass.{Pass, begin, short, faulted, advance, tallied-not, tallied}
-use Rattle.queue_state.proofs.soundness.tally.Statement.{statement}
-use Rattle.queue_state.proofs.soundness.tally.Tie as tie
+use Rattle.queue_check.proofs.Pass.{Pass, begin, short, faulted, advance, tallied-not, tallied}
+use Rattle.queue_check.proofs.soundness.tally.Statement.{statement}
+use Rattle.queue_check.proofs.soundness.tally.Tie as tie
 
 abbrev Inv-loop : tie.InvT-loop
 Inv-loop bytes used owners entries lengths₀ counts₀ last₀ i₀ lengths counts last i = (i ≤ used) × Pass bytes owners entries i lengths counts last

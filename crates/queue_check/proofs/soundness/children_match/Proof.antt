@@ -3,9 +3,9 @@ use borrow.Author.Needs.{needs}
 use native.Mathlib.Omega.{arith}
 use Prim.Native.Nat.{_-_}
 use denote.Ref.{now}
-use Rattle.queue_state.proofs.Matches.{Matched, begin, next-lt, differs, more, all-done, is-yes, is-not}
-use Rattle.queue_state.proofs.soundness.children_match.Statement.{statement}
-use Rattle.queue_state.proofs.soundness.children_match.Tie as tie
+use Rattle.queue_check.proofs.Matches.{Matched, begin, next-lt, differs, more, all-done, is-yes, is-not}
+use Rattle.queue_check.proofs.soundness.children_match.Statement.{statement}
+use Rattle.queue_check.proofs.soundness.children_match.Tie as tie
 
 abbrev Inv-loop : tie.InvT-loop
 Inv-loop bytes counts lengths node children child₀ i₀ child i = Matched bytes counts lengths node children child i

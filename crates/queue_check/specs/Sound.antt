@@ -1,21 +1,18 @@
--- What the private functions of the state's opening and test promise, and what those of push and pop share with them.
+-- What the private functions of the state's test promise.
 use mathlib.Core.Path.{_≡_}
 use mathlib.Core.Logic.{_⊎_}
-use Prim.Native.Nat.{ℕ, zero, suc, _+_, _*_, _≤_, _<_}
+use Prim.Native.Nat.{ℕ, suc, _+_, _*_, _≤_, _<_}
 use Rattle.topology.specs.Branch.{start}
 use mathlib.Core.List.{List}
 use mathlib.Core.Bool.{Bool, true, false, _&&_}
-use mathlib.Core.Option.{Option, some}
 use lib.ListN.{length, getD}
 use lib.Dec.{eqb}
 use Rattle.topology.specs.Reader.{pick}
 use Rattle.pifo.specs.Queue.{Item, Entry, risesFrom, allowed, every, isOf, occurs}
 use Rattle.pifo.specs.Numbered.{Queues}
-use Rattle.queue_state.specs.declared.State.{State}
 use Rattle.queue_state.specs.State.{itemOf, allBelow}
-use Rattle.queue_state.specs.declared.Item.the-variants.{Child}
 use Rattle.queue_state.specs.declared.Entry.{Entry as CodeEntry}
-use Rattle.queue_state.specs.declared.soundness.Counted.{Counted}
+use Rattle.queue_check.specs.declared.soundness.Counted.{Counted}
 
 -- a topology's bytes, as far as the test needs them
 pub record Small (bytes : List ℕ) : Type 0 where
@@ -53,15 +50,6 @@ pub record Tallied (bytes owners : List ℕ) (q : Queues ℕ) (r : Counted) : Ty
   pub counts : r .sound ≡ true → (n : ℕ) → n < length bytes → Counts (r .lengths) (r .counts) n (q n)
   pub unsound : r .sound ≡ false → (allBelow (length bytes) owners ≡ false) ⊎ ((n : ℕ) × (n < length bytes) × (fine (getD bytes n 0) (q n) ≡ false))
 
--- the entry that stands where an array has none
-abbrev pub noEntry : CodeEntry
-noEntry = record { rank = 0; item = Child 0 }
-
--- an entry where the mark is set, else another answer
-abbrev pub marked : ℕ → Entry ℕ → Option (Entry ℕ) → Option (Entry ℕ)
-marked zero e other = other
-marked (suc k) e other = some e
-
 -- what an answer means, yes and not
 pub record Decides (r : Bool) (yes not : Type 0) : Type 0 where
   pub if-true : r ≡ true → yes
@@ -76,11 +64,3 @@ AllMatch bytes counts lengths n = (i : ℕ) → i < getD bytes n 0 → Match byt
 
 abbrev pub Mismatch : List ℕ → List ℕ → List ℕ → ℕ → Type 0
 Mismatch bytes counts lengths n = (i : ℕ) × (i < getD bytes n 0) × (Match bytes counts lengths n i → ⊥)
-
--- a state with no entries and nothing counted
-pub record Empty (bytes : List ℕ) (count most : ℕ) (r : State) : Type 0 where
-  pub topology : r .topology ≡ bytes
-  pub nodes : r .nodes ≡ count
-  pub limit : r .limit ≡ most
-  pub refused : r .refused ≡ 0
-  pub used : r .used ≡ 0

@@ -1,0 +1,5 @@
+pub mod Slots
+pub mod Matches
+pub mod Pass
+pub mod Verdict
+pub mod Counts
