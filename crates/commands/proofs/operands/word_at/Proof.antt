@@ -1,4 +1,4 @@
--- Both halves are there, or the command is cut short.
+-- Both halves are there, or the command is cut short. Each is below 65536, so that product and sum fit.
 use native.Mathlib.Omega.{arith}
 use Rattle.commands.proofs.Numbers.{word-there, word-missing, word-cut, word-found, below}
 use borrow.Author.Needs.{needs}
@@ -33,7 +33,12 @@ returns-2 : tie.Need-returns-2
 returns-2 c = word-cut _ _ 4 (omega (arith, word-missing _ _ 2 _ (c .before .before .half-at2 .ensures .0) (c .enum-told2 .given .1)))
 
 mul-t8 : tie.Need-mul-t8
-mul-t8 c = omega (arith, below _ _ _ (c .before .before .before .before .before .before .before .half-at .ensures .1) (c .before .before .before .before .before .high .given .1))
+mul-t8 c =
+    omega (
+      arith,
+      below _ _ _ (c .before .before .before .before .before .before .before .half-at .ensures .1) (c .before .before .before .before .before .high .given .1),
+      below _ _ _ (c .before .before .before .half-at2 .ensures .1) (c .before .low .given .1),
+    )
 
 add-t9 : tie.Need-add-t9
 add-t9 c =
