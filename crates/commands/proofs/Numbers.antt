@@ -1,5 +1,5 @@
--- Operands as the code reads them: byte by byte, where they are all there. And what an answer of the operands' reader says: it found the
--- number and the bytes are there, or they are cut short.
+-- Operands as the code reads them, where all their bytes are there: byte by byte, and four bytes as two halves. And what an answer of the
+-- operands' reader says: it found the number and the bytes are there, or they are cut short.
 use mathlib.Core.Path.{_≡_, refl, sym, _∙_}
 use Prim.Native.Nat.{ℕ, zero, suc, _+_, _*_, _-_, _≤_, _<_}
 use native.Mathlib.Nat.{not-suc-le-zero, le-of-suc-le-suc}
@@ -17,7 +17,7 @@ use Rattle.commands.specs.declared.Command.the-variants.{Source, Target,
 use Rattle.commands.specs.declared.Read.the-variants.{End, Next, Refused}
 use Rattle.commands.specs.declared.Read.{Read}
 use Rattle.commands.specs.Reading.{number, operand, sized, commandBy, readAt}
-use Rattle.commands.specs.Operands.{byteAt, wordAt}
+use Rattle.commands.specs.Operands.{byteAt, wordAt, Below}
 use Rattle.commands.specs.declared.operands.Byte.{Byte}
 use Rattle.commands.specs.declared.operands.Byte.the-variants.{Is as IsByte, Missing as NoByte}
 use Rattle.commands.specs.declared.operands.Word.{Word}
@@ -37,19 +37,17 @@ operand-2 l i h =
     let e : i + 1 ≡ suc i = omega arith in
     number-next l i 1 0 (omega arith) ∙ number-next l (suc i) 0 _ (omega arith) ∙ rw e (omega arith)
 
-pub operand-4 : (l : List ℕ) (i : ℕ) → i + 4 ≤ length l
-    → operand i 4 l
-    ≡ (getD l i 0 * 256 + getD l (i + 1) 0) * 65536 + (getD l (i + 2) 0 * 256 + getD l (i + 3) 0)
+pub operand-4 : (l : List ℕ) (i : ℕ) → i + 4 ≤ length l → operand i 4 l ≡ operand i 2 l * 65536 + operand (i + 2) 2 l
 unfolding operand
 operand-4 l i h =
-    let e : i + 1 ≡ suc i = omega arith in
-    let f : i + 2 ≡ suc (suc i) = omega arith in
-    let g : i + 3 ≡ suc (suc (suc i)) = omega arith in
+    let e : i + 2 ≡ suc (suc i) = omega arith in
+    let high = number-next l i 1 0 (omega arith) ∙ number-next l (suc i) 0 _ (omega arith) in
+    let low = number-next l (suc (suc i)) 1 0 (omega arith) ∙ number-next l (suc (suc (suc i))) 0 _ (omega arith) in
     number-next l i 3 0 (omega arith)
     ∙ number-next l (suc i) 2 _ (omega arith)
     ∙ number-next l (suc (suc i)) 1 _ (omega arith)
     ∙ number-next l (suc (suc (suc i))) 0 _ (omega arith)
-    ∙ rw (e, f, g) (omega arith)
+    ∙ rw (e, high, low) (omega arith)
 
 -- the bytes of an operand are there, and it is the number found
 pub record There (count place : ℕ) (bytes : List ℕ) (n : ℕ) : Type 0 where
@@ -108,11 +106,15 @@ module _ (bytes : List ℕ) (place : ℕ) where
   unfolding wordAt
   half-found a b h ea eb = simp (le-leb (place + 2) (length bytes) h, operand-2 bytes place h, ea, eb)
 
-  pub word-found : (a b c d : ℕ) → place + 4 ≤ length bytes
-      → a ≡ getD bytes place 0 → b ≡ getD bytes (place + 1) 0 → c ≡ getD bytes (place + 2) 0 → d ≡ getD bytes (place + 3) 0
-      → Is ((a * 256 + b) * 65536 + (c * 256 + d)) ≡ wordAt 4 bytes place
+  pub word-found : (a b : ℕ) → There 2 place bytes a → There 2 (place + 2) bytes b → Is (a * 65536 + b) ≡ wordAt 4 bytes place
   unfolding wordAt
-  word-found a b c d h ea eb ec ed = simp (le-leb (place + 4) (length bytes) h, operand-4 bytes place h, ea, eb, ec, ed)
+  word-found a b ta tb =
+      let h : place + 4 ≤ length bytes = omega (arith, tb .fits) in
+      simp (le-leb (place + 4) (length bytes) h, operand-4 bytes place h, ta .is, tb .is)
+
+pub below : (r : Word) (n most : ℕ) → Below most r → r ≡ Is n → n < most
+below (Is m) n most h e = let q : m ≡ n = cc in rw (← q) h
+below Missing n most h e = let z : _≡_ {A = ℕ} 0 1 = cc in absurd (omega arith)
 
 -- The reader's answer by the command's first byte: cut short, or with its operands.
 module _ (size : ℕ) (bytes : List ℕ) (at : ℕ) (command : Command) where

@@ -1,5 +1,5 @@
 -- What the private functions that read operands promise.
-use Prim.Native.Nat.{ℕ, _+_}
+use Prim.Native.Nat.{ℕ, _+_, _<_}
 use mathlib.Core.List.{List}
 use lib.ListN.{length}
 use lib.Dec.{leb}
@@ -17,3 +17,8 @@ byteAt bytes place = pick (leb (place + 1) (length bytes)) (IsByte (operand plac
 -- the operand of so many bytes
 unfoldable pub wordAt : ℕ → List ℕ → ℕ → Word
 wordAt count bytes place = pick (leb (place + count) (length bytes)) (Is (operand place count bytes)) Missing
+
+-- a number below a bound, where there is one
+abbrev pub Below : ℕ → Word → Type 0
+Below most (Is n) = n < most
+Below most Missing = Unit

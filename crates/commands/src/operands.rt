@@ -5,7 +5,7 @@ ghost use mathlib.Core.Path.{_≡_};
 ghost use Prim.Native.Nat.{_+_, _<_, _≤_, _^_};
 ghost use lib.ListN.{length};
 ghost use Rattle.commands.specs.Reading.{readAt, commandBy};
-ghost use Rattle.commands.specs.Operands.{byteAt, wordAt};
+ghost use Rattle.commands.specs.Operands.{byteAt, wordAt, Below};
 
 // An operand of one byte, or of two or four; or the script ends before it does.
 enum Byte {
@@ -34,8 +34,8 @@ fn byte_at(bytes: &[u8], place: usize) -> Byte
 }
 
 fn half_at(bytes: &[u8], place: usize) -> Word
-    requires { ⌜ place ≤ 5 ⌝ }
-    ensures { λ r. ⌜ r ≡ wordAt 2 (now (bytes .entry)) place ⌝ }
+    requires { ⌜ place ≤ 7 ⌝ }
+    ensures { λ r. ⌜ (r ≡ wordAt 2 (now (bytes .entry)) place) × Below 65536 r ⌝ }
 {
     if bytes.len() < place + 2 {
         return Word::Missing;
@@ -49,11 +49,12 @@ fn word_at(bytes: &[u8], place: usize) -> Word
     requires { ⌜ place ≤ 5 ⌝ }
     ensures { λ r. ⌜ r ≡ wordAt 4 (now (bytes .entry)) place ⌝ }
 {
-    if bytes.len() < place + 4 {
+    let Word::Is(high) = half_at(bytes, place) else {
         return Word::Missing;
-    }
-    let high = wide(bytes[place]) * 256 + wide(bytes[place + 1]);
-    let low = wide(bytes[place + 2]) * 256 + wide(bytes[place + 3]);
+    };
+    let Word::Is(low) = half_at(bytes, place + 2) else {
+        return Word::Missing;
+    };
     Word::Is(high * 65536 + low)
 }
 

@@ -20,7 +20,7 @@ use Rattle.gathering.specs.declared.Drawing.{Drawing}
 use Rattle.gathering.specs.declared.Ending.{Ending}
 use Rattle.gathering.specs.declared.Ending.the-variants.{End, Refused, Compile}
 use Rattle.topology.proofs.Cases.{clash}
-use Rattle.gathering.proofs.Limited.{limited}
+use Rattle.gathering.proofs.WithLimit.{limited}
 use Rattle.drawing.specs.Sheet.{pairOf, foot, refusedEnd, refusal, nothing, sheet, limitIn, sheetBy, scriptSheet}
 
 -- the lengths of trees that are drawn

@@ -1,4 +1,4 @@
 pub mod Keeping
 pub mod Loop
 pub mod Others
-pub mod Limited
+pub mod WithLimit

@@ -46,10 +46,10 @@ enum-told-3 : tie.Need-enum-told-3
 enum-told-3 c = search needs
 
 returns-3 : tie.Need-returns-3
-returns-3 c = limit-cut _ _ _ (c .before .before .before .match .keys3) (word-missing _ _ 2 _ (c .before .before .half-at .ensures) (c .enum-told3 .given .1))
+returns-3 c = limit-cut _ _ _ (c .before .before .before .match .keys3) (word-missing _ _ 2 _ (c .before .before .half-at .ensures .0) (c .enum-told3 .given .1))
 
 add-t20 : tie.Need-add-t20
-add-t20 c = omega (arith, (word-there _ _ 2 _ _ (c .before .before .before .half-at .ensures) (c .before .limit .given .1)) .fits)
+add-t20 c = omega (arith, (word-there _ _ 2 _ _ (c .before .before .before .half-at .ensures .0) (c .before .limit .given .1)) .fits)
 
 add-t22 : tie.Need-add-t22
 add-t22 c = search needs
@@ -118,7 +118,7 @@ returns-9 : tie.Need-returns-9
 returns-9 c = target-read _ _ _ _ (c .before .before .before .before .match .keys2) (byte-there _ _ _ _ (c .before .before .before .byte-at2 .ensures) (c .before .node2 .given .1))
 
 returns-10 : tie.Need-returns-10
-returns-10 c = limit-read _ _ _ _ (c .before .before .before .before .match .keys3) (word-there _ _ 2 _ _ (c .before .before .before .half-at .ensures) (c .before .limit .given .1))
+returns-10 c = limit-read _ _ _ _ (c .before .before .before .before .match .keys3) (word-there _ _ 2 _ _ (c .before .before .before .half-at .ensures .0) (c .before .limit .given .1))
 
 returns-11 : tie.Need-returns-11
 returns-11 c = compile-read _ _ _ (c .match .keys4) (c .before .before .pre .0)

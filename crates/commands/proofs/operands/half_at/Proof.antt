@@ -1,4 +1,5 @@
 -- Both bytes are there, or the command is cut short.
+use native.Mathlib.Omega.{arith}
 use Rattle.commands.proofs.Numbers.{word-cut, half-found}
 use borrow.Author.Needs.{needs}
 use Rattle.commands.proofs.operands.half_at.Statement.{statement}
@@ -8,7 +9,7 @@ add-if1 : tie.Need-add-if1
 add-if1 c = search needs
 
 returns : tie.Need-returns
-returns c = word-cut _ _ 2 (c .if1 .taken)
+returns c = (word-cut _ _ 2 (c .if1 .taken), tt)
 
 shared-slice-read-wide : tie.Need-shared-slice-read-wide
 shared-slice-read-wide c = search needs
@@ -32,7 +33,10 @@ add-t12 : tie.Need-add-t12
 add-t12 c = search needs
 
 returns-2 : tie.Need-returns-2
-returns-2 c = half-found _ _ _ _ (c .before .before .before .before .if1 .left) (c .before .before .wide .ensures .0) (c .wide2 .ensures .0)
+returns-2 c = (
+  half-found _ _ _ _ (c .before .before .before .before .if1 .left) (c .before .before .wide .ensures .0) (c .wide2 .ensures .0),
+  omega (arith, c .before .before .wide .ensures .1, c .wide2 .ensures .1),
+)
 
 pub half-at-spec : {M : Type 1} → statement M
 half-at-spec =

@@ -1,93 +1,72 @@
--- All four bytes are there, or the command is cut short.
-use Rattle.commands.proofs.Numbers.{word-cut, word-found}
+-- Both halves are there, or the command is cut short. Each is below 65536, so that product and sum fit.
+use native.Mathlib.Omega.{arith}
+use Rattle.commands.proofs.Numbers.{word-there, word-missing, word-cut, word-found, below}
 use borrow.Author.Needs.{needs}
 use Rattle.commands.proofs.operands.word_at.Statement.{statement}
 use Rattle.commands.proofs.operands.word_at.Tie as tie
 
-add-if1 : tie.Need-add-if1
-add-if1 c = search needs
+half-at-requires : tie.Need-half-at-requires
+half-at-requires c κs = search needs
+
+enum-known-high : tie.Need-enum-known-high
+enum-known-high c = search needs
+
+enum-told : tie.Need-enum-told
+enum-told c = search needs
 
 returns : tie.Need-returns
-returns c = word-cut _ _ 4 (c .if1 .taken)
+returns c = word-cut _ _ 4 (omega (arith, word-missing _ _ 2 _ (c .before .before .half-at .ensures .0) (c .enum-told .given .1)))
 
-shared-slice-read-wide : tie.Need-shared-slice-read-wide
-shared-slice-read-wide c = search needs
+add-half-at : tie.Need-add-half-at
+add-half-at c = search needs
 
-wide-requires : tie.Need-wide-requires
-wide-requires c κs = search needs
+half-at-requires-2 : tie.Need-half-at-requires-2
+half-at-requires-2 c κs = search needs
 
-mul-high : tie.Need-mul-high
-mul-high c = search needs
+enum-known-low : tie.Need-enum-known-low
+enum-known-low c = search needs
 
-add-wide : tie.Need-add-wide
-add-wide c = search needs
-
-shared-slice-read-wide-2 : tie.Need-shared-slice-read-wide-2
-shared-slice-read-wide-2 c = search needs
-
-wide-requires-2 : tie.Need-wide-requires-2
-wide-requires-2 c κs = search needs
-
-add-high : tie.Need-add-high
-add-high c = search needs
-
-add-wide-2 : tie.Need-add-wide-2
-add-wide-2 c = search needs
-
-shared-slice-read-wide-3 : tie.Need-shared-slice-read-wide-3
-shared-slice-read-wide-3 c = search needs
-
-wide-requires-3 : tie.Need-wide-requires-3
-wide-requires-3 c κs = search needs
-
-mul-low : tie.Need-mul-low
-mul-low c = search needs
-
-add-wide-3 : tie.Need-add-wide-3
-add-wide-3 c = search needs
-
-shared-slice-read-wide-4 : tie.Need-shared-slice-read-wide-4
-shared-slice-read-wide-4 c = search needs
-
-wide-requires-4 : tie.Need-wide-requires-4
-wide-requires-4 c κs = search needs
-
-add-low : tie.Need-add-low
-add-low c = search needs
-
-mul-t8 : tie.Need-mul-t8
-mul-t8 c = search needs
-
-add-t12 : tie.Need-add-t12
-add-t12 c = search needs
+enum-told-2 : tie.Need-enum-told-2
+enum-told-2 c = search needs
 
 returns-2 : tie.Need-returns-2
-returns-2 c =
-    word-found _ _ _ _ _ _ (c .before .before .before .before .before .before .before .before .if1 .left)
-    (c .before .before .before .before .before .before .wide .ensures .0) (c .before .before .before .before .wide2 .ensures .0)
-    (c .before .before .wide3 .ensures .0) (c .wide4 .ensures .0)
+returns-2 c = word-cut _ _ 4 (omega (arith, word-missing _ _ 2 _ (c .before .before .half-at2 .ensures .0) (c .enum-told2 .given .1)))
+
+mul-t8 : tie.Need-mul-t8
+mul-t8 c =
+    omega (
+      arith,
+      below _ _ _ (c .before .before .before .before .before .before .before .half-at .ensures .1) (c .before .before .before .before .before .high .given .1),
+      below _ _ _ (c .before .before .before .half-at2 .ensures .1) (c .before .low .given .1),
+    )
+
+add-t9 : tie.Need-add-t9
+add-t9 c =
+    omega (
+      arith,
+      below _ _ _ (c .before .before .before .before .before .before .before .half-at .ensures .1) (c .before .before .before .before .before .high .given .1),
+      below _ _ _ (c .before .before .before .half-at2 .ensures .1) (c .before .low .given .1),
+    )
+
+returns-3 : tie.Need-returns-3
+returns-3 c =
+    word-found _ _ _ _
+    (word-there _ _ 2 _ _ (c .before .before .before .before .before .before .before .half-at .ensures .0) (c .before .before .before .before .before .high .given .1))
+    (word-there _ _ 2 _ _ (c .before .before .before .half-at2 .ensures .0) (c .before .low .given .1))
 
 pub word-at-spec : {M : Type 1} → statement M
 word-at-spec =
     tie.close
     (tie.spec
-    add-if1
+    half-at-requires
+    enum-known-high
+    enum-told
     returns
-    shared-slice-read-wide
-    wide-requires
-    mul-high
-    add-wide
-    shared-slice-read-wide-2
-    wide-requires-2
-    add-high
-    add-wide-2
-    shared-slice-read-wide-3
-    wide-requires-3
-    mul-low
-    add-wide-3
-    shared-slice-read-wide-4
-    wide-requires-4
-    add-low
+    add-half-at
+    half-at-requires-2
+    enum-known-low
+    enum-told-2
+    returns-2
     mul-t8
-    add-t12
-    returns-2)
+    add-t9
+    returns-3)

@@ -13,11 +13,11 @@ add-next c = search needs
 
 returns : tie.Need-returns
 unfolding targetAdded
-returns c = simp (lt-ltb _ _ (c .if1 .taken))
+returns c = simp (lt-ltb _ 65 (c .if1 .taken))
 
 returns-2 : tie.Need-returns-2
 unfolding targetAdded
-returns-2 c = simp (le-ltb _ _ (c .if1 .left))
+returns-2 c = simp (le-ltb _ 65 (c .if1 .left))
 
 pub add-target-spec : {M : Type 1} → statement M
 add-target-spec = tie.close (tie.spec element-write-next add-next returns returns-2)
