@@ -50,28 +50,7 @@ pub fn examine(state: State) -> Test
     let owners = state.owners;
     let entries = state.entries;
     let counted = soundness::tally(bytes, owners, entries, used);
-    if !counted.sound {
-        return Test {
-            sound: false,
-            held: 0,
-        };
-    }
-    let counts = counted.counts;
-    let lengths = counted.lengths;
-    if !soundness::all_match(bytes, &counts, &lengths) {
-        return Test {
-            sound: false,
-            held: 0,
-        };
-    }
-    let held = soundness::wide16(lengths[0]);
-    if limit < held {
-        return Test {
-            sound: false,
-            held: 0,
-        };
-    }
-    Test { sound: true, held }
+    soundness::judge(bytes, counted, limit)
 }
 
 // How many packets a tree holds.
