@@ -28,7 +28,7 @@ use Rattle.queue_state.specs.Calls.{Serves}
 use Rattle.queue_push.specs.Calls.{stepsOf}
 use Rattle.queue_state.specs.declared.State.{State}
 use Rattle.queue_push.specs.declared.Path.{Path}
-use Rattle.queue_check.specs.declared.Amount.the-variants.{Count}
+use Rattle.queue_counts.specs.declared.Amount.the-variants.{Count}
 use Rattle.queue_state.proofs.Formed.{formed}
 use Rattle.translator.specs.Carry.{carryFault, Carries}
 use Rattle.translator.specs.declared.Carried.{Carried}
