@@ -5,10 +5,10 @@ use mathlib.Core.List.{List}
 use Rattle.pifo.specs.Tree.{held}
 use Rattle.queue_state.specs.State.{wellFormed, treeOf}
 use Rattle.queue_state.specs.Opening.{Opens}
-use Rattle.queue_check.specs.Tests.{amount}
+use Rattle.queue_counts.specs.Amounts.{amount}
 use Rattle.queue_state.specs.declared.State.{State}
 use Rattle.queue_state.specs.declared.Opened.{Opened}
-use Rattle.queue_check.specs.declared.Amount.{Amount}
+use Rattle.queue_counts.specs.declared.Amount.{Amount}
 use Rattle.plain_state.specs.Plain.{stateOf, plainOf, Written}
 use Rattle.plain_state.specs.declared.PlainState.{PlainState}
 use Rattle.plain_state.proofs.Crossing.{state-back, is-written}

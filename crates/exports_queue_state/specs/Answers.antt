@@ -1,7 +1,7 @@
 -- The answers to an opening and to a question, as plain numbers.
 use Rattle.queue_state.specs.declared.Opened.{Opened}
-use Rattle.queue_check.specs.declared.Amount.{Amount}
-use Rattle.queue_check.specs.declared.Amount.the-variants.{Count, Refused}
+use Rattle.queue_counts.specs.declared.Amount.{Amount}
+use Rattle.queue_counts.specs.declared.Amount.the-variants.{Count, Refused}
 use Rattle.plain_state.specs.Plain.{stateOf}
 use Rattle.exports_queue_state.specs.declared.PlainOpened.{PlainOpened}
 use Rattle.exports_queue_state.specs.declared.PlainAmount.{PlainAmount}

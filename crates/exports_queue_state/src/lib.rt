@@ -1,11 +1,11 @@
 // The opening of a queue tree and the questions about it, for a program in C or Rust: what `tests/` links and compares. A state crosses as
 // plain numbers.
 use plain_state::PlainState;
-use queue_check::Amount;
+use queue_counts::Amount;
 ghost use mathlib.Core.Path.{_≡_};
 ghost use Rattle.pifo.specs.Tree.{held};
 ghost use Rattle.queue_state.specs.Opening.{Opens};
-ghost use Rattle.queue_check.specs.Tests.{amount};
+ghost use Rattle.queue_counts.specs.Amounts.{amount};
 ghost use Rattle.queue_state.specs.State.{wellFormed, treeOf};
 ghost use Rattle.plain_state.specs.Plain.{stateOf, Written};
 ghost use Rattle.exports_queue_state.specs.Answers.{opening, plainAmount};
@@ -50,7 +50,7 @@ pub extern "C" fn linduvar_open(bytes: &[u8], limit: usize) -> PlainOpened
 pub extern "C" fn linduvar_held(state: PlainState) -> PlainAmount
     ensures { λ r. ⌜ r ≡ plainAmount (amount (wellFormed (stateOf state)) (held (treeOf (stateOf state)))) ⌝ }
 {
-    amount_of(queue_check::held(plain_state::state_of(state)))
+    amount_of(queue_counts::held(plain_state::state_of(state)))
 }
 
 // How many pushes a tree has refused because it was full.
@@ -58,5 +58,5 @@ pub extern "C" fn linduvar_held(state: PlainState) -> PlainAmount
 pub extern "C" fn linduvar_refusals(state: PlainState) -> PlainAmount
     ensures { λ r. ⌜ r ≡ plainAmount (amount (wellFormed (stateOf state)) (state .refused)) ⌝ }
 {
-    amount_of(queue_check::refusals(plain_state::state_of(state)))
+    amount_of(queue_counts::refusals(plain_state::state_of(state)))
 }

@@ -6,8 +6,8 @@ use mathlib.Core.Bool.{Bool, true, false}
 use Rattle.pifo.specs.Tree.{held}
 use Rattle.simulation.proofs.Simulation.{held-alike}
 use Rattle.queue_state.specs.State.{treeOf, machine, wellFormed}
-use Rattle.queue_check.specs.Tests.{amount}
-use Rattle.queue_check.specs.declared.Amount.the-variants.{Count, Refused}
+use Rattle.queue_counts.specs.Amounts.{amount}
+use Rattle.queue_counts.specs.declared.Amount.the-variants.{Count, Refused}
 use Rattle.queue_state.proofs.Formed.{off}
 use Rattle.pair_state.specs.Pair.{sourceTree, chipTree, images, mapped, wellPaired, InStep}
 use Rattle.pair_state.specs.Counts.{CountsBoth}

@@ -1,7 +1,7 @@
 -- What a question about both trees promises.
 use mathlib.Core.Path.{_≡_}
 use Prim.Native.Nat.{ℕ}
-use Rattle.queue_check.specs.Tests.{amount}
+use Rattle.queue_counts.specs.Amounts.{amount}
 use Rattle.pair_state.specs.Pair.{wellPaired, InStep}
 use Rattle.pair_state.specs.declared.Pair.{Pair}
 use Rattle.pair_state.specs.declared.PairAmount.{PairAmount}

@@ -1,14 +1,14 @@
 // A pair of trees, the one that a park draws and the one of a gateway's chip: opened together, its map tested, and asked for its counts. The
 // crate `paired` serves calls on it.
 use embedding::Checked;
-use queue_check::Amount;
+use queue_counts::Amount;
 use queue_state::State;
 use topology::SOURCE_NODES;
 use topology::TARGET_NODES;
 ghost use mathlib.Core.Path.{_≡_};
 ghost use Rattle.pifo.specs.Tree.{held};
 ghost use Rattle.queue_state.specs.State.{treeOf};
-ghost use Rattle.queue_check.specs.declared.Amount.the-variants.{Refused};
+ghost use Rattle.queue_counts.specs.declared.Amount.the-variants.{Refused};
 ghost use Rattle.pair_state.specs.Pair.{mapPasses};
 ghost use Rattle.pair_state.specs.Opening.{OpensBoth};
 ghost use Rattle.pair_state.specs.Counts.{CountsBoth};
@@ -104,11 +104,11 @@ pub fn held(pair: Pair) -> PairAmount
         return no_amount();
     }
     let source = pair.source;
-    let Amount::Count(source_held) = queue_check::held(source) else {
+    let Amount::Count(source_held) = queue_counts::held(source) else {
         return no_amount();
     };
     let chip = pair.chip;
-    let Amount::Count(chip_held) = queue_check::held(chip) else {
+    let Amount::Count(chip_held) = queue_counts::held(chip) else {
         return no_amount();
     };
     PairAmount {
@@ -125,11 +125,11 @@ pub fn refusals(pair: Pair) -> PairAmount
         return no_amount();
     }
     let source = pair.source;
-    let Amount::Count(source_refused) = queue_check::refusals(source) else {
+    let Amount::Count(source_refused) = queue_counts::refusals(source) else {
         return no_amount();
     };
     let chip = pair.chip;
-    let Amount::Count(chip_refused) = queue_check::refusals(chip) else {
+    let Amount::Count(chip_refused) = queue_counts::refusals(chip) else {
         return no_amount();
     };
     PairAmount {

@@ -3,7 +3,7 @@
 -- looks count follows for the source's side by the machine's laws, and so for both.
 use mathlib.Core.Path.{_≡_, refl, sym, ap, _∙_, subst, subst₂}
 use mathlib.Core.Logic.{_≢_}
-use Prim.Native.Nat.{ℕ, zero, suc, _+_, _-_, min}
+use Prim.Native.Nat.{ℕ, zero, suc, _+_, min}
 use native.Mathlib.Omega.{arith}
 use mathlib.Core.List.{List, [], _∷_, map}
 use mathlib.Core.Bool.{true}
@@ -28,7 +28,7 @@ use Rattle.queue_state.specs.Calls.{Serves}
 use Rattle.queue_push.specs.Calls.{stepsOf}
 use Rattle.queue_state.specs.declared.State.{State}
 use Rattle.queue_push.specs.declared.Path.{Path}
-use Rattle.queue_check.specs.declared.Amount.the-variants.{Count}
+use Rattle.queue_counts.specs.declared.Amount.the-variants.{Count}
 use Rattle.queue_state.proofs.Formed.{formed}
 use Rattle.translator.specs.Carry.{carryFault, Carries}
 use Rattle.translator.specs.declared.Carried.{Carried}

@@ -16,15 +16,15 @@ use Rattle.embedding_laws.specs.Rules.{Passes}
 use Rattle.embedding_laws.specs.Least.{searchFault}
 use Rattle.simulation.specs.Sheet.{serveCarried}
 use Rattle.queue_state.specs.State.{treeOf, wellFormed}
-use Rattle.queue_check.specs.Tests.{amount}
+use Rattle.queue_counts.specs.Amounts.{amount}
 use Rattle.queue_state.specs.Opening.{Opens}
 use Rattle.queue_state.specs.Calls.{Serves}
 use Rattle.queue_push.specs.Calls.{stepsOf}
 use Rattle.queue_state.specs.declared.State.{State}
 use Rattle.queue_push.specs.declared.Path.{Path}
 use Rattle.queue_state.specs.declared.Opened.{Opened}
-use Rattle.queue_check.specs.declared.Amount.{Amount}
-use Rattle.queue_check.specs.declared.Amount.the-variants.{Count}
+use Rattle.queue_counts.specs.declared.Amount.{Amount}
+use Rattle.queue_counts.specs.declared.Amount.the-variants.{Count}
 use Rattle.translator.specs.Carry.{Carries}
 use Rattle.translator.specs.declared.Carried.{Carried}
 

@@ -2,7 +2,7 @@
 // gives the drawn tree the path as it is and the chip's tree the path carried over.
 use pair_state::Pair;
 use pair_state::is_mapped;
-use queue_check::Amount;
+use queue_counts::Amount;
 use queue_pop::PopAnswer;
 use queue_push::Path;
 use queue_push::PushAnswer;
@@ -96,7 +96,7 @@ pub fn push(pair: Pair, path: Path, packet: u32) -> PairPushed
     }
     let chip = pair.chip;
     if fault != 0 {
-        let Amount::Count(_) = queue_check::held(chip) else {
+        let Amount::Count(_) = queue_counts::held(chip) else {
             return no_push(pair);
         };
         return PairPushed {

@@ -2,4 +2,3 @@ pub mod Slots
 pub mod Matches
 pub mod Pass
 pub mod Verdict
-pub mod Counts

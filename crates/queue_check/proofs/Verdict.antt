@@ -1,6 +1,6 @@
 -- The verdict on a state: how the pass and the comparison of the counts decide it.
 use mathlib.Core.Path.{_≡_, refl, sym, ap, _∙_, subst, subst₂}
-use mathlib.Core.Logic.{⊎-elim}
+use mathlib.Core.Logic.{inr, ⊎-elim}
 use Prim.Native.Nat.{ℕ, suc, _+_, _≤_, _<_}
 use native.Mathlib.Nat.{zero-add}
 use native.Mathlib.Omega.{arith}
@@ -21,7 +21,7 @@ use Rattle.pifo.proofs.Order.{both, join}
 use Rattle.pifo.proofs.Wellness.{length-held}
 use Rattle.pifo.proofs.Local.{LocalAt, AllLocal, all-well, well-all}
 use Rattle.queue_state.specs.State.{queueIn, queues, bytes, treeOf, allBelow, wellFormed}
-use Rattle.queue_check.specs.Sound.{Counts, fine, AllMatch, Mismatch, Tallied}
+use Rattle.queue_check.specs.Sound.{Counts, fine, AllMatch, Mismatch, Tallied, Fits, Unfit, Judged}
 use Rattle.queue_check.specs.Tests.{Tests}
 use Rattle.queue_state.specs.declared.State.{State}
 use Rattle.queue_check.specs.declared.Test.{Test}
@@ -37,8 +37,33 @@ says-no s r e z f =
     never true t = absurd (f (formed s t))
     never false t = t
 
-pub says-yes : (s : State) (r : Test) → r .sound ≡ true → Formed s → r .held ≡ held (treeOf s) → Tests s r
+says-yes : (s : State) (r : Test) → r .sound ≡ true → Formed s → r .held ≡ held (treeOf s) → Tests s r
 says-yes s r e f h = record { sound = e ∙ sym (form s f); count = λ _. h; none = λ t. absurd (off (sym t ∙ e)) }
+
+-- the same of the counts alone
+module _ (bs : List ℕ) (c : Counted) (limit : ℕ) (r : Test) where
+  pub judged-no : r .sound ≡ false → r .held ≡ 0 → Unfit bs c limit → Judged bs c limit r
+  judged-no e z u =
+      record {
+        fits = λ t. absurd (off (sym e ∙ t));
+        room = λ t. absurd (off (sym e ∙ t));
+        held = λ t. absurd (off (sym e ∙ t));
+        none = λ _. z;
+        unfit = λ _. u;
+      }
+
+  pub judged-over : r .sound ≡ false → r .held ≡ 0 → Fits bs c → (h : ℕ) → h ≡ getD (c .lengths) 0 0 → limit < h → Judged bs c limit r
+  judged-over e z f h q l = judged-no e z (inr (f .sound, inr (f, omega arith)))
+
+  pub judged-yes : r .sound ≡ true → Fits bs c → r .held ≤ limit → r .held ≡ getD (c .lengths) 0 0 → Judged bs c limit r
+  judged-yes e f m h =
+      record {
+        fits = λ _. f;
+        room = λ _. m;
+        held = λ _. h;
+        none = λ t. absurd (off (sym t ∙ e));
+        unfit = λ t. absurd (off (sym t ∙ e));
+      }
 
 -- in a well-formed tree the root's queue is as long as packets are held
 pub held-root : {P : Type 0} (t : Topo) (q : Queues P) (k : ℕ) → well (assemble t q k) ≡ true → length (q k) ≡ held (assemble t q k)
@@ -88,7 +113,7 @@ module _ (s : State) (a : Arrays s) (hn : s .nodes ≤ 64) (r : Counted)
   bytes-length : length (take (s .nodes) (s .topology)) ≡ s .nodes
   bytes-length = length-take-le (s .nodes) (s .topology) (omega (arith, a .topology))
 
-  pub ill-tally : r .sound ≡ false → Formed s → ⊥
+  ill-tally : r .sound ≡ false → Formed s → ⊥
   unfolding bytes queues treeOf
   ill-tally e f =
       ⊎-elim
@@ -102,7 +127,7 @@ module _ (s : State) (a : Arrays s) (hn : s .nodes ≤ 64) (r : Counted)
       (t .unsound e)
 
   module _ (e : r .sound ≡ true) (v : fault 64 (take (s .nodes) (s .topology)) ≡ 0) where
-    pub ill-match : (n : ℕ) × (n < length (take (s .nodes) (s .topology))) × Mismatch (take (s .nodes) (s .topology)) (r .counts) (r .lengths) n → Formed s → ⊥
+    ill-match : (n : ℕ) × (n < length (take (s .nodes) (s .topology))) × Mismatch (take (s .nodes) (s .topology)) (r .counts) (r .lengths) n → Formed s → ⊥
     unfolding bytes queues treeOf
     ill-match (n, h, d) f =
         match-local (take (s .nodes) (s .topology)) v (queueIn (s .owners) (s .entries) (s .used)) (r .lengths) (r .counts)
@@ -115,13 +140,13 @@ module _ (s : State) (a : Arrays s) (hn : s .nodes ≤ 64) (r : Counted)
           all-well (tree (take (s .nodes) (s .topology))) (queueIn (s .owners) (s .entries) (s .used)) 0
           (locals (take (s .nodes) (s .topology)) v (queueIn (s .owners) (s .entries) (s .used)) (r .lengths) (r .counts) (t .may e) (t .counts e) m)
 
-      pub root-held : getD (r .lengths) 0 0 ≡ held (treeOf s)
+      root-held : getD (r .lengths) 0 0 ≡ held (treeOf s)
       unfolding bytes queues treeOf
       root-held =
           t .counts e 0 (omega (arith, valid-size 64 (take (s .nodes) (s .topology)) v, size-pos (tree (take (s .nodes) (s .topology))))) .all
           ∙ held-root (tree (take (s .nodes) (s .topology))) (queueIn (s .owners) (s .entries) (s .used)) 0 tree-well
 
-      pub all-formed : 1 ≤ s .limit → s .limit ≤ 256 → s .used ≤ 2304 → held (treeOf s) ≤ s .limit → Formed s
+      all-formed : 1 ≤ s .limit → s .limit ≤ 256 → s .used ≤ 2304 → held (treeOf s) ≤ s .limit → Formed s
       unfolding bytes
       all-formed l u d g =
           record {
@@ -134,3 +159,27 @@ module _ (s : State) (a : Arrays s) (hn : s .nodes ≤ 64) (r : Counted)
             tree = tree-well;
             room = g;
           }
+
+  -- what the counts say is the verdict, where the opening is not refused
+  module _ (v : fault 64 (take (s .nodes) (s .topology)) ≡ 0) (l : 1 ≤ s .limit) (u : s .limit ≤ 256) (d : s .used ≤ 2304)
+      (x : Test) (j : Judged (take (s .nodes) (s .topology)) r (s .limit) x) where
+    ill-judged : x .sound ≡ false → Formed s → ⊥
+    ill-judged e f =
+        ⊎-elim
+        (λ n. ill-tally n f)
+        (λ y.
+        ⊎-elim
+        (λ m. ill-match (y .0) v m f)
+        (λ z. let h = root-held (y .0) v (z .0 .match) in omega (arith, f .room, z .1))
+        (y .1))
+        (j .unfit e)
+
+    pub judged-tests : Tests s x
+    judged-tests = by-sound (x .sound) refl
+      where
+        by-sound : (b : Bool) → x .sound ≡ b → Tests s x
+        by-sound true e =
+            let f = j .fits e in
+            let h = root-held (f .sound) v (f .match) in
+            says-yes s x e (all-formed (f .sound) v (f .match) l u d (omega (arith, j .room e, j .held e))) (j .held e ∙ h)
+        by-sound false e = says-no s x e (j .none e) (ill-judged e)

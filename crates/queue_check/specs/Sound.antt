@@ -13,6 +13,7 @@ use Rattle.pifo.specs.Numbered.{Queues}
 use Rattle.queue_state.specs.State.{itemOf, allBelow}
 use Rattle.queue_state.specs.declared.Entry.{Entry as CodeEntry}
 use Rattle.queue_check.specs.declared.soundness.Counted.{Counted}
+use Rattle.queue_check.specs.declared.Test.{Test}
 
 -- a topology's bytes, as far as the test needs them
 pub record Small (bytes : List ℕ) : Type 0 where
@@ -64,3 +65,23 @@ AllMatch bytes counts lengths n = (i : ℕ) → i < getD bytes n 0 → Match byt
 
 abbrev pub Mismatch : List ℕ → List ℕ → List ℕ → ℕ → Type 0
 Mismatch bytes counts lengths n = (i : ℕ) × (i < getD bytes n 0) × (Match bytes counts lengths n i → ⊥)
+
+-- a pass that was sound, with counts that match
+pub record Fits (bytes : List ℕ) (c : Counted) : Type 0 where
+  pub sound : c .sound ≡ true
+  pub match : (n : ℕ) → n < length bytes → AllMatch bytes (c .counts) (c .lengths) n
+
+-- what else: a pass with a fault, a count that does not match, or too many in the root's queue
+abbrev pub Unfit : List ℕ → Counted → ℕ → Type 0
+Unfit bytes c limit =
+    (c .sound ≡ false)
+    ⊎ ((c .sound ≡ true)
+    × (((n : ℕ) × (n < length bytes) × Mismatch bytes (c .counts) (c .lengths) n) ⊎ (Fits bytes c × (limit < getD (c .lengths) 0 0))))
+
+-- what the counts say: sound where they fit and the root's queue is within the limit
+pub record Judged (bytes : List ℕ) (c : Counted) (limit : ℕ) (r : Test) : Type 0 where
+  pub fits : r .sound ≡ true → Fits bytes c
+  pub room : r .sound ≡ true → r .held ≤ limit
+  pub held : r .sound ≡ true → r .held ≡ getD (c .lengths) 0 0
+  pub none : r .sound ≡ false → r .held ≡ 0
+  pub unfit : r .sound ≡ false → Unfit bytes c limit

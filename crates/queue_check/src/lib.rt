@@ -1,18 +1,9 @@
-// The state of a queue tree, tested for 18 and asked for its counts.
+// The test of a queue tree's state (18).
 mod soundness;
 
 use queue_state::State;
 use topology::TARGET_NODES;
-ghost use mathlib.Core.Path.{_≡_};
-ghost use Rattle.pifo.specs.Tree.{held};
-ghost use Rattle.queue_state.specs.State.{wellFormed, treeOf};
-ghost use Rattle.queue_check.specs.Tests.{Tests, amount};
-
-// The answer to a question about a state: a count, or a refusal by its number.
-pub enum Amount {
-    Count(u32),
-    Refused(u8),
-}
+ghost use Rattle.queue_check.specs.Tests.{Tests};
 
 // A state's test: whether it is well formed, and then the packets that it holds.
 pub struct Test {
@@ -50,49 +41,5 @@ pub fn examine(state: State) -> Test
     let owners = state.owners;
     let entries = state.entries;
     let counted = soundness::tally(bytes, owners, entries, used);
-    if !counted.sound {
-        return Test {
-            sound: false,
-            held: 0,
-        };
-    }
-    let counts = counted.counts;
-    let lengths = counted.lengths;
-    if !soundness::all_match(bytes, &counts, &lengths) {
-        return Test {
-            sound: false,
-            held: 0,
-        };
-    }
-    let held = soundness::wide16(lengths[0]);
-    if limit < held {
-        return Test {
-            sound: false,
-            held: 0,
-        };
-    }
-    Test { sound: true, held }
-}
-
-// How many packets a tree holds.
-pub fn held(state: State) -> Amount
-    ensures { λ r. ⌜ r ≡ amount (wellFormed state) (held (treeOf state)) ⌝ }
-{
-    let test = examine(state);
-    if test.sound {
-        Amount::Count(test.held as u32)
-    } else {
-        Amount::Refused(18)
-    }
-}
-
-// How many pushes a tree has refused because it was full.
-pub fn refusals(state: State) -> Amount
-    ensures { λ r. ⌜ r ≡ amount (wellFormed state) (state .refused) ⌝ }
-{
-    let test = examine(state);
-    if !test.sound {
-        return Amount::Refused(18);
-    }
-    Amount::Count(state.refused)
+    soundness::judge(bytes, counted, limit)
 }

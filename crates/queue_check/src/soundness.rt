@@ -1,4 +1,5 @@
 // The test of a state (refusal 18): one pass over the entries, and then the counts of each node's children.
+use super::Test;
 use queue_state::Entry;
 use queue_state::Item;
 use topology::wide;
@@ -7,7 +8,7 @@ ghost use Prim.Native.Nat.{ℕ, _≤_, _<_};
 ghost use lib.ListN.{length, take};
 ghost use Rattle.topology.specs.Reader.{fault};
 ghost use Rattle.queue_state.specs.State.{itemOf, queueIn};
-ghost use Rattle.queue_check.specs.Sound.{Small, Slot, Placed, Tallied, Decides, AllMatch, Mismatch};
+ghost use Rattle.queue_check.specs.Sound.{Small, Slot, Placed, Tallied, Decides, AllMatch, Mismatch, Judged};
 
 // What the pass has counted: the length of each node's queue, and at node * 9 + i how often child i occurs in it.
 pub(crate) struct Counted {
@@ -108,7 +109,7 @@ fn children_match(bytes: &[u8], counts: &[u16], lengths: &[u16], node: usize) ->
 }
 
 // The same for every node.
-pub(crate) fn all_match(bytes: &[u8], counts: &[u16], lengths: &[u16]) -> bool
+fn all_match(bytes: &[u8], counts: &[u16], lengths: &[u16]) -> bool
     requires { ⌜ (fault 64 (now bytes) ≡ 0) × (length (now counts) ≡ 576) × (length (now lengths) ≡ 64) ⌝ }
     ensures { λ r. ⌜ Decides r ((n : ℕ) → n < length (now (bytes .entry)) → AllMatch (now (bytes .entry)) (now (counts .entry)) (now (lengths .entry)) n) ((n : ℕ) × (n < length (now (bytes .entry))) × Mismatch (now (bytes .entry)) (now (counts .entry)) (now (lengths .entry)) n) ⌝ }
 {
@@ -122,8 +123,37 @@ pub(crate) fn all_match(bytes: &[u8], counts: &[u16], lengths: &[u16]) -> bool
     true
 }
 
-pub(crate) fn wide16(n: u16) -> usize
+fn wide16(n: u16) -> usize
     ensures { λ r. ⌜ r ≡ n ⌝ }
 {
     n as usize
+}
+
+// What the counts say: a state is well formed where the pass was sound, the counts match and the root's queue is within the limit.
+pub(crate) fn judge(bytes: &[u8], counted: Counted, limit: usize) -> Test
+    requires { ⌜ (fault 64 (now bytes) ≡ 0) × (length (counted .counts) ≡ 576) × (length (counted .lengths) ≡ 64) ⌝ }
+    ensures { λ r. ⌜ Judged (now (bytes .entry)) counted limit r ⌝ }
+{
+    if !counted.sound {
+        return Test {
+            sound: false,
+            held: 0,
+        };
+    }
+    let counts = counted.counts;
+    let lengths = counted.lengths;
+    if !all_match(bytes, &counts, &lengths) {
+        return Test {
+            sound: false,
+            held: 0,
+        };
+    }
+    let held = wide16(lengths[0]);
+    if limit < held {
+        return Test {
+            sound: false,
+            held: 0,
+        };
+    }
+    Test { sound: true, held }
 }

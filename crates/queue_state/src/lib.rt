@@ -1,5 +1,5 @@
-// The state of a queue tree, by value, opened empty. The crate `queue_check` tests a state for 18 and is asked for its counts; the crates
-// `queue_push` and `queue_pop` have push and pop.
+// The state of a queue tree, by value, opened empty. The crate `queue_check` has its test (18), `queue_counts` its counts; `queue_push` and
+// `queue_pop` have push and pop.
 //
 // Entries of all queues stand in one array, each with the number of the node that owns it; the queue of a node is the sub-list of its
 // own entries, head first. 256 packets on 9 nodes each make 2304 entries at the most.

@@ -12,8 +12,8 @@ use Rattle.topology.specs.Reader.{pick}
 use Rattle.pifo.specs.Tree.{Step, step, held}
 use Rattle.pifo.specs.Machine.{Machine, Call, pushing, popping, serve}
 use Rattle.queue_state.specs.State.{machine, treeOf}
-use Rattle.queue_check.specs.declared.Amount.{Amount}
-use Rattle.queue_check.specs.declared.Amount.the-variants.{Count}
+use Rattle.queue_counts.specs.declared.Amount.{Amount}
+use Rattle.queue_counts.specs.declared.Amount.the-variants.{Count}
 use Rattle.queue_push.specs.Calls.{stepsOf, pushAnswer}
 use Rattle.queue_pop.specs.Calls.{popAnswer}
 use Rattle.queue_push.specs.declared.Path.{Path}

@@ -1,6 +1,6 @@
 -- What the private functions of the replies promise.
-use Rattle.queue_check.specs.declared.Amount.{Amount}
-use Rattle.queue_check.specs.declared.Amount.the-variants.{Count, Refused as NoAmount}
+use Rattle.queue_counts.specs.declared.Amount.{Amount}
+use Rattle.queue_counts.specs.declared.Amount.the-variants.{Count, Refused as NoAmount}
 use Rattle.queue_push.specs.declared.PushAnswer.{PushAnswer}
 use Rattle.queue_push.specs.declared.PushAnswer.the-variants.{Accepted, Refused as NoPush, Full}
 use Rattle.queue_pop.specs.declared.PopAnswer.{PopAnswer}

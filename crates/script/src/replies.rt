@@ -1,5 +1,5 @@
 // Replies to calls on both trees: from the answers of the chip's side to a line of text.
-use queue_check::Amount;
+use queue_counts::Amount;
 use queue_pop::PopAnswer;
 use queue_push::PushAnswer;
 ghost use mathlib.Core.Path.{_≡_};

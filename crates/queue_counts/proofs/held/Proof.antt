@@ -2,11 +2,11 @@
 use borrow.Author.Needs.{needs}
 use native.Mathlib.Omega.{arith}
 use mathlib.Core.Path.{sym, ap, _∙_}
-use Rattle.queue_check.specs.declared.Amount.the-variants.{Count}
+use Rattle.queue_counts.specs.declared.Amount.the-variants.{Count}
 use Rattle.queue_state.proofs.Formed.{formed}
-use Rattle.queue_check.proofs.Counts.{counted-amount, ill-amount}
-use Rattle.queue_check.proofs.held.Statement.{statement}
-use Rattle.queue_check.proofs.held.Tie as tie
+use Rattle.queue_counts.proofs.Counts.{counted-amount, ill-amount}
+use Rattle.queue_counts.proofs.held.Statement.{statement}
+use Rattle.queue_counts.proofs.held.Tie as tie
 
 examine-requires : tie.Need-examine-requires
 examine-requires c κs = search needs

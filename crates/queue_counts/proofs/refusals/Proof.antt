@@ -1,9 +1,9 @@
 -- The two answers of the state's test.
-use Rattle.queue_check.proofs.Counts.{counted-amount, ill-amount}
+use Rattle.queue_counts.proofs.Counts.{counted-amount, ill-amount}
 use borrow.Author.Needs.{needs}
 use borrow.Author.Tests.{not-true, not-false}
-use Rattle.queue_check.proofs.refusals.Statement.{statement}
-use Rattle.queue_check.proofs.refusals.Tie as tie
+use Rattle.queue_counts.proofs.refusals.Statement.{statement}
+use Rattle.queue_counts.proofs.refusals.Tie as tie
 
 examine-requires : tie.Need-examine-requires
 examine-requires c κs = search needs

@@ -3,10 +3,11 @@ use mathlib.Core.Path.{_≡_, sym, ap, _∙_}
 use Prim.Native.Nat.{ℕ}
 use mathlib.Core.Bool.{Bool, true, false}
 use Rattle.queue_state.specs.State.{wellFormed}
-use Rattle.queue_check.specs.Tests.{Tests, amount}
-use Rattle.queue_check.specs.declared.Amount.the-variants.{Count, Refused}
+use Rattle.queue_check.specs.Tests.{Tests}
+use Rattle.queue_counts.specs.Amounts.{amount}
+use Rattle.queue_counts.specs.declared.Amount.the-variants.{Count, Refused}
 use Rattle.queue_state.specs.declared.State.{State}
 use Rattle.queue_check.specs.declared.Test.{Test}
 
 pub counted-amount : (s : State) (r : Test) → Tests s r → r .sound ≡ true → (n : ℕ) → Count n ≡ amount (wellFormed s) n
 counted-amount s r t e n = ap (λ (b : Bool). amount b n) (sym e ∙ t .sound)

@@ -1,0 +1,2 @@
+-- To believe: Amounts (what `held` and `refusals` promise).
+pub mod Amounts
