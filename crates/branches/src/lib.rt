@@ -7,6 +7,8 @@ use topology::Reading;
 use topology::TARGET_NODES;
 use topology::read;
 ghost use mathlib.Core.Path.{_≡_};
+ghost use Prim.Native.Nat.{_+_};
+ghost use denote.Ref.{ptr};
 ghost use Rattle.topology.specs.Branch.{branchEnd, childAt, isAbove, branchFault, branchPart};
 
 // One past the last node of the branch under `node`; the end of the bytes where they stop short of that.
@@ -62,9 +64,11 @@ pub fn is_above(bytes: &[u8], a: usize, b: usize) -> bool
     }
 }
 
-// The branch under `node`, as the stretch of the caller's own bytes, and 0 in `refusal`; or nothing, and the refusal's number.
+// The branch under `node`, as the stretch of the caller's own bytes, and 0 in `refusal`; or nothing, and the refusal's number. The second
+// clause says where the stretch begins: `node` bytes into the caller's.
 pub fn branch<'a>(bytes: &'a [u8], node: usize, refusal: &mut u8) -> &'a [u8]
     ensures { λ r. ⌜ (now (refusal .exit) ≡ branchFault (now (bytes .entry)) node) × (now r ≡ branchPart (now (bytes .entry)) node) ⌝ }
+    ensures { λ r. ⌜ (now (refusal .exit) ≡ 0 → ptr r ≡ (ptr (bytes .entry) .0, node + ptr (bytes .entry) .1)) ⌝ }
 {
     match read(bytes, TARGET_NODES) {
         Reading::Refused(number) => {

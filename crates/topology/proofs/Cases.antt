@@ -74,6 +74,12 @@ unless-fault : (f : ℕ) (l : List ℕ) → f ≢ 0 → unless f l ≡ []
 unless-fault zero l n = absurd (n refl)
 unless-fault (suc f) l n = refl
 
+-- a refusal has a number from 1 on
+pub refused-by : (bytes : List ℕ) (r : Reading) → r ≡ reading (fault 64 bytes) → (number : ℕ) → r ≡ Refused number → number ≢ 0
+refused-by bytes r e number t none =
+    let found = read-refused (fault 64 bytes) r e number t in
+    found .1 (sym (found .0) ∙ none)
+
 -- The branch's three answers: the reader's refusal, 19, and a stretch of the bytes.
 module _ (bytes : List ℕ) (n : ℕ) (r : Reading) (e : r ≡ reading (fault 64 bytes)) where
   pub branch-refused : (number : ℕ) → r ≡ Refused number → (number ≡ branchFault bytes n) × ([] ≡ branchPart bytes n)

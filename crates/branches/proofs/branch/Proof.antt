@@ -1,8 +1,10 @@
 -- `branch` meets its contract: each answer is one law of `Cases`; the part stays within the bytes by `end-bounds`.
+use mathlib.Core.Path.{refl}
+use native.Mathlib.Omega.{arith}
 use borrow.Author.Needs.{needs}
 use denote.Ref.{now}
 use Rattle.topology.proofs.Scan.{end-bounds}
-use Rattle.topology.proofs.Cases.{branch-refused, branch-missing, branch-there}
+use Rattle.topology.proofs.Cases.{refused-by, branch-refused, branch-missing, branch-there}
 use Rattle.branches.proofs.branch.Statement.{statement}
 use Rattle.branches.proofs.branch.Tie as tie
 
@@ -47,18 +49,19 @@ slice-aggregate-result-2 c = search needs
 
 returns : tie.Need-returns
 returns c =
-    let at = c .before .before .before in
-    branch-refused _ _ _ (at .before .read .ensures) _ (c .before .before .number .given .1)
+    let read = c .before .before .before .before .read .ensures in
+    let number = c .before .before .number .given .1 in
+    (branch-refused _ _ _ read _ number, λ none. absurd (refused-by _ _ read _ number none))
 
 returns-2 : tie.Need-returns-2
 returns-2 c =
     let told = c .before .before .before in
-    branch-there _ _ _ (told .before .before .read .ensures) (told .enum-told .given .1) (c .before .before .if1 .taken) _ (c .before .branch-end .ensures)
+    (branch-there _ _ _ (told .before .before .read .ensures) (told .enum-told .given .1) (c .before .before .if1 .taken) _ (c .before .branch-end .ensures), λ none. refl)
 
 returns-3 : tie.Need-returns-3
 returns-3 c =
     let told = c .before .before in
-    branch-missing _ _ _ (told .before .before .read .ensures) (told .enum-told .given .1) (c .before .if1 .left)
+    (branch-missing _ _ _ (told .before .before .read .ensures) (told .enum-told .given .1) (c .before .if1 .left), λ none. absurd (omega (arith, none)))
 
 pub branch-spec : {M : Type 1} → statement M
 branch-spec =

@@ -9,7 +9,7 @@ branch-requires : tie.Need-branch-requires
 branch-requires c κs = search needs
 
 returns : tie.Need-returns
-returns c = (c .branch .ensures .0, ap length (c .branch .ensures .1))
+returns c = (c .branch .ensures .0 .0, ap length (c .branch .ensures .0 .1))
 
 pub linduvar-branch-spec : {M : Type 1} → statement M
 linduvar-branch-spec = tie.close (tie.spec branch-requires returns)

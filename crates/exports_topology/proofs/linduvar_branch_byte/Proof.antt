@@ -18,13 +18,13 @@ returns : tie.Need-returns
 returns c =
     let at = c .before .before .before .before .before .args .at in
     getD-in (c .before .before .branch .result .now) at 0 255 (c .before .if1 .taken)
-    ∙ ap (λ (l : List ℕ). getD l at 255) (c .before .before .branch .ensures .1)
+    ∙ ap (λ (l : List ℕ). getD l at 255) (c .before .before .branch .ensures .0 .1)
 
 returns-2 : tie.Need-returns-2
 returns-2 c =
     let at = c .before .before .before .before .args .at in
     sym (List·getD-eq-default (c .before .branch .result .now) 255 (c .if1 .left))
-    ∙ ap (λ (l : List ℕ). getD l at 255) (c .before .branch .ensures .1)
+    ∙ ap (λ (l : List ℕ). getD l at 255) (c .before .branch .ensures .0 .1)
 
 pub linduvar-branch-byte-spec : {M : Type 1} → statement M
 linduvar-branch-byte-spec =
