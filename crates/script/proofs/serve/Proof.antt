@@ -43,7 +43,11 @@ put-no-requires : tie.Need-put-no-requires Inv-loop μ-loop
 put-no-requires c κs = search needs
 
 returns-2 : tie.Need-returns-2 Inv-loop μ-loop
-returns-2 c = at-fault _ _ _ _ _ _ _ _ _ (c .before .before .before .before .before .before .before .before .loop .inv) _ _ _ _ (sym (c .before .before .before .before .before .before .before .turn-at .ensures) ∙ c .before .before .before .before .before .number .given .1) (c .before .before .put-no .ensures)
+returns-2 c =
+    let line = c .before .before in
+    let turn = line .before .before .before in
+    let at = turn .before .before in
+    at-fault _ _ _ _ _ _ _ _ _ (at .before .loop .inv) _ _ _ _ (sym (at .turn-at .ensures) ∙ turn .number .given .1) (line .put-no .ensures)
 
 same-length-2 : tie.Need-same-length-2 Inv-loop μ-loop
 same-length-2 c = puts-length (returns-2 c)
@@ -57,12 +61,16 @@ add-step-requires c κs =
     (omega (arith, g .served .few), g .served .places)
 
 loop-less : tie.Need-loop-less Inv-loop μ-loop
-loop-less c = nearer _ _ _ _ ((says _ _ _ _ (sym (c .before .before .before .before .turn-at .ensures) ∙ c .before .before .child .given .1)) .0)
+loop-less c =
+    let turn = c .before .before in
+    nearer _ _ _ _ ((says _ _ _ _ (sym (turn .before .before .turn-at .ensures) ∙ turn .child .given .1)) .0)
 
 loop-again : tie.Need-loop-again Inv-loop μ-loop
 loop-again c =
-    let g = c .before .before .before .before .before .loop .inv in
-    let read = says _ _ _ _ (sym (c .before .before .before .before .turn-at .ensures) ∙ c .before .before .child .given .1) in
+    let turn = c .before .before in
+    let at = turn .before .before in
+    let g = at .before .loop .inv in
+    let read = says _ _ _ _ (sym (at .turn-at .ensures) ∙ turn .child .given .1) in
     rw (c .add-step .ensures) (silently _ _ _ _ _ _ _ _ _ g _ _ (read .0) _ _ (step-turned _ _ (g .served) _ _ (read .1)))
 
 enum-known-packet : tie.Need-enum-known-packet Inv-loop μ-loop
@@ -91,26 +99,80 @@ stops-requires c κs = search needs
 
 returns-3 : tie.Need-returns-3 Inv-loop μ-loop
 returns-3 c =
-    let g = c .before .before .before .before .before .before .before .before .before .before .before .before .before .before .before .before .loop .inv in
-    let read = says _ _ _ _ (sym (c .before .before .before .before .before .before .before .before .before .before .before .before .before .before .before .turn-at .ensures) ∙ c .before .before .before .before .before .before .before .before .before .before .before .before .before .packet .given .1) in
-    let push = push-turned _ _ (g .served) _ _ _ (c .before .before .before .before .before .before .before .before .before .before .before .ended .ensures) _ (c .before .before .before .before .before .before .before .before .before .before .push .result .source) (c .before .before .before .before .before .before .before .before .before .before .push .result .chip) (c .before .before .before .before .before .before .before .before .before .before .push .ensures) _ (c .before .before .before .before .before .before .before .held .ensures) (c .before .before .before .before .before .before .before .before .before .no-steps2 .result) (c .before .before .before .before .before .before .before .before .before .no-steps2 .ensures .0) (c .before .before .before .before .before .before .before .before .before .no-steps2 .ensures .1) in
-    let line = rw (c .before .before .before .before .before .before .push-reply .ensures) at (c .before .before .before .before .put-reply .ensures) in
-    let stop = rw (c .before .before .before .before .before .before .push-reply .ensures) at (c .before .stops .ensures) in
+    let asked = c .before in
+    let put = asked .before .before .before in
+    let replied = put .before .before in
+    let counted = replied .before in
+    let cleared = counted .before .before in
+    let pushed = cleared .before in
+    let ended = pushed .before in
+    let turn = ended .before .before in
+    let at = turn .before .before in
+    let g = at .before .loop .inv in
+    let read = says _ _ _ _ (sym (at .turn-at .ensures) ∙ turn .packet .given .1) in
+    let push =
+    push-turned
+    _
+    _
+    (g .served)
+    _
+    _
+    _
+    (ended .ended .ensures)
+    _
+    (pushed .push .result .source)
+    (pushed .push .result .chip)
+    (pushed .push .ensures)
+    _
+    (counted .held .ensures)
+    (cleared .no-steps2 .result)
+    (cleared .no-steps2 .ensures .0)
+    (cleared .no-steps2 .ensures .1) in
+    let line = rw (replied .push-reply .ensures) at (put .put-reply .ensures) in
+    let stop = rw (replied .push-reply .ensures) at (asked .stops .ensures) in
     stopped _ _ _ _ _ _ _ _ _ g _ _ read _ _ _ push _ _ (sym stop ∙ c .if1 .taken) line
 
 same-length-3 : tie.Need-same-length-3 Inv-loop μ-loop
 same-length-3 c = puts-length (returns-3 c)
 
 loop-less-2 : tie.Need-loop-less-2 Inv-loop μ-loop
-loop-less-2 c = nearer _ _ _ _ (says _ _ _ _ (sym (c .before .before .before .before .before .before .before .before .before .before .before .before .before .before .before .turn-at .ensures) ∙ c .before .before .before .before .before .before .before .before .before .before .before .before .before .packet .given .1))
+loop-less-2 c =
+    let turn = c .before .before .before .before .before .before .before .before .before .before .before .before .before in
+    nearer _ _ _ _ (says _ _ _ _ (sym (turn .before .before .turn-at .ensures) ∙ turn .packet .given .1))
 
 loop-again-2 : tie.Need-loop-again-2 Inv-loop μ-loop
 loop-again-2 c =
-    let g = c .before .before .before .before .before .before .before .before .before .before .before .before .before .before .before .before .loop .inv in
-    let read = says _ _ _ _ (sym (c .before .before .before .before .before .before .before .before .before .before .before .before .before .before .before .turn-at .ensures) ∙ c .before .before .before .before .before .before .before .before .before .before .before .before .before .packet .given .1) in
-    let push = push-turned _ _ (g .served) _ _ _ (c .before .before .before .before .before .before .before .before .before .before .before .ended .ensures) _ (c .before .before .before .before .before .before .before .before .before .before .push .result .source) (c .before .before .before .before .before .before .before .before .before .before .push .result .chip) (c .before .before .before .before .before .before .before .before .before .before .push .ensures) _ (c .before .before .before .before .before .before .before .held .ensures) (c .before .before .before .before .before .before .before .before .before .no-steps2 .result) (c .before .before .before .before .before .before .before .before .before .no-steps2 .ensures .0) (c .before .before .before .before .before .before .before .before .before .no-steps2 .ensures .1) in
-    let line = rw (c .before .before .before .before .before .before .push-reply .ensures) at (c .before .before .before .before .put-reply .ensures) in
-    let stop = rw (c .before .before .before .before .before .before .push-reply .ensures) at (c .before .stops .ensures) in
+    let asked = c .before in
+    let put = asked .before .before .before in
+    let replied = put .before .before in
+    let counted = replied .before in
+    let cleared = counted .before .before in
+    let pushed = cleared .before in
+    let ended = pushed .before in
+    let turn = ended .before .before in
+    let at = turn .before .before in
+    let g = at .before .loop .inv in
+    let read = says _ _ _ _ (sym (at .turn-at .ensures) ∙ turn .packet .given .1) in
+    let push =
+    push-turned
+    _
+    _
+    (g .served)
+    _
+    _
+    _
+    (ended .ended .ensures)
+    _
+    (pushed .push .result .source)
+    (pushed .push .result .chip)
+    (pushed .push .ensures)
+    _
+    (counted .held .ensures)
+    (cleared .no-steps2 .result)
+    (cleared .no-steps2 .ensures .0)
+    (cleared .no-steps2 .ensures .1) in
+    let line = rw (replied .push-reply .ensures) at (put .put-reply .ensures) in
+    let stop = rw (replied .push-reply .ensures) at (asked .stops .ensures) in
     goes-on _ _ _ _ _ _ _ _ _ g _ _ read _ _ _ push _ _ (sym stop ∙ c .if1 .left) line
 
 enum-known-next : tie.Need-enum-known-next Inv-loop μ-loop
@@ -130,26 +192,40 @@ stops-requires-2 c κs = search needs
 
 returns-4 : tie.Need-returns-4 Inv-loop μ-loop
 returns-4 c =
-    let g = c .before .before .before .before .before .before .before .before .before .before .before .before .before .loop .inv in
-    let read = says _ _ _ _ (sym (c .before .before .before .before .before .before .before .before .before .before .before .before .turn-at .ensures) ∙ c .before .before .before .before .before .before .before .before .before .before .next .given .1) in
-    let pop = pop-turned _ _ (g .served) _ (c .before .before .before .before .before .before .before .before .pop .result .source) (c .before .before .before .before .before .before .before .before .pop .result .chip) (c .before .before .before .before .before .before .before .before .pop .ensures) in
-    let line = rw (c .before .before .before .before .before .before .pop-reply .ensures) at (c .before .before .before .before .put-reply2 .ensures) in
-    let stop = rw (c .before .before .before .before .before .before .pop-reply .ensures) at (c .before .stops2 .ensures) in
+    let asked = c .before in
+    let put = asked .before .before .before in
+    let replied = put .before .before in
+    let popped = replied .before .before in
+    let turn = popped .before .before in
+    let at = turn .before .before in
+    let g = at .before .loop .inv in
+    let read = says _ _ _ _ (sym (at .turn-at .ensures) ∙ turn .next .given .1) in
+    let pop = pop-turned _ _ (g .served) _ (popped .pop .result .source) (popped .pop .result .chip) (popped .pop .ensures) in
+    let line = rw (replied .pop-reply .ensures) at (put .put-reply2 .ensures) in
+    let stop = rw (replied .pop-reply .ensures) at (asked .stops2 .ensures) in
     stopped _ _ _ _ _ _ _ _ _ g _ _ read _ _ _ pop _ _ (sym stop ∙ c .if2 .taken) line
 
 same-length-4 : tie.Need-same-length-4 Inv-loop μ-loop
 same-length-4 c = puts-length (returns-4 c)
 
 loop-less-3 : tie.Need-loop-less-3 Inv-loop μ-loop
-loop-less-3 c = nearer _ _ _ _ (says _ _ _ _ (sym (c .before .before .before .before .before .before .before .before .before .before .before .before .turn-at .ensures) ∙ c .before .before .before .before .before .before .before .before .before .before .next .given .1))
+loop-less-3 c =
+    let turn = c .before .before .before .before .before .before .before .before .before .before in
+    nearer _ _ _ _ (says _ _ _ _ (sym (turn .before .before .turn-at .ensures) ∙ turn .next .given .1))
 
 loop-again-3 : tie.Need-loop-again-3 Inv-loop μ-loop
 loop-again-3 c =
-    let g = c .before .before .before .before .before .before .before .before .before .before .before .before .before .loop .inv in
-    let read = says _ _ _ _ (sym (c .before .before .before .before .before .before .before .before .before .before .before .before .turn-at .ensures) ∙ c .before .before .before .before .before .before .before .before .before .before .next .given .1) in
-    let pop = pop-turned _ _ (g .served) _ (c .before .before .before .before .before .before .before .before .pop .result .source) (c .before .before .before .before .before .before .before .before .pop .result .chip) (c .before .before .before .before .before .before .before .before .pop .ensures) in
-    let line = rw (c .before .before .before .before .before .before .pop-reply .ensures) at (c .before .before .before .before .put-reply2 .ensures) in
-    let stop = rw (c .before .before .before .before .before .before .pop-reply .ensures) at (c .before .stops2 .ensures) in
+    let asked = c .before in
+    let put = asked .before .before .before in
+    let replied = put .before .before in
+    let popped = replied .before .before in
+    let turn = popped .before .before in
+    let at = turn .before .before in
+    let g = at .before .loop .inv in
+    let read = says _ _ _ _ (sym (at .turn-at .ensures) ∙ turn .next .given .1) in
+    let pop = pop-turned _ _ (g .served) _ (popped .pop .result .source) (popped .pop .result .chip) (popped .pop .ensures) in
+    let line = rw (replied .pop-reply .ensures) at (put .put-reply2 .ensures) in
+    let stop = rw (replied .pop-reply .ensures) at (asked .stops2 .ensures) in
     goes-on _ _ _ _ _ _ _ _ _ g _ _ read _ _ _ pop _ _ (sym stop ∙ c .if2 .left) line
 
 pub serve-spec : {M : Type 1} → statement M
