@@ -65,7 +65,7 @@ pub fn is_above(bytes: &[u8], a: usize, b: usize) -> bool
 }
 
 // The branch under `node`, as the stretch of the caller's own bytes, and 0 in `refusal`; or nothing, and the refusal's number. The second
-// clause says where the stretch begins: `node` bytes into the caller's.
+// clause says where the stretch begins: `node` bytes into the caller's. Where nothing lies is left free.
 pub fn branch<'a>(bytes: &'a [u8], node: usize, refusal: &mut u8) -> &'a [u8]
     ensures { λ r. ⌜ (now (refusal .exit) ≡ branchFault (now (bytes .entry)) node) × (now r ≡ branchPart (now (bytes .entry)) node) ⌝ }
     ensures { λ r. ⌜ (now (refusal .exit) ≡ 0 → ptr r ≡ (ptr (bytes .entry) .0, node + ptr (bytes .entry) .1)) ⌝ }
