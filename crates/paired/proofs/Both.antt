@@ -16,7 +16,7 @@ use Rattle.queue_state.specs.State.{bytes, machine, wellFormed}
 use Rattle.queue_state.specs.Calls.{Serves}
 use Rattle.queue_state.specs.declared.State.{State}
 use Rattle.queue_state.proofs.Formed.{off}
-use Rattle.queue_state.proofs.Served.{apart}
+use Rattle.queue_state.proofs.Serving.{apart}
 use Rattle.pair_state.specs.Pair.{sourceTree, chipTree, images, mapped, wellPaired, InStep}
 use Rattle.paired.specs.Calls.{ServesChip, ServesBoth}
 use Rattle.pair_state.specs.declared.Pair.{Pair}

@@ -8,31 +8,43 @@ use mathlib.Core.List.{List}
 use mathlib.Core.Bool.{Bool, true, false}
 use mathlib.Core.Option.{Option, none, some}
 use lib.Dec.{leb}
-use borrow.Author.Tests.{le-leb, lt-leb}
+use borrow.Author.Tests.{le-leb, lt-leb, leb-false}
 use Rattle.topology.specs.Reader.{pick}
+use Rattle.topology.proofs.Cases.{clash}
 use Rattle.pifo.specs.Tree.{Step, pathFault, PTree, push, pop, held, well}
-use Rattle.pifo.specs.Machine.{Machine, Call, pushing, popping, Answer, accepted, departed, refused, full, most, holding, counting, servePath, servePop, serve, numberOf}
+use Rattle.pifo.specs.Machine.{Machine, Call, pushing, popping, Answer, accepted, departed, refused, full, most, holding, counting, room, serveRoom, servePath, servePop, serve, numberOf}
 use Rattle.pifo.proofs.Paths.{fault-number}
 use Rattle.pifo.proofs.Pop.{pop-none, none-pop}
+
+-- the room of a push, case by case
+pub room-none : (limit holds : ℕ) → limit ≤ holds → room limit holds ≡ 15
+room-none limit holds h = rw (le-leb limit holds h)
+
+pub room-some : (limit holds : ℕ) → holds < limit → room limit holds ≡ 0
+room-some limit holds h = rw (lt-leb limit holds h)
+
+pub has-room : (limit holds : ℕ) → room limit holds ≡ 0 → holds < limit
+has-room limit holds e = by-test (leb limit holds) refl e
+  where
+    by-test : (b : Bool) → leb limit holds ≡ b → _≡_ {A = ℕ} (pick b 15 0) 0 → holds < limit
+    by-test true t z = absurd (omega arith)
+    by-test false t z = leb-false limit holds t
 
 module _ {P : Type 0} (m : Machine P) where
   pub push-fault : (ss : List Step) (l : ℕ) (p : P) (f : ℕ) → pathFault (m .topology) ss ≡ suc f → serve m (pushing ss l p) ≡ (refused (suc f), m)
   push-fault ss l p f e = rw e
 
-  -- a push whose path has no fault, where the limit's test has a given value
-  tested : (ss : List Step) (l : ℕ) (p : P) (b : Bool) → pathFault (m .topology) ss ≡ 0 → leb (m .limit) (held (m .tree)) ≡ b
-      → let c = min (suc (m .refusals)) most in serve m (pushing ss l p) ≡ pick b (full c, counting m c) (accepted, holding m (push (m .tree) ss l p))
-  tested ss l p b e t =
-      let c = min (suc (m .refusals)) most in
-      rw e (ap (λ (x : Bool). pick {A = Answer P × Machine P} x (full c, counting m c) (accepted, holding m (push (m .tree) ss l p))) t)
+  -- a push whose path has no fault, where the machine's room has a given value
+  by-room : (ss : List Step) (l : ℕ) (p : P) (n : ℕ) → pathFault (m .topology) ss ≡ 0 → room (m .limit) (held (m .tree)) ≡ n → serve m (pushing ss l p) ≡ serveRoom n m ss l p
+  by-room ss l p n e t = rw e (ap (λ (x : ℕ). serveRoom x m ss l p) t)
 
-  pub push-full : (ss : List Step) (l : ℕ) (p : P) → pathFault (m .topology) ss ≡ 0 → m .limit ≤ held (m .tree)
-      → let c = min (suc (m .refusals)) most in serve m (pushing ss l p) ≡ (full c, counting m c)
-  push-full ss l p e h = tested ss l p true e (le-leb (m .limit) (held (m .tree)) h)
+  pub push-full : (ss : List Step) (l : ℕ) (p : P) (n : ℕ) → pathFault (m .topology) ss ≡ 0 → room (m .limit) (held (m .tree)) ≡ suc n
+      → let c = min (suc (m .refusals)) most in serve m (pushing ss l p) ≡ (full (suc n) c, counting m c)
+  push-full ss l p n e h = by-room ss l p (suc n) e h
 
-  pub push-accepted : (ss : List Step) (l : ℕ) (p : P) → pathFault (m .topology) ss ≡ 0 → held (m .tree) < m .limit
-      → serve m (pushing ss l p) ≡ (accepted, holding m (push (m .tree) ss l p))
-  push-accepted ss l p e h = tested ss l p false e (lt-leb (m .limit) (held (m .tree)) h)
+  pub push-accepted : (ss : List Step) (l : ℕ) (p : P) → pathFault (m .topology) ss ≡ 0 → room (m .limit) (held (m .tree)) ≡ 0
+      → serve m (pushing ss l p) ≡ (accepted (held (push (m .tree) ss l p)), holding m (push (m .tree) ss l p))
+  push-accepted ss l p e h = by-room ss l p 0 e h
 
   pub pop-refused : well (m .tree) ≡ true → held (m .tree) ≡ 0 → serve m popping ≡ (refused 16, m)
   pop-refused w h = ap (servePop m) (none-pop (m .tree) w h)
@@ -46,39 +58,57 @@ module _ {P : Type 0} (m : Machine P) where
       by-pop none e = absurd (omega (arith, pop-none (m .tree) w e))
       by-pop (some (p, u)) e = (p, u, e, ap (servePop m) e)
 
-  -- A call leaves the topology, and no call is refused by 18.
+  -- A call leaves the topology.
   pub serve-topology : (c : Call P) → serve m c .1 .topology ≡ m .topology
   serve-topology (pushing ss l p) = by-fault (pathFault (m .topology) ss)
     where
-      by-test : (b : Bool) (c : ℕ) → pick {A = Answer P × Machine P} b (full c, counting m c) (accepted, holding m (push (m .tree) ss l p)) .1 .topology ≡ m .topology
-      by-test true c = refl
-      by-test false c = refl
+      in-room : (n : ℕ) → serveRoom n m ss l p .1 .topology ≡ m .topology
+      in-room zero = refl
+      in-room (suc n) = refl
 
       by-fault : (f : ℕ) → servePath f m ss l p .1 .topology ≡ m .topology
       by-fault (suc f) = refl
-      by-fault zero = by-test (leb (m .limit) (held (m .tree))) (min (suc (m .refusals)) most)
+      by-fault zero = in-room (room (m .limit) (held (m .tree)))
   serve-topology popping = by-pop (pop (m .tree))
     where
       by-pop : (o : Option (P × PTree P)) → servePop m o .1 .topology ≡ m .topology
       by-pop none = refl
       by-pop (some (p, u)) = refl
 
-  pub serve-number : (c : Call P) → numberOf (serve m c .0) ≤ 16
+  -- The number of a refusal has at most two digits.
+  pub serve-number : (c : Call P) → numberOf (serve m c .0) ≤ 99
   serve-number (pushing ss l p) = by-fault (pathFault (m .topology) ss) (fault-number (m .topology) ss)
     where
-      by-test : (b : Bool) (c : ℕ) → numberOf (pick {A = Answer P × Machine P} b (full c, counting m c) (accepted, holding m (push (m .tree) ss l p)) .0) ≤ 16
-      by-test true c = omega arith
-      by-test false c = omega arith
+      in-room : (b : Bool) → numberOf (serveRoom (pick b 15 0) m ss l p .0) ≤ 99
+      in-room true = omega arith
+      in-room false = omega arith
 
-      by-fault : (f : ℕ) → (f ≡ 0) ⊎ ((13 ≤ f) × (f ≤ 14)) → numberOf (servePath f m ss l p .0) ≤ 16
-      by-fault (suc f) (inl e) = absurd (omega arith)
-      by-fault (suc f) (inr h) = omega arith
-      by-fault zero h = by-test (leb (m .limit) (held (m .tree))) (min (suc (m .refusals)) most)
+      by-fault : (f : ℕ) → (f ≡ 0) ⊎ ((f ≡ 13) ⊎ (f ≡ 14)) → numberOf (servePath f m ss l p .0) ≤ 99
+      by-fault zero h = in-room (leb (m .limit) (held (m .tree)))
+      by-fault (suc f) (inl h) = omega arith
+      by-fault (suc f) (inr (inl h)) = omega arith
+      by-fault (suc f) (inr (inr h)) = omega arith
   serve-number popping = by-pop (pop (m .tree))
     where
-      by-pop : (o : Option (P × PTree P)) → numberOf (servePop m o .0) ≤ 16
+      by-pop : (o : Option (P × PTree P)) → numberOf (servePop m o .0) ≤ 99
       by-pop none = omega arith
       by-pop (some (p, u)) = omega arith
 
+  -- No call is refused by 18: a path's fault is 13 or 14, an empty tree's refusal 16, and no other answer is a plain refusal.
   pub never-18 : (c : Call P) → serve m c .0 ≡ refused 18 → ⊥
-  never-18 c e = omega (arith, serve-number c, ap numberOf e)
+  never-18 (pushing ss l p) = by-fault (pathFault (m .topology) ss) (fault-number (m .topology) ss)
+    where
+      in-room : (n : ℕ) → serveRoom n m ss l p .0 ≡ refused 18 → ⊥
+      in-room zero e = clash (cc)
+      in-room (suc n) e = clash (cc)
+
+      by-fault : (f : ℕ) → (f ≡ 0) ⊎ ((f ≡ 13) ⊎ (f ≡ 14)) → servePath f m ss l p .0 ≡ refused 18 → ⊥
+      by-fault zero h e = in-room (room (m .limit) (held (m .tree))) e
+      by-fault (suc f) (inl h) e = omega arith
+      by-fault (suc f) (inr (inl h)) e = omega (arith, ap numberOf e)
+      by-fault (suc f) (inr (inr h)) e = omega (arith, ap numberOf e)
+  never-18 popping = by-pop (pop (m .tree))
+    where
+      by-pop : (o : Option (P × PTree P)) → servePop m o .0 ≡ refused 18 → ⊥
+      by-pop none e = omega (arith, ap numberOf e)
+      by-pop (some (p, u)) e = clash (cc)

@@ -16,11 +16,11 @@ chain = node (fcons leaf fnil)
 -- entries say whose turn it is, and the leaf decides which packet takes it. So a root's entry is not tied to its packet.
 pub later-first : {P : Type 0} (earlier later : P)
     → answers (opened chain 2) (pushing (step 1 1 ∷ []) 9 earlier ∷ pushing (step 1 4 ∷ []) 2 later ∷ popping ∷ popping ∷ [])
-    ≡ accepted ∷ accepted ∷ departed later ∷ departed earlier ∷ []
+    ≡ accepted 1 ∷ accepted 2 ∷ departed later ∷ departed earlier ∷ []
 later-first earlier later = refl
 
 -- Two packets of equal ranks leave in order of arrival, whatever the ranks.
 pub in-turn : {P : Type 0} (r l : ℕ) (earlier later : P)
     → answers (opened chain 2) (pushing (step 1 r ∷ []) l earlier ∷ pushing (step 1 r ∷ []) l later ∷ popping ∷ popping ∷ [])
-    ≡ accepted ∷ accepted ∷ departed earlier ∷ departed later ∷ []
+    ≡ accepted 1 ∷ accepted 2 ∷ departed earlier ∷ departed later ∷ []
 in-turn r l earlier later = simp (le-ltb r r (le-refl r), le-ltb l l (le-refl l))

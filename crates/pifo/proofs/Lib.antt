@@ -9,5 +9,6 @@ pub mod Queues
 pub mod Answers
 pub mod Append
 pub mod Numbered
+pub mod Ways
 pub mod Local
 pub mod Total

@@ -60,20 +60,20 @@ pub step-fault : (t : Topo) (i r : ℕ) (ss : List Step) → Passes t i ss → p
 step-fault t i r ss p = rw (le-leb 1 i (p .low), le-leb i (width t) (p .high)) (p .rest)
 
 -- 0, 13 and 14 are the numbers of paths.
-pub fault-number : (t : Topo) (ss : List Step) → (pathFault t ss ≡ 0) ⊎ ((13 ≤ pathFault t ss) × (pathFault t ss ≤ 14))
+pub fault-number : (t : Topo) (ss : List Step) → (pathFault t ss ≡ 0) ⊎ ((pathFault t ss ≡ 13) ⊎ (pathFault t ss ≡ 14))
 fault-number t [] = by-test (eqb (width t) 0)
   where
-    by-test : (b : Bool) → (_≡_ {A = ℕ} (pick b 0 14) 0) ⊎ ((13 ≤ pick b 0 14) × (pick b 0 14 ≤ 14))
+    by-test : (b : Bool) → (_≡_ {A = ℕ} (pick b 0 14) 0) ⊎ ((_≡_ {A = ℕ} (pick b 0 14) 13) ⊎ (_≡_ {A = ℕ} (pick b 0 14) 14))
     by-test true = inl refl
-    by-test false = inr (omega arith)
+    by-test false = inr (inr refl)
 fault-number t (step i r ∷ ss) = by-test (leb 1 i && leb i (width t)) (fault-number (child t i) ss)
   where
     f : ℕ
     f = pathFault (child t i) ss
 
-    by-test : (b : Bool) → (f ≡ 0) ⊎ ((13 ≤ f) × (f ≤ 14)) → (pick b f 13 ≡ 0) ⊎ ((13 ≤ pick b f 13) × (pick b f 13 ≤ 14))
+    by-test : (b : Bool) → (f ≡ 0) ⊎ ((f ≡ 13) ⊎ (f ≡ 14)) → (pick b f 13 ≡ 0) ⊎ ((pick b f 13 ≡ 13) ⊎ (pick b f 13 ≡ 14))
     by-test true h = h
-    by-test false h = inr (omega arith)
+    by-test false h = inr (inl refl)
 
 -- More steps than the tree is high: one of them names a child that its node lacks. No tree that is read is higher than 8, so a path with a
 -- ninth step is refused by 13.

@@ -14,7 +14,7 @@ use Rattle.lists.proofs.Permutation.{length-perm, perm-same, perm-past}
 use Rattle.topology.specs.Tree.{Topo}
 use Rattle.topology.specs.Reader.{pick}
 use Rattle.pifo.specs.Tree.{Step, pathFault, PTree, shape, push, pop, packets, held}
-use Rattle.pifo.specs.Machine.{Machine, Call, pushing, popping, Answer, accepted, departed, refused, full, most, holding, counting, opened, servePath, servePop, serve, Server, afterBy, answersBy, after, answers}
+use Rattle.pifo.specs.Machine.{Machine, Call, pushing, popping, Answer, accepted, departed, refused, full, most, holding, counting, opened, room, serveRoom, servePath, servePop, serve, Server, afterBy, answersBy, after, answers}
 use Rattle.pifo.specs.Runs.{Sound, takenBy, departedBy, fullBy, acceptedBy, taken, departures, fulls, accepts, Run}
 use Rattle.pifo.proofs.Wellness.{shape-empty, packets-empty, well-empty}
 use Rattle.pifo.proofs.Push.{push-shape, push-packets, push-held, push-well}
@@ -50,7 +50,7 @@ module _ {P : Type 0} where
       c = min (suc (m .refusals)) most
 
       by-test : (b : Bool) → leb (m .limit) (held (m .tree)) ≡ b
-          → let r = pick {A = Answer P × Machine P} b (full c, counting m c) (accepted, holding m (push (m .tree) ss l p)) in Served m (pushing ss l p) (r .0) (r .1)
+          → let r = serveRoom (pick b 15 0) m ss l p in Served m (pushing ss l p) (r .0) (r .1)
       by-test true t =
           record {
             sound = record { tree = s .tree; topology = s .topology; limit = s .limit; refusals = omega arith };
@@ -103,24 +103,21 @@ module _ {P : Type 0} where
   -- A refusal leaves the machine as it was, but for the count after `full`, which is one more, up to its largest, and which the answer
   -- carries.
   abbrev pub Unmoved : Machine P → Answer P → Machine P → Type 0
-  Unmoved m accepted n = Unit
+  Unmoved m (accepted h) n = Unit
   Unmoved m (departed p) n = Unit
   Unmoved m (refused k) n = n ≡ m
-  Unmoved m (full k) n = (k ≡ min (suc (m .refusals)) most) × (n ≡ counting m k)
+  Unmoved m (full k c) n = (c ≡ min (suc (m .refusals)) most) × (n ≡ counting m c)
 
   pub unmoved : (m : Machine P) (c : Call P) → Unmoved m (serve m c .0) (serve m c .1)
   unmoved m (pushing ss l p) = by-fault (pathFault (m .topology) ss)
     where
-      c : ℕ
-      c = min (suc (m .refusals)) most
-
-      by-test : (b : Bool) → let r = pick {A = Answer P × Machine P} b (full c, counting m c) (accepted, holding m (push (m .tree) ss l p)) in Unmoved m (r .0) (r .1)
-      by-test true = (refl, refl)
-      by-test false = tt
+      in-room : (n : ℕ) → let r = serveRoom n m ss l p in Unmoved m (r .0) (r .1)
+      in-room zero = tt
+      in-room (suc n) = (refl, refl)
 
       by-fault : (f : ℕ) → let r = servePath f m ss l p in Unmoved m (r .0) (r .1)
       by-fault (suc f) = refl
-      by-fault zero = by-test (leb (m .limit) (held (m .tree)))
+      by-fault zero = in-room (room (m .limit) (held (m .tree)))
   unmoved m popping = by-pop (pop (m .tree))
     where
       by-pop : (o : Option (P × PTree P)) → let r = servePop m o in Unmoved m (r .0) (r .1)

@@ -5,6 +5,7 @@ use mathlib.Core.Option.{Option, none, some}
 use lib.Dec.{leb}
 use Rattle.topology.specs.Tree.{Topo}
 use Rattle.topology.specs.Reader.{pick}
+use Rattle.pifo.specs.Queue.{Rank}
 use Rattle.pifo.specs.Tree.{Step, pathFault, PTree, empty, push, pop, held}
 
 pub record Machine (P : Type 0) : Type 0 where
@@ -15,22 +16,28 @@ pub record Machine (P : Type 0) : Type 0 where
 
 -- a push along a path, with the leaf's rank and the packet; a pop
 pub data Call (P : Type 0) : Type 0 where
-  pushing : List Step → ℕ → P → Call P
+  pushing : List Step → Rank → P → Call P
   popping : Call P
 
--- A refusal is known by its number; 15 comes with the new count of refusals.
+-- An accepted push is answered with the packets then held, a pop with the packet that departs. A refusal is known by its number; that of a
+-- push for which there is no room comes with the new count of refusals.
 pub data Answer (P : Type 0) : Type 0 where
-  accepted : Answer P
+  accepted : ℕ → Answer P
   departed : P → Answer P
   refused : ℕ → Answer P
-  full : ℕ → Answer P
+  full : ℕ → ℕ → Answer P
 
 -- the number of a refusal, 0 where there is none
 abbrev pub numberOf : {P : Type 0} → Answer P → ℕ
-numberOf accepted = 0
+numberOf (accepted h) = 0
 numberOf (departed p) = 0
 numberOf (refused n) = n
-numberOf (full c) = 15
+numberOf (full n c) = n
+
+-- Whether there is room for a push, by the limit and the packets held: 0, or the number by which it is refused, 15 where as many are held as the
+-- limit.
+abbrev pub room : ℕ → ℕ → ℕ
+room limit holds = pick (leb limit holds) 15 0
 
 -- the largest count of refusals
 abbrev pub most : ℕ
@@ -48,12 +55,15 @@ module _ {P : Type 0} where
   abbrev pub opened : Topo → ℕ → Machine P
   opened t limit = record { topology = t; limit = limit; refusals = 0; tree = empty t }
 
+  -- a push whose path has no fault, by the machine's room
+  abbrev pub serveRoom : ℕ → Machine P → List Step → ℕ → P → Answer P × Machine P
+  serveRoom zero m ss l p = let t = push (m .tree) ss l p in (accepted (held t), holding m t)
+  serveRoom (suc n) m ss l p = let c = min (suc (m .refusals)) most in (full (suc n) c, counting m c)
+
   -- a push whose path has the given fault, 0 for none
   abbrev pub servePath : ℕ → Machine P → List Step → ℕ → P → Answer P × Machine P
   servePath (suc f) m ss l p = (refused (suc f), m)
-  servePath zero m ss l p =
-      let c = min (suc (m .refusals)) most in
-      pick (leb (m .limit) (held (m .tree))) (full c, counting m c) (accepted, holding m (push (m .tree) ss l p))
+  servePath zero m ss l p = serveRoom (room (m .limit) (held (m .tree))) m ss l p
 
   abbrev pub servePop : Machine P → Option (P × PTree P) → Answer P × Machine P
   servePop m none = (refused 16, m)

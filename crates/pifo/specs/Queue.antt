@@ -10,12 +10,15 @@ pub data Item (P : Type 0) : Type 0 where
   child : ℕ → Item P
   packet : P → Item P
 
+abbrev pub Rank : Type 0
+Rank = ℕ
+
 -- an item with its rank
 pub data Entry (P : Type 0) : Type 0 where
-  entry : ℕ → Item P → Entry P
+  entry : Rank → Item P → Entry P
 
 module _ {P : Type 0} where
-  abbrev pub rank : Entry P → ℕ
+  abbrev pub rank : Entry P → Rank
   rank (entry r x) = r
 
   abbrev pub item : Entry P → Item P

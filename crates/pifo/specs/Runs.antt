@@ -19,29 +19,29 @@ module _ {P : Type 0} where
 
   -- What one answer to a call says: the packet accepted, the packet departed, how many pushes were refused as full.
   abbrev pub takenBy : Call P → Answer P → List P
-  takenBy (pushing ss l p) accepted = p ∷ []
+  takenBy (pushing ss l p) (accepted h) = p ∷ []
   takenBy (pushing ss l p) (departed x) = []
   takenBy (pushing ss l p) (refused n) = []
-  takenBy (pushing ss l p) (full n) = []
+  takenBy (pushing ss l p) (full n c) = []
   takenBy popping a = []
 
   abbrev pub departedBy : Answer P → List P
-  departedBy accepted = []
+  departedBy (accepted h) = []
   departedBy (departed p) = p ∷ []
   departedBy (refused n) = []
-  departedBy (full n) = []
+  departedBy (full n c) = []
 
   abbrev pub fullBy : Answer P → ℕ
-  fullBy accepted = 0
+  fullBy (accepted h) = 0
   fullBy (departed p) = 0
   fullBy (refused n) = 0
-  fullBy (full n) = 1
+  fullBy (full n c) = 1
 
   abbrev pub acceptedBy : Answer P → ℕ
-  acceptedBy accepted = 1
+  acceptedBy (accepted h) = 1
   acceptedBy (departed p) = 0
   acceptedBy (refused n) = 0
-  acceptedBy (full n) = 0
+  acceptedBy (full n c) = 0
 
   -- And what all the answers say.
   abbrev pub taken : List (Call P) → List (Answer P) → List P

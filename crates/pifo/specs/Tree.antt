@@ -8,11 +8,11 @@ use lib.Dec.{eqb, leb}
 use Rattle.topology.specs.Tree.{Topo, Forest, node, fnil, fcons, count, width}
 use Rattle.topology.specs.Address.{child as childTree}
 use Rattle.topology.specs.Reader.{pick}
-use Rattle.pifo.specs.Queue.{Entry, child, packet, entry, insert, risesFrom, allowed, every, occurs}
+use Rattle.pifo.specs.Queue.{Rank, Entry, child, packet, entry, insert, risesFrom, allowed, every, occurs}
 
 -- one step of a path: a child number and a rank
 pub data Step : Type 0 where
-  step : ℕ → ℕ → Step
+  step : ℕ → Rank → Step
 
 -- The fault of a path's steps in a tree: 13 where a step names a child that the node lacks, 14 where they end above a leaf; 0: none.
 abbrev pub pathFault : Topo → List Step → ℕ

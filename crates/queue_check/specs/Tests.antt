@@ -1,13 +1,37 @@
 -- What the test of a state says.
 use mathlib.Core.Path.{_≡_}
+use Prim.Native.Nat.{ℕ, _<_}
+use mathlib.Core.List.{List, [], _∷_}
 use mathlib.Core.Bool.{true, false}
+use mathlib.Core.Option.{Option, none, some}
+use lib.ListN.{length, getD, replicate}
+use Rattle.pifo.specs.Queue.{Entry}
 use Rattle.pifo.specs.Tree.{held}
-use Rattle.queue_state.specs.State.{treeOf, wellFormed}
+use Rattle.pifo.specs.Numbered.{Queues}
+use Rattle.queue_state.specs.State.{entryOf, startOf, queues, treeOf, wellFormed}
+use Rattle.queue_state.specs.Entries.{noEntry, marked}
+use Rattle.queue_state.specs.declared.Entry.{Entry as CodeEntry}
 use Rattle.queue_state.specs.declared.State.{State}
 use Rattle.queue_check.specs.declared.Test.{Test}
 
--- the test of a state: whether it is well formed, and how many packets it then holds, else 0
+abbrev pub headOf : List (Entry ℕ) → Option (Entry ℕ)
+headOf [] = none
+headOf (e ∷ q) = some e
+
+-- the table has the head of each queue, where there is one
+pub record Heading (lengths : List ℕ) (heads : List CodeEntry) (q : Queues ℕ) (nodes : ℕ) : Type 0 where
+  pub places : length heads ≡ 64
+  pub head : (n : ℕ) → n < nodes → headOf (q n) ≡ marked (getD lengths n 0) (entryOf (getD heads n noEntry)) none
+
+-- the test's answer for a state that is not well formed
+abbrev pub noTest : Test
+noTest = record { sound = false; held = 0; used = 0; heads = replicate 64 noEntry }
+
+-- The test of a state: whether it is well formed, and then how many packets it holds, how many entries, and the head of each queue. Left free
+-- is what the table has for an empty queue.
 pub record Tests (s : State) (r : Test) : Type 0 where
   pub sound : r .sound ≡ wellFormed s
+  pub none : r .sound ≡ false → r ≡ noTest
   pub count : r .sound ≡ true → r .held ≡ held (treeOf s)
-  pub none : r .sound ≡ false → r .held ≡ 0
+  pub used : r .sound ≡ true → r .used ≡ startOf (s .lengths) (s .frame .nodes)
+  pub heads : r .sound ≡ true → Heading (s .lengths) (r .heads) (queues s) (s .frame .nodes)

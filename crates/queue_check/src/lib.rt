@@ -1,45 +1,36 @@
 // The test of a queue tree's state (18).
 mod soundness;
 
+use queue_state::Entry;
 use queue_state::State;
 use topology::TARGET_NODES;
 ghost use Rattle.queue_check.specs.Tests.{Tests};
 
-// A state's test: whether it is well formed, and then the packets that it holds.
+// A state's test: whether it is well formed, and then the packets and the entries that it holds, and the head of each queue that is not
+// empty.
 pub struct Test {
     pub sound: bool,
     pub held: usize,
+    pub used: usize,
+    pub heads: [Entry; 64],
 }
 
 // Tests a state, topology and limit included.
 pub fn examine(state: State) -> Test
     ensures { λ r. ⌜ Tests state r ⌝ }
 {
-    let nodes = state.nodes;
-    let limit = state.limit;
-    let used = state.used;
+    let frame = state.frame;
+    let nodes = frame.nodes;
+    let limit = frame.limit;
     if TARGET_NODES < nodes {
-        return Test {
-            sound: false,
-            held: 0,
-        };
+        return soundness::unsound();
     }
-    if 2304 < used {
-        return Test {
-            sound: false,
-            held: 0,
-        };
-    }
-    let topology = state.topology;
+    let topology = frame.topology;
     let bytes = &topology[..nodes];
     if queue_state::refusal(bytes, limit) != 0 {
-        return Test {
-            sound: false,
-            held: 0,
-        };
+        return soundness::unsound();
     }
-    let owners = state.owners;
+    let lengths = state.lengths;
     let entries = state.entries;
-    let counted = soundness::tally(bytes, owners, entries, used);
-    soundness::judge(bytes, counted, limit)
+    soundness::tally(bytes, lengths, entries, limit)
 }

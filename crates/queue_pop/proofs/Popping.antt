@@ -1,15 +1,12 @@
 -- A pop's answers case by case: what the code found, and the machine's answer.
-use mathlib.Core.Path.{_≡_, refl, sym, ap, _∙_, subst, subst₂}
-use Prim.Native.Nat.{ℕ, _≤_, _<_}
+use mathlib.Core.Path.{_≡_, refl, sym, ap, _∙_, subst}
+use Prim.Native.Nat.{ℕ, suc, _-_, _≤_, _<_}
 use native.Mathlib.Omega.{arith}
 use mathlib.Core.List.{List, [], _∷_}
 use mathlib.Core.Bool.{Bool, true, false}
 use mathlib.Core.Option.{Option, none, some}
-use lib.ListN.{length, take, getD}
-use lib.Seq.{length-take-le}
-use lib.Dec.{ltb}
-use borrow.Author.Tests.{lt-ltb, ltb-true}
-use Rattle.pifo.proofs.Order.{both, join}
+use lib.ListN.{length, take, drop, getD}
+use lib.Seq.{length-take-le, drop-nil}
 use Rattle.lists.proofs.Permutation.{length-perm}
 use Rattle.topology.specs.Address.{Addr, sub, subtree}
 use Rattle.topology.specs.Reader.{pick, tree}
@@ -18,54 +15,55 @@ use Rattle.topology.proofs.Reader.{within}
 use Rattle.topology.proofs.Lookup.{valid-size}
 use Rattle.pifo.specs.Queue.{Entry}
 use Rattle.pifo.specs.Tree.{PTree, pop, held}
-use Rattle.pifo.specs.Numbered.{assemble, descent, isIn, rest, popped}
+use Rattle.pifo.specs.Numbered.{Queues, assemble, descent, isIn, rest, popped}
 use Rattle.pifo.specs.Machine.{popping, Answer, departed, refused, full, servePop, holding}
 use Rattle.pifo.proofs.Numbered.{taken, assemble-same, pop-assemble}
 use Rattle.pifo.proofs.Pop.{pop-none, pop-some}
 use Rattle.pifo.proofs.Answers.{pop-refused}
-use Rattle.queue_state.specs.State.{queueIn, queues, bytes, treeOf, machine, allBelow, wellFormed}
-use Rattle.queue_pop.specs.Departures.{Down, unless, Stays}
-use Rattle.queue_pop.specs.Calls.{popAnswer}
+use Rattle.queue_state.specs.State.{queueIn, queues, bytes, treeOf, machine, wellFormed}
+use Rattle.queue_pop.specs.Departures.{Down, Shorter, Closed}
+use Rattle.queue_check.specs.Tests.{Heading}
 use Rattle.queue_state.specs.Calls.{Serves, withEntries}
 use Rattle.queue_state.specs.declared.State.{State}
 use Rattle.queue_pop.specs.declared.departures.Trail.{Trail}
-use Rattle.queue_pop.specs.declared.PopAnswer.{PopAnswer}
-use Rattle.queue_pop.specs.declared.Popped.{Popped}
-use Rattle.queue_state.proofs.Formed.{Formed, Arrays, formed, form}
-use Rattle.queue_state.proofs.Served.{apart, served}
+use Rattle.queue_state.specs.declared.Entry.{Entry as CodeEntry}
+use Rattle.queue_state.proofs.Parts.{start-order, queue-length}
+use Rattle.queue_state.proofs.Formed.{Formed, formed, form}
+use Rattle.queue_state.proofs.Arrays.{Arrays}
+use Rattle.queue_state.proofs.Serving.{apart, served}
 
-wider : (k n : ℕ) (l : List ℕ) → k ≤ n → allBelow k l ≡ true → allBelow n l ≡ true
-wider k n [] h e = refl
-wider k n (o ∷ l) h e =
-    let b = both (ltb o k) (allBelow k l) e in
-    join (lt-ltb o n (omega (arith, ltb-true o k (b .0)))) (wider k n l h (b .1))
-
-unless-pick : (b : Bool) (q : List (Entry ℕ)) → unless (pick b 1 0) q ≡ pick b (rest q) q
-unless-pick true q = refl
-unless-pick false q = refl
+rest-drop : (b : Bool) (q : List (Entry ℕ)) → drop (pick b 1 0) q ≡ pick b (rest q) q
+rest-drop true [] = refl
+rest-drop true (e ∷ q) = refl
+rest-drop false q = refl
 
 module _ (s : State) (t : wellFormed s ≡ true) where
   pub none-served : held (treeOf s) ≡ 0 → Serves s popping (refused 16) s
   unfolding machine
   none-served h = served s s popping (refused 16) (machine s) (pop-refused (machine s) (formed s t .tree) h) t refl t (λ _ _. refl) (λ c q. apart q)
 
-  pub narrow : allBelow 64 (take (s .used) (s .owners)) ≡ true
-  narrow = wider (s .nodes) 64 (take (s .used) (s .owners)) (formed s t .nodes) (formed s t .owned)
+  -- the way down by the heads of the state's queues
+  pub down : Arrays s → (hs : List CodeEntry) (r : Trail) → Heading (s .lengths) hs (queues s) (s .frame .nodes)
+      → ((q : Queues ℕ) → Heading (s .lengths) hs q (length (take (s .frame .nodes) (s .frame .topology))) → Down (s .lengths) (descent 9 (subtree (tree (take (s .frame .nodes) (s .frame .topology))) 0) 0 q) r)
+      → Down (s .lengths) (descent 9 (subtree (tree (bytes s)) 0) 0 (queues s)) r
+  unfolding bytes
+  down ar hs r h d =
+      d (queues s)
+      (subst (Heading (s .lengths) hs (queues s)) (sym (length-take-le (s .frame .nodes) (s .frame .topology) (omega (arith, ar .topology, formed s t .nodes)))) h)
 
   -- The way down of a tree that is not empty ends at a packet, and the definition's pop takes the head from each queue on the way.
   record Way (r : Trail) : Type 0 where
     pub nodes : List ℕ
-    pub long : length (r .marks) ≡ 64
-    pub marks : (m : ℕ) → getD (r .marks) m 0 ≡ pick (isIn m nodes) 1 0
+    pub lengths : (m : ℕ) → getD (r .lengths) m 0 ≡ getD (s .lengths) m 0 - pick (isIn m nodes) 1 0
     pub leaves : pop (treeOf s) ≡ some (r .packet, assemble (tree (bytes s)) (popped nodes (queues s)) 0)
 
-  module _ (h : 0 < held (treeOf s)) (r : Trail) (d : Down (descent 9 (subtree (tree (bytes s)) 0) 0 (queues s)) r) where
+  module _ (h : 0 < held (treeOf s)) (r : Trail) (d : Down (s .lengths) (descent 9 (subtree (tree (bytes s)) 0) 0 (queues s)) r) where
     way : Way r
     unfolding treeOf
     way = by-way (descent 9 (tree (bytes s)) 0 (queues s)) refl
       where
-        here : Down (descent 9 (tree (bytes s)) 0 (queues s)) r
-        here = subst (λ (a : Addr). Down (descent 9 (sub (tree (bytes s)) a) 0 (queues s)) r) (addr-root (tree (bytes s))) d
+        here : Down (s .lengths) (descent 9 (tree (bytes s)) 0 (queues s)) r
+        here = subst (λ (a : Addr). Down (s .lengths) (descent 9 (sub (tree (bytes s)) a) 0 (queues s)) r) (addr-root (tree (bytes s))) d
 
         popped-by : pop (assemble (tree (bytes s)) (queues s) 0) ≡ taken (tree (bytes s)) 0 (queues s) (descent 9 (tree (bytes s)) 0 (queues s))
         popped-by = pop-assemble 9 (tree (bytes s)) (queues s) 0 (omega (arith, within 64 (bytes s) (formed s t .valid) .steps))
@@ -74,42 +72,48 @@ module _ (s : State) (t : wellFormed s ≡ true) where
         by-way none e =
             absurd (omega (arith, pop-none (treeOf s) (formed s t .tree) (popped-by ∙ ap (taken (tree (bytes s)) 0 (queues s)) e)))
         by-way (some (p, ns)) e =
-            let w = subst (λ (o : Option (ℕ × List ℕ)). Down o r) e here in
+            let w = subst (λ (o : Option (ℕ × List ℕ)). Down (s .lengths) o r) e here in
             record {
               nodes = ns;
-              long = w .2;
-              marks = w .3;
+              lengths = w .3;
               leaves =
                   popped-by
                   ∙ ap (taken (tree (bytes s)) 0 (queues s)) e
                   ∙ ap {B = Option (ℕ × PTree ℕ)} (λ (x : ℕ). some (x, assemble (tree (bytes s)) (popped ns (queues s)) 0)) (sym (w .1));
             }
 
-    pub long-marks : length (r .marks) ≡ 64
-    long-marks = way .long
+    pub shorter : Shorter (s .lengths) (r .lengths)
+    shorter n = omega (arith, way .lengths n)
 
-    module _ (ar : Arrays s) (x : Popped) (st : Stays s r x) where
+    module _ (ar : Arrays s) (es : List CodeEntry) (cl : Closed (s .frame .nodes) (s .lengths) (r .lengths) (s .entries) es) where
       abbrev next : State
-      next = withEntries s (x .state .owners) (x .state .entries) (x .state .used)
+      next = withEntries s (r .lengths) es
 
       tree-after : treeOf next ≡ assemble (tree (bytes s)) (popped (way .nodes) (queues s)) 0
       unfolding treeOf bytes queues
       tree-after =
           let f = formed s t in
           let w = way in
-          let n : length (take (s .nodes) (s .topology)) ≡ s .nodes = length-take-le (s .nodes) (s .topology) (omega (arith, ar .topology, f .nodes)) in
-          assemble-same (tree (take (s .nodes) (s .topology))) (queueIn (x .state .owners) (x .state .entries) (x .state .used)) (popped (w .nodes) (queueIn (s .owners) (s .entries) (s .used))) 0
+          let n : length (take (s .frame .nodes) (s .frame .topology)) ≡ s .frame .nodes = length-take-le (s .frame .nodes) (s .frame .topology) (omega (arith, ar .topology, f .nodes)) in
+          assemble-same (tree (take (s .frame .nodes) (s .frame .topology))) (queueIn (r .lengths) es) (popped (w .nodes) (queueIn (s .lengths) (s .entries))) 0
           (λ m g u.
-          st .queues m (omega (arith, valid-size 64 (take (s .nodes) (s .topology)) (f .valid)))
-          ∙ ap (λ (k : ℕ). unless k (queueIn (s .owners) (s .entries) (s .used) m)) (w .marks m)
-          ∙ unless-pick (isIn m (w .nodes)) (queueIn (s .owners) (s .entries) (s .used) m))
+          let h : m < s .frame .nodes = omega (arith, valid-size 64 (take (s .frame .nodes) (s .frame .topology)) (f .valid)) in
+          cl .queues m h
+          ∙ by-length m (isIn m (w .nodes)) (queueIn (s .lengths) (s .entries) m) (queue-length (s .lengths) (s .entries) m (omega (arith, start-order (s .lengths) (suc m) (s .frame .nodes) h, f .used, ar .entries))) (w .lengths m)
+          ∙ rest-drop (isIn m (w .nodes)) (queueIn (s .lengths) (s .entries) m))
+        where
+          by-length : (m : ℕ) (b : Bool) (q : List (Entry ℕ)) → length q ≡ getD (s .lengths) m 0 → getD (r .lengths) m 0 ≡ getD (s .lengths) m 0 - pick b 1 0
+              → drop (getD (s .lengths) m 0 - getD (r .lengths) m 0) q ≡ drop (pick b 1 0) q
+          by-length m false q e x = let z : getD (s .lengths) m 0 - getD (r .lengths) m 0 ≡ 0 = omega arith in ap (λ (k : ℕ). drop k q) z
+          by-length m true [] e x = drop-nil (getD (s .lengths) m 0 - getD (r .lengths) m 0)
+          by-length m true (y ∷ q) e x = let z : getD (s .lengths) m 0 - getD (r .lengths) m 0 ≡ 1 = omega arith in ap (λ (k : ℕ). drop k (y ∷ q)) z
 
       popped-tree : pop (treeOf s) ≡ some (r .packet, treeOf next)
       popped-tree = way .leaves ∙ ap {B = Option (ℕ × PTree ℕ)} (λ (u : PTree ℕ). some (r .packet, u)) (sym tree-after)
 
-      next-served : Serves s popping (departed (r .packet)) next
+      pub departed-served : Serves s popping (departed (r .packet)) next
       unfolding machine bytes
-      next-served =
+      departed-served =
           served s next popping (departed (r .packet)) (holding (machine s) (treeOf next)) (ap (servePop (machine s)) popped-tree) t refl (form next next-formed) (λ n e. never e) (λ c e. never-full e)
         where
           never : {n p : ℕ} {A : Type 0} → _≡_ {A = Answer ℕ} (departed p) (refused n) → A
@@ -124,14 +128,10 @@ module _ (s : State) (t : wellFormed s ≡ true) where
               let l = pop-some (treeOf s) (r .packet) (treeOf next) (f .tree) popped-tree in
               record {
                 nodes = f .nodes;
-                used = omega (arith, f .used, st .fewer);
-                owned = st .owned;
+                used = omega (arith, f .used, cl .fewer);
                 valid = f .valid;
                 least = f .least;
                 most = f .most;
                 tree = l .sound;
                 room = omega (arith, f .room, length-perm (l .contents));
               }
-
-      pub departed-served : Serves s popping (popAnswer (x .answer)) (x .state)
-      departed-served = subst₂ (λ (a : PopAnswer) (y : State). Serves s popping (popAnswer a) y) (sym (st .answer)) (sym (st .state)) next-served

@@ -1,47 +1,50 @@
 -- What the private functions of a pop promise.
 use mathlib.Core.Path.{_≡_}
-use Prim.Native.Nat.{ℕ, zero, suc, _≤_, _<_}
-use mathlib.Core.List.{List, [], _∷_}
+use Prim.Native.Nat.{ℕ, _-_, _≤_, _<_}
+use mathlib.Core.List.{List, map}
 use mathlib.Core.Bool.{true, false}
 use mathlib.Core.Option.{Option, none, some}
-use lib.ListN.{length, take, getD}
+use lib.ListN.{length, drop, getD, set, replicate}
 use Rattle.topology.specs.Reader.{pick}
-use Rattle.pifo.specs.Queue.{Entry}
-use Rattle.pifo.specs.Numbered.{Queues, isIn, rest}
-use Rattle.queue_state.specs.State.{entryOf, queueIn, allBelow}
-use Rattle.queue_state.specs.Calls.{withEntries}
-use Rattle.queue_state.specs.Entries.{noEntry, marked}
-use Rattle.queue_pop.specs.declared.departures.Heads.{Heads}
+use Rattle.pifo.specs.Numbered.{Queues, isIn}
+use Rattle.pifo.proofs.Ways.{headAt}
+use Rattle.queue_state.specs.State.{Packet, startOf, queueIn}
+use Rattle.queue_state.specs.declared.Entry.{Entry as CodeEntry}
+use Rattle.queue_pop.specs.Ways.{noTaken, wayFrom}
 use Rattle.queue_pop.specs.declared.departures.Trail.{Trail}
-use Rattle.queue_state.specs.declared.State.{State}
-use Rattle.queue_pop.specs.declared.Popped.{Popped}
-use Rattle.queue_pop.specs.declared.PopAnswer.the-variants.{Departed}
 
-abbrev pub headOf : List (Entry ℕ) → Option (Entry ℕ)
-headOf [] = none
-headOf (e ∷ q) = some e
+-- the end of a trail at a leaf: nothing is taken yet, and its way has so many nodes
+abbrev pub ended : ℕ → List ℕ → ℕ → Trail
+ended packet lengths count =
+    record { found = true; packet = packet; way = record { taken = replicate 9 noTaken; count = count }; lengths = lengths }
 
--- the table has the head of each queue, where there is one
-pub record Heading (h : Heads) (q : Queues ℕ) : Type 0 where
-  pub marks : length (h .filled) ≡ 64
-  pub places : length (h .entries) ≡ 64
-  pub head : (n : ℕ) → n < 64 → headOf (q n) ≡ marked (getD (h .filled) n 0) (entryOf (getD (h .entries) n noEntry)) none
+-- the trail with the head of a node's queue taken, so many steps below the root; `rest` entries stay in that queue
+abbrev pub taking : Trail → ℕ → ℕ → ℕ → ℕ → ℕ → Trail
+taking t depth node child rank rest =
+    record {
+      found = t .found;
+      packet = t .packet;
+      way = record { taken = set (t .way .taken) depth (record { node = node; child = child; rank = rank }); count = t .way .count };
+      lengths = set (t .lengths) node rest;
+    }
 
--- the way down, as the code has it: the packet and a mark at each node on the way
-abbrev pub Down : Option (ℕ × List ℕ) → Trail → Type 0
-Down none r = r .found ≡ false
-Down (some (p, ns)) r = (r .found ≡ true) × (r .packet ≡ p) × (length (r .marks) ≡ 64) × ((m : ℕ) → getD (r .marks) m 0 ≡ pick (isIn m ns) 1 0)
+-- the way down through the nodes ns, as the code has it: the packet, each queue on the way one entry shorter, and its head taken
+pub record Leads (lengths : List ℕ) (depth : ℕ) (q : Queues Packet) (p : Packet) (ns : List ℕ) (r : Trail) : Type 0 where
+  pub found : r .found ≡ true
+  pub packet : r .packet ≡ p
+  pub long : length (r .lengths) ≡ 64
+  pub shorter : (m : ℕ) → getD (r .lengths) m 0 ≡ getD lengths m 0 - pick (isIn m ns) 1 0
+  pub way : r .way ≡ wayFrom depth (map (headAt q) ns)
 
--- a queue without its head where the mark is set
-abbrev pub unless : ℕ → List (Entry ℕ) → List (Entry ℕ)
-unless zero q = q
-unless (suc k) q = rest q
+abbrev pub Down : List ℕ → ℕ → Queues Packet → Option (Packet × List ℕ) → Trail → Type 0
+Down lengths depth q none r = r .found ≡ false
+Down lengths depth q (some (p, ns)) r = Leads lengths depth q p ns r
 
--- the entries that stay: each marked queue has lost its head
-pub record Stays (s : State) (trail : Trail) (r : Popped) : Type 0 where
-  pub answer : r .answer ≡ Departed (trail .packet)
-  pub state : r .state ≡ withEntries s (r .state .owners) (r .state .entries) (r .state .used)
-  pub fewer : r .state .used ≤ s .used
-  pub owned : allBelow (s .nodes) (take (r .state .used) (r .state .owners)) ≡ true
-  pub queues : (n : ℕ) → n < s .nodes
-      → queueIn (r .state .owners) (r .state .entries) (r .state .used) n ≡ unless (getD (trail .marks) n 0) (queueIn (s .owners) (s .entries) (s .used) n)
+-- no queue is longer than before
+abbrev pub Shorter : List ℕ → List ℕ → Type 0
+Shorter old new = (n : ℕ) → getD new n 0 ≤ getD old n 0
+
+-- the entries that stay: each queue has lost its first ones
+pub record Closed (nodes : ℕ) (old new : List ℕ) (es r : List CodeEntry) : Type 0 where
+  pub fewer : startOf new nodes ≤ startOf old nodes
+  pub queues : (n : ℕ) → n < nodes → queueIn new r n ≡ drop (getD old n 0 - getD new n 0) (queueIn old es n)

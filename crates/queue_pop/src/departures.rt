@@ -1,54 +1,43 @@
-// A pop: the head of every queue, the way down from the root by these heads, and the heads on the way taken out.
-use super::PopAnswer;
-use super::Popped;
+// A pop: the way down from the root by the heads of the queues, and the heads on the way taken out.
+use super::Taken;
+use super::Way;
 use queue_state::Entry;
 use queue_state::Item;
-use queue_state::State;
+use queue_state::Packet;
+use queue_state::Rank;
+use queue_state::wide16;
 use topology::Found;
-use topology::wide;
 ghost use mathlib.Core.Path.{_≡_};
-ghost use Prim.Native.Nat.{ℕ, _≤_, _<_};
-ghost use mathlib.Core.Bool.{true, false};
-ghost use lib.ListN.{length, take};
+ghost use Prim.Native.Nat.{ℕ, _-_, _≤_, _<_};
+ghost use mathlib.Core.Bool.{false};
+ghost use lib.ListN.{length, getD, replicate};
 ghost use Rattle.topology.specs.Reader.{fault, tree};
 ghost use Rattle.topology.specs.Address.{subtree};
 ghost use Rattle.pifo.specs.Numbered.{Queues, descent};
-ghost use Rattle.queue_state.specs.State.{queueIn, allBelow};
-ghost use Rattle.queue_pop.specs.Departures.{Heading, Down, Stays};
+ghost use Rattle.queue_state.specs.State.{Packet, startOf};
+ghost use Rattle.queue_check.specs.Tests.{Heading};
+ghost use Rattle.queue_pop.specs.Ways.{noTaken};
+ghost use Rattle.queue_pop.specs.Departures.{Down, Shorter, Closed, ended as Departures·ended, taking as Departures·taking};
 
-// The head of each queue that is not empty.
-pub(crate) struct Heads {
-    pub filled: [u8; 64],
-    pub entries: [Entry; 64],
-}
-
-// The packet that leaves, and the nodes on its way.
+// A pop from some node on: the packet that leaves, what is taken on its way down to the leaf, and the lengths of all queues after it.
 pub(crate) struct Trail {
     pub found: bool,
-    pub packet: u32,
-    pub marks: [u8; 64],
+    pub packet: Packet,
+    pub way: Way,
+    pub lengths: [u16; 64],
 }
 
-// From the last entry to the first, so that the first of each queue stays.
-pub(crate) fn find_heads(owners: [u8; 2304], entries: [Entry; 2304], used: usize) -> Heads
-    requires { ⌜ (used ≤ 2304) × (allBelow 64 (take used owners) ≡ true) ⌝ }
-    ensures { λ r. ⌜ Heading r (queueIn owners entries used) ⌝ }
+// A way of `count` nodes, with nothing taken.
+pub(crate) fn no_way(count: usize) -> Way
+    ensures { λ r. ⌜ r ≡ record { taken = replicate 9 noTaken; count = count } ⌝ }
 {
-    let mut filled = [0u8; 64];
-    let mut heads = [Entry {
-        rank: 0,
-        item: Item::Child(0),
-    }; 64];
-    let mut i = used;
-    while 0 < i {
-        i -= 1;
-        let node = wide(owners[i]);
-        filled[node] = 1;
-        heads[node] = entries[i];
-    }
-    Heads {
-        filled,
-        entries: heads,
+    Way {
+        taken: [Taken {
+            node: 0,
+            child: 0,
+            rank: 0,
+        }; 9],
+        count,
     }
 }
 
@@ -58,87 +47,113 @@ fn no_trail() -> Trail
     Trail {
         found: false,
         packet: 0,
-        marks: [0u8; 64],
+        way: no_way(0),
+        lengths: [0u16; 64],
     }
 }
 
-// Pops from a node on: its head is a packet, or it names the child to go on at, in at most `left` nodes.
-pub(crate) fn pop_from(bytes: &[u8], heads: Heads, node: usize, left: usize) -> Trail
-    requires { ⌜ (fault 64 (now bytes) ≡ 0) × (node < length (now bytes)) ⌝ }
-    ensures { λ r. ⌜ ((q : Queues ℕ) → Heading heads q → Down (descent left (subtree (tree (now (bytes .entry))) node) node q) r) ⌝ }
+// The end of a trail at a leaf, with nothing taken yet.
+fn ended(packet: Packet, lengths: [u16; 64], count: usize) -> Trail
+    ensures { λ r. ⌜ r ≡ Departures·ended packet lengths count ⌝ }
+{
+    Trail {
+        found: true,
+        packet,
+        way: no_way(count),
+        lengths,
+    }
+}
+
+// The trail with the head of a node's queue taken, `depth` steps below the root; `rest` entries stay in that queue.
+fn taking(trail: Trail, depth: usize, node: usize, child: u8, rank: Rank, rest: u16) -> Trail
+    requires { ⌜ (depth < 9) × (node < 64) ⌝ }
+    ensures { λ r. ⌜ r ≡ Departures·taking trail depth node child rank rest ⌝ }
+{
+    let way = trail.way;
+    let mut taken = way.taken;
+    taken[depth] = Taken {
+        node: node as u8,
+        child,
+        rank,
+    };
+    let mut lengths = trail.lengths;
+    lengths[node] = rest;
+    Trail {
+        found: trail.found,
+        packet: trail.packet,
+        way: Way {
+            taken,
+            count: way.count,
+        },
+        lengths,
+    }
+}
+
+// Pops from a node on, in at most `left` nodes: takes the head of the node's queue, which is a packet or names the child to go on at.
+pub(crate) fn pop_from(
+    bytes: &[u8],
+    lengths: [u16; 64],
+    heads: [Entry; 64],
+    node: usize,
+    left: usize,
+) -> Trail
+    requires { ⌜ (fault 64 (now bytes) ≡ 0) × (node < length (now bytes)) × (left ≤ 9) ⌝ }
+    ensures { λ r. ⌜ ((q : Queues Packet) → Heading lengths heads q (length (now (bytes .entry))) → Down lengths (9 - left) q (descent left (subtree (tree (now (bytes .entry))) node) node q) r) ⌝ }
 {
     if left == 0 {
         return no_trail();
     }
-    if heads.filled[node] == 0 {
+    let own = lengths[node];
+    if own == 0 {
         return no_trail();
     }
-    let entry = heads.entries[node];
-    let item = entry.item;
+    let head = heads[node];
+    let item = head.item;
     match item {
-        Item::Packet(packet) => {
-            let mut marks = [0u8; 64];
-            marks[node] = 1;
-            Trail {
-                found: true,
-                packet,
-                marks,
-            }
-        }
+        Item::Packet(packet) => taking(
+            ended(packet, lengths, 10 - left),
+            9 - left,
+            node,
+            0,
+            head.rank,
+            own - 1,
+        ),
         Item::Child(index) => {
             let Found::Node(child) = branches::child(bytes, node, index as usize) else {
                 return no_trail();
             };
-            let below = pop_from(bytes, heads, child, left - 1);
+            let below = pop_from(bytes, lengths, heads, child, left - 1);
             if !below.found {
                 return no_trail();
             }
-            let mut marks = below.marks;
-            marks[node] = 1;
-            Trail {
-                found: true,
-                packet: below.packet,
-                marks,
-            }
+            taking(below, 9 - left, node, index, head.rank, own - 1)
         }
     }
 }
 
-// Closes the gaps: the first entry of each marked queue goes, and the others move down.
-pub(crate) fn take_out(state: State, trail: Trail) -> Popped
-    requires { ⌜ (state .used ≤ 2304) × (state .nodes ≤ 64) × (allBelow (state .nodes) (take (state .used) (state .owners)) ≡ true) × (length (trail .marks) ≡ 64) ⌝ }
-    ensures { λ r. ⌜ Stays state trail r ⌝ }
+// Closes the gaps: the last entries of each queue stay, as many as its new length says, and move down behind those before them.
+pub(crate) fn closed(
+    nodes: usize,
+    old: [u16; 64],
+    new: [u16; 64],
+    entries: [Entry; 2304],
+) -> [Entry; 2304]
+    requires { ⌜ (nodes ≤ 64) × (startOf old nodes ≤ 2304) × Shorter old new ⌝ }
+    ensures { λ r. ⌜ Closed nodes old new entries r ⌝ }
 {
-    let mut marks = trail.marks;
-    let used = state.used;
-    let mut owners = state.owners;
-    let mut entries = state.entries;
+    let mut moved = entries;
     let mut kept = 0;
-    let mut i = 0;
-    while i < used {
-        let owner = owners[i];
-        let entry = entries[i];
-        let node = wide(owner);
-        i += 1;
-        if marks[node] != 0 {
-            marks[node] = 0;
-        } else {
-            owners[kept] = owner;
-            entries[kept] = entry;
+    let mut end = 0;
+    let mut node = 0;
+    while node < nodes {
+        end += wide16(old[node]);
+        let mut i = end - wide16(new[node]);
+        while i < end {
+            moved[kept] = moved[i];
             kept += 1;
+            i += 1;
         }
+        node += 1;
     }
-    let topology = state.topology;
-    Popped {
-        state: State {
-            topology,
-            nodes: state.nodes,
-            limit: state.limit,
-            refused: state.refused,
-            owners,
-            entries,
-            used: kept,
-        },
-        answer: PopAnswer::Departed(trail.packet),
-    }
+    moved
 }

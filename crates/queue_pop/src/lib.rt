@@ -3,46 +3,79 @@
 mod departures;
 
 use queue_check::examine;
+use queue_state::Answer;
+use queue_state::Rank;
+use queue_state::Served;
 use queue_state::State;
+ghost use mathlib.Core.Path.{_≡_};
 ghost use Rattle.pifo.specs.Machine.{popping};
-ghost use Rattle.queue_state.specs.Calls.{Serves};
-ghost use Rattle.queue_pop.specs.Calls.{popAnswer};
+ghost use Rattle.queue_state.specs.Calls.{answerOf, Serves};
+ghost use Rattle.queue_pop.specs.Ways.{wayOf};
 
-// The answer to a pop: the packet that leaves, or a refusal by its number.
-pub enum PopAnswer {
-    Departed(u32),
-    Refused(u8),
+// What a pop takes at a node: the head of its queue, with the child that it names, 0 at a leaf.
+#[repr(C)]
+pub struct Taken {
+    pub node: u8,
+    pub child: u8,
+    pub rank: Rank,
+}
+
+// The way of a packet that departs: its first `count` places from the root on, the others 0.
+#[repr(C)]
+pub struct Way {
+    pub taken: [Taken; 9],
+    pub count: usize,
 }
 
 pub struct Popped {
-    pub state: State,
-    pub answer: PopAnswer,
+    pub served: Served,
+    pub way: Way,
 }
 
 // Pops the packet at the head: 18 and 16 are tested in this order.
 pub fn pop(state: State) -> Popped
-    ensures { λ r. ⌜ Serves state popping (popAnswer (r .answer)) (r .state) ⌝ }
+    ensures { λ r. ⌜ Serves state popping (answerOf (r .served .answer)) (r .served .state) × (r .way ≡ wayOf state) ⌝ }
 {
     let test = examine(state);
     if !test.sound {
         return Popped {
-            state,
-            answer: PopAnswer::Refused(18),
+            served: Served {
+                state,
+                answer: Answer::Refused(18),
+            },
+            way: departures::no_way(0),
         };
     }
     if test.held == 0 {
         return Popped {
-            state,
-            answer: PopAnswer::Refused(16),
+            served: Served {
+                state,
+                answer: Answer::Refused(16),
+            },
+            way: departures::no_way(0),
         };
     }
-    let topology = state.topology;
-    let nodes = state.nodes;
+    let frame = state.frame;
+    let topology = frame.topology;
+    let nodes = frame.nodes;
     let bytes = &topology[..nodes];
-    let used = state.used;
-    let owners = state.owners;
-    let entries = state.entries;
-    let heads = departures::find_heads(owners, entries, used);
-    let trail = departures::pop_from(bytes, heads, 0, 9);
-    departures::take_out(state, trail)
+    let old = state.lengths;
+    let heads = test.heads;
+    let trail = departures::pop_from(bytes, old, heads, 0, 9);
+    let lengths = trail.lengths;
+    let before = state.entries;
+    let entries = departures::closed(nodes, old, lengths, before);
+    let way = trail.way;
+    Popped {
+        served: Served {
+            state: State {
+                frame,
+                refused: state.refused,
+                lengths,
+                entries,
+            },
+            answer: Answer::Departed(trail.packet),
+        },
+        way,
+    }
 }

@@ -1,5 +1,5 @@
 -- A push's answers case by case: what the code found, and the machine's answer.
-use mathlib.Core.Path.{_≡_, refl, sym, ap, _∙_, subst, subst₂}
+use mathlib.Core.Path.{_≡_, refl, sym, ap, _∙_, subst}
 use mathlib.Core.Logic.{_≢_}
 use Prim.Native.Nat.{ℕ, zero, suc, _+_, _≤_, _<_, min}
 use native.Mathlib.Omega.{arith}
@@ -16,23 +16,24 @@ use Rattle.pifo.specs.Queue.{Entry, risesFrom}
 use Rattle.pifo.proofs.Local.{well-all}
 use Rattle.pifo.specs.Tree.{Step, pathFault, push, shape, held, well}
 use Rattle.pifo.specs.Numbered.{pushed, insertSome}
-use Rattle.pifo.specs.Machine.{pushing, Answer, accepted, refused, full, holding, most, counting as count}
+use Rattle.pifo.specs.Machine.{Machine, pushing, Answer, accepted, refused, full, room, holding, most, counting as count}
 use Rattle.pifo.proofs.Numbered.{shape-assemble, assemble-same, push-assemble}
 use Rattle.pifo.proofs.Push.{push-well, push-held}
-use Rattle.pifo.proofs.Answers.{push-fault, push-full, push-accepted}
-use Rattle.queue_state.specs.State.{queueIn, queues, bytes, treeOf, machine, inBounds, wellFormed}
-use Rattle.queue_push.specs.Arrivals.{Walked, Ready, Entered}
-use Rattle.queue_state.specs.Calls.{Serves, counting, withEntries}
-use Rattle.queue_push.specs.Calls.{pushAnswer}
+use Rattle.pifo.proofs.Answers.{has-room, push-fault, push-full, push-accepted}
+use Rattle.queue_state.specs.State.{Packet, startOf, queueIn, queues, bytes, treeOf, machine, inBounds, wellFormed}
+use Rattle.queue_push.specs.Arrivals.{Walked, Raised, Ready, Opened}
+use Rattle.queue_state.specs.Calls.{Serves, counting, withQueues}
 use Rattle.queue_state.specs.declared.State.{State}
 use Rattle.queue_push.specs.declared.arrivals.Added.{Added}
-use Rattle.queue_push.specs.declared.PushAnswer.{PushAnswer}
-use Rattle.queue_push.specs.declared.Pushed.{Pushed}
-use Rattle.queue_state.proofs.Formed.{Formed, Arrays, formed, form}
-use Rattle.queue_state.proofs.Served.{apart, served}
-use Rattle.queue_push.proofs.Rooms.{room}
+use Rattle.queue_state.specs.declared.Entry.{Entry as CodeEntry}
+use Rattle.queue_state.proofs.Formed.{Formed, formed, form}
+use Rattle.queue_state.proofs.Arrays.{Arrays}
+use Rattle.queue_state.proofs.Serving.{apart, served}
+use Rattle.queue_push.proofs.Rooms.{fits}
+use Rattle.queue_push.proofs.Opening.{sum-front, raised-start}
+use Rattle.topology.proofs.Ancestry.{size-pos}
 
-full-same : {a b : ℕ} → _≡_ {A = Answer ℕ} (full a) (full b) → a ≡ b
+full-same : {m n a b : ℕ} → _≡_ {A = Answer Packet} (full m a) (full n b) → a ≡ b
 full-same e = cc
 
 shape-of : (s : State) → shape (treeOf s) ≡ tree (bytes s)
@@ -44,83 +45,91 @@ module _ (s : State) (t : wellFormed s ≡ true) (ss : List Step) (l p : ℕ) wh
   pub fault-served : (n : ℕ) → n ≢ 0 → n ≡ pathFault (tree (bytes s)) ss → Serves s (pushing ss l p) (refused n) s
   unfolding machine
   fault-served zero z e = absurd (z refl)
-  fault-served (suc n) z e = served s s (pushing ss l p) (refused (suc n)) (machine s) (push-fault (machine s) ss l p n (sym e)) t refl t (λ _ _. refl) (λ c q. apart q)
+  fault-served (suc n) z e = served s s (pushing ss l p) (refused (suc n)) (machine s) (push-fault (machine s) ss l p n (sym e)) t refl t (λ _ _. refl) (λ _ _ q. apart q)
 
-  -- full
-  pub full-served : 0 ≡ pathFault (tree (bytes s)) ss → s .limit ≤ held (treeOf s) → (c : ℕ) → c ≡ min (suc (s .refused)) most → Serves s (pushing ss l p) (full c) (counting s c)
+  -- no room
+  pub full-served : 0 ≡ pathFault (tree (bytes s)) ss → (n : ℕ) → n ≢ 0 → n ≡ room (s .frame .limit) (held (treeOf s)) → (c : ℕ) → c ≡ min (suc (s .refused)) most
+      → Serves s (pushing ss l p) (full n c) (counting s c)
   unfolding machine wellFormed inBounds treeOf bytes queues
-  full-served e h c q =
-      subst (λ (x : ℕ). Serves s (pushing ss l p) (full x) (counting s x)) (sym q)
-      (served s (counting s (min (suc (s .refused)) most)) (pushing ss l p) (full (min (suc (s .refused)) most)) (count (machine s) (min (suc (s .refused)) most)) (push-full (machine s) ss l p (sym e) h) t refl t
-      (λ n x. apart (sym x)) (λ x y. ap (counting s) (full-same y)))
+  full-served e zero z h c q = absurd (z refl)
+  full-served e (suc n) z h c q =
+      let most-of = min (suc (s .refused)) most in
+      subst (λ (x : ℕ). Serves s (pushing ss l p) (full (suc n) x) (counting s x)) (sym q)
+      (served s (counting s most-of) (pushing ss l p) (full (suc n) most-of) (count (machine s) most-of) (push-full (machine s) ss l p n (sym e) (sym h)) t refl t
+      (λ _ x. apart (sym x)) (λ _ _ y. ap (counting s) (full-same y)))
 
   -- accepted
-  module _ (ar : Arrays s) (e : 0 ≡ pathFault (tree (bytes s)) ss) (h : held (treeOf s) < s .limit) (a : Added) (w : Walked (tree (bytes s)) (length (bytes s)) ss l p a) (z : a .fault ≡ 0) where
-    pub ready : Ready (s .owners) (s .entries) (s .used) (s .nodes) a
+  module _ (ar : Arrays s) (e : 0 ≡ pathFault (tree (bytes s)) ss) (h : 0 ≡ room (s .frame .limit) (held (treeOf s)))
+      (a : Added) (w : Walked (tree (bytes s)) (length (bytes s)) ss l p a) (z : a .fault ≡ 0) where
+    pub ready : (used : ℕ) → used ≡ startOf (s .lengths) (s .frame .nodes) → Ready (s .frame .nodes) used (s .lengths) (a .pending) (a .count) (a .entries) (s .entries)
     unfolding bytes treeOf queues
-    ready =
+    ready used u =
         let f = formed s t in
-        let n : length (take (s .nodes) (s .topology)) ≡ s .nodes = length-take-le (s .nodes) (s .topology) (omega (arith, ar .topology, f .nodes)) in
+        let n : length (take (s .frame .nodes) (s .frame .topology)) ≡ s .frame .nodes = length-take-le (s .frame .nodes) (s .frame .topology) (omega (arith, ar .topology, f .nodes)) in
+        let v = valid-size 64 (take (s .frame .nodes) (s .frame .topology)) (f .valid) in
         record {
           marks = w .marks;
           places = w .places;
           count = w .count z;
           ones = w .ones;
-          room = omega (arith, room s ar f, w .few z, f .most);
-          few = f .nodes;
           own = λ m g. w .own m (omega arith);
-          owned = f .owned;
+          some = omega (arith, size-pos (tree (take (s .frame .nodes) (s .frame .topology))));
+          few = f .nodes;
+          used = u;
+          room = omega (arith, fits s ar f, has-room (s .frame .limit) (held (treeOf s)) (sym h), w .few z, f .most);
           rises = λ m g.
-              subst (λ (k : ℕ). risesFrom 0 (queueIn (s .owners) (s .entries) (s .used) k) ≡ true) (zero-add m)
-              (well-all (tree (take (s .nodes) (s .topology))) (queueIn (s .owners) (s .entries) (s .used)) 0 (f .tree) m (omega (arith, valid-size 64 (take (s .nodes) (s .topology)) (f .valid))) .rises);
+              subst (λ (k : ℕ). risesFrom 0 (queueIn (s .lengths) (s .entries) k) ≡ true) (zero-add m)
+              (well-all (tree (take (s .frame .nodes) (s .frame .topology))) (queueIn (s .lengths) (s .entries)) 0 (f .tree) m (omega arith) .rises);
         }
 
-    module _ (r : Pushed) (en : Entered s a r) where
+    module _ (ls : List ℕ) (es : List CodeEntry) (r : Raised (s .frame .nodes) (s .lengths) (a .pending) ls) (o : Opened (s .frame .nodes) (s .lengths) (a .pending) (a .entries) (s .entries) es) where
       abbrev next : State
-      next = withEntries s (r .state .owners) (r .state .entries) (s .used + a .count)
+      next = withQueues s ls es
 
       tree-after : treeOf next ≡ push (treeOf s) ss l p
       unfolding treeOf bytes queues
       tree-after =
           let f = formed s t in
-          let d = tree (take (s .nodes) (s .topology)) in
-          let q = queueIn (s .owners) (s .entries) (s .used) in
-          let n : length (take (s .nodes) (s .topology)) ≡ s .nodes = length-take-le (s .nodes) (s .topology) (omega (arith, ar .topology, f .nodes)) in
-          assemble-same d (queueIn (r .state .owners) (r .state .entries) (s .used + a .count)) (pushed d 0 ss l p q) 0
+          let d = tree (take (s .frame .nodes) (s .frame .topology)) in
+          let q = queueIn (s .lengths) (s .entries) in
+          let n : length (take (s .frame .nodes) (s .frame .topology)) ≡ s .frame .nodes = length-take-le (s .frame .nodes) (s .frame .topology) (omega (arith, ar .topology, f .nodes)) in
+          assemble-same d (queueIn ls es) (pushed d 0 ss l p q) 0
           (λ m g u.
-          en .queues m (omega (arith, valid-size 64 (take (s .nodes) (s .topology)) (f .valid)))
-          ∙ ap (λ (o : Option (Entry ℕ)). insertSome o (q m)) (w .added z m))
+          o .queues ls r m (omega (arith, valid-size 64 (take (s .frame .nodes) (s .frame .topology)) (f .valid)))
+          ∙ ap (λ (x : Option (Entry Packet)). insertSome x (q m)) (w .added z m))
           ∙ sym (push-assemble d q 0 ss l p (sym e))
 
-      next-served : Serves s (pushing ss l p) accepted next
+      sound : pathFault (shape (treeOf s)) ss ≡ 0
+      sound = ap (λ (d : Topo). pathFault d ss) (shape-of s) ∙ sym e
+
+      pub accepted-served : (k : ℕ) → k ≡ suc (held (treeOf s)) → Serves s (pushing ss l p) (accepted k) next
       unfolding machine bytes
-      next-served =
-          let f = formed s t in
-          served s next (pushing ss l p) accepted (holding (machine s) (push (treeOf s) ss l p)) (push-accepted (machine s) ss l p (sym e) h) t
+      accepted-served k n =
+          let pushed-tree = push (treeOf s) ss l p in
+          served s next (pushing ss l p) (accepted k) (holding (machine s) pushed-tree)
+          (push-accepted (machine s) ss l p (sym e) (sym h)
+          ∙ ap {B = Answer Packet × Machine Packet} (λ (x : ℕ). (accepted x, holding (machine s) pushed-tree)) (push-held (treeOf s) ss l p sound ∙ sym n))
+          t
           (ap (holding (machine s)) tree-after)
-          (form next (next-formed f))
-          (λ n x. never x)
-          (λ c x. never-full x)
+          (form next (next-formed (formed s t)))
+          (λ _ x. never x)
+          (λ _ _ x. never-full x)
         where
-          never : {n : ℕ} {A : Type 0} → _≡_ {A = Answer ℕ} accepted (refused n) → A
+          never : {k n : ℕ} {A : Type 0} → _≡_ {A = Answer Packet} (accepted k) (refused n) → A
           never x = let y : _≡_ {A = ℕ} 0 1 = cc in absurd (omega arith)
 
-          never-full : {n : ℕ} {A : Type 0} → _≡_ {A = Answer ℕ} accepted (full n) → A
+          never-full : {k n c : ℕ} {A : Type 0} → _≡_ {A = Answer Packet} (accepted k) (full n c) → A
           never-full x = let y : _≡_ {A = ℕ} 0 1 = cc in absurd (omega arith)
 
           next-formed : Formed s → Formed next
           next-formed f =
-              let sound : pathFault (shape (treeOf s)) ss ≡ 0 = ap (λ (d : Topo). pathFault d ss) (shape-of s) ∙ sym e in
+              let y = ready (startOf (s .lengths) (s .frame .nodes)) refl in
               record {
                 nodes = f .nodes;
-                used = ready .room;
-                owned = en .owned;
+                used = omega (arith, y .room, raised-start (s .frame .nodes) (s .lengths) (a .pending) ls r (s .frame .nodes) (omega arith), sum-front (a .pending) (s .frame .nodes) (y .own), y .count);
                 valid = f .valid;
                 least = f .least;
                 most = f .most;
                 tree = ap well tree-after ∙ push-well (treeOf s) ss l p sound (f .tree);
-                room = omega (arith, ap held tree-after, push-held (treeOf s) ss l p sound);
+                room = omega (arith, ap held tree-after, push-held (treeOf s) ss l p sound, has-room (s .frame .limit) (held (treeOf s)) (sym h));
               }
-
-      pub accepted-served : Serves s (pushing ss l p) (pushAnswer (r .answer)) (r .state)
-      accepted-served = subst₂ (λ (x : PushAnswer) (y : State). Serves s (pushing ss l p) (pushAnswer x) y) (sym (en .answer)) (sym (en .state)) next-served

@@ -1,19 +1,19 @@
 // A push: the walk down its path, and the new entries put among the old.
 use super::Path;
-use super::PushAnswer;
-use super::Pushed;
 use queue_state::Entry;
 use queue_state::Item;
-use queue_state::State;
+use queue_state::Packet;
+use queue_state::Rank;
+use queue_state::wide16;
 use topology::Found;
-use topology::wide;
 ghost use mathlib.Core.Path.{_≡_};
 ghost use mathlib.Core.Logic.{_≢_, _⊎_};
 ghost use Prim.Native.Nat.{_≤_, _<_};
 ghost use lib.ListN.{length};
 ghost use Rattle.topology.specs.Reader.{fault, tree};
 ghost use Rattle.queue_check.specs.Sound.{Decides};
-ghost use Rattle.queue_push.specs.Arrivals.{Walked, Ready, Entered};
+ghost use Rattle.queue_state.specs.State.{startOf};
+ghost use Rattle.queue_push.specs.Arrivals.{Walked, Ones, Raised, Ready, Opened};
 ghost use Rattle.queue_push.specs.Calls.{stepsOf};
 
 // The fault of a path, or the new entry of each node that is marked as pending.
@@ -25,7 +25,7 @@ pub(crate) struct Added {
 }
 
 // Walks down from the root along the path.
-pub(crate) fn walk(bytes: &[u8], path: Path, packet: u32) -> Added
+pub(crate) fn walk(bytes: &[u8], path: Path, packet: Packet) -> Added
     requires { ⌜ fault 64 (now bytes) ≡ 0 ⌝ }
     ensures { λ r. ⌜ Walked (tree (now (bytes .entry))) (length (now (bytes .entry))) (stepsOf path) (path .«leaf_rank») packet r ⌝ }
 {
@@ -78,7 +78,7 @@ pub(crate) fn walk(bytes: &[u8], path: Path, packet: u32) -> Added
 }
 
 // Whether a new entry goes right behind an old one of its queue.
-fn goes_behind(pending: u8, old_rank: u32, new_rank: u32) -> bool
+fn goes_behind(pending: u8, old_rank: Rank, new_rank: Rank) -> bool
     ensures { λ r. ⌜ Decides r ((pending ≢ 0) × («old_rank» ≤ «new_rank»)) ((pending ≡ 0) ⊎ («new_rank» < «old_rank»)) ⌝ }
 {
     if pending == 0 {
@@ -90,62 +90,64 @@ fn goes_behind(pending: u8, old_rank: u32, new_rank: u32) -> bool
     false
 }
 
-// Puts each new entry behind the last entry of its queue that has no greater rank, or before all entries where there is none. Old
-// entries move up from the last on, each once and by as many places as new entries are still to come; then the nodes come in turn
-// whose new entries go before all old ones.
-pub(crate) fn enter(state: State, added: Added) -> Pushed
-    requires { ⌜ Ready (state .owners) (state .entries) (state .used) (state .nodes) added ⌝ }
-    ensures { λ r. ⌜ Entered state added r ⌝ }
+// The lengths with the new entries.
+pub(crate) fn raised(nodes: usize, lengths: [u16; 64], pending: [u8; 64]) -> [u16; 64]
+    requires { ⌜ (nodes ≤ 64) × (startOf lengths nodes ≤ 2304) × Ones pending ⌝ }
+    ensures { λ r. ⌜ Raised nodes lengths pending r ⌝ }
 {
-    let new = added.entries;
-    let mut pending = added.pending;
-    let mut left = added.count;
-    let used = state.used;
-    let nodes = state.nodes;
-    let mut owners = state.owners;
-    let mut entries = state.entries;
-    let mut at = used + nodes;
+    let mut after = lengths;
+    let mut node = 0;
+    while node < nodes {
+        if pending[node] != 0 {
+            after[node] += 1;
+        }
+        node += 1;
+    }
+    after
+}
+
+// Makes room: each new entry goes behind the last entry of its queue that has no greater rank, or before all of them where there is
+// none. From the last entry to the first, each moves up once, by as many places as new entries are still to come.
+pub(crate) fn opened(
+    nodes: usize,
+    used: usize,
+    lengths: [u16; 64],
+    marks: [u8; 64],
+    count: usize,
+    new: [Entry; 64],
+    entries: [Entry; 2304],
+) -> [Entry; 2304]
+    requires { ⌜ Ready nodes used lengths marks count new entries ⌝ }
+    ensures { λ r. ⌜ Opened nodes lengths marks new entries r ⌝ }
+{
+    let mut pending = marks;
+    let mut left = count;
+    let mut moved = entries;
+    let mut node = nodes - 1;
+    let mut i = used;
+    let mut begin = used - wide16(lengths[node]);
     while 0 < left {
-        if nodes < at {
-            let i = at - nodes - 1;
-            let owner = owners[i];
-            let entry = entries[i];
-            let node = wide(owner);
-            let fresh = new[node];
-            let to = i + left;
-            owners[to] = owner;
+        let fresh = new[node];
+        if begin < i {
+            let entry = moved[i - 1];
             if goes_behind(pending[node], entry.rank, fresh.rank) {
                 left -= 1;
                 pending[node] = 0;
-                entries[to] = fresh;
+                moved[i + left] = fresh;
             } else {
-                at -= 1;
-                entries[to] = entry;
+                i -= 1;
+                moved[i + left] = entry;
             }
         } else {
-            let node = at - 1;
             if pending[node] != 0 {
                 left -= 1;
                 pending[node] = 0;
-                owners[left] = node as u8;
-                entries[left] = new[node];
+                moved[i + left] = fresh;
             } else {
-                at -= 1;
+                node -= 1;
+                begin -= wide16(lengths[node]);
             }
         }
     }
-    let topology = state.topology;
-    let next_used = used + added.count;
-    Pushed {
-        state: State {
-            topology,
-            nodes,
-            limit: state.limit,
-            refused: state.refused,
-            owners,
-            entries,
-            used: next_used,
-        },
-        answer: PushAnswer::Accepted,
-    }
+    moved
 }

@@ -3,17 +3,21 @@
 mod arrivals;
 
 use queue_check::examine;
+use queue_state::Answer;
+use queue_state::Packet;
+use queue_state::Rank;
+use queue_state::Served;
 use queue_state::State;
 ghost use mathlib.Core.Path.{_≡_};
 ghost use Prim.Native.Nat.{suc, min};
-ghost use Rattle.pifo.specs.Machine.{pushing, most};
-ghost use Rattle.queue_state.specs.Calls.{Serves};
-ghost use Rattle.queue_push.specs.Calls.{stepsOf, pushAnswer};
+ghost use Rattle.pifo.specs.Machine.{pushing, most, room as Machine·room};
+ghost use Rattle.queue_state.specs.Calls.{answerOf, Serves};
+ghost use Rattle.queue_push.specs.Calls.{stepsOf};
 
 #[repr(C)]
 pub struct Step {
     pub child: u8,
-    pub rank: u32,
+    pub rank: Rank,
 }
 
 // A path: its first `count` steps, of which no tree takes a ninth, and the rank at the leaf.
@@ -21,19 +25,7 @@ pub struct Step {
 pub struct Path {
     pub steps: [Step; 9],
     pub count: usize,
-    pub leaf_rank: u32,
-}
-
-// The answer to a push: a refusal by its number, or by 15 with the new count of refusals.
-pub enum PushAnswer {
-    Accepted,
-    Refused(u8),
-    Full(u32),
-}
-
-pub struct Pushed {
-    pub state: State,
-    pub answer: PushAnswer,
+    pub leaf_rank: Rank,
 }
 
 // The largest count of refusals.
@@ -49,44 +41,65 @@ fn counted(refusals: u32) -> u32
     refusals + 1
 }
 
+// Whether there is room for a push where so many packets are held: 0, or the number by which it is refused.
+fn room(limit: usize, held: usize) -> u8
+    ensures { λ r. ⌜ r ≡ Machine·room limit held ⌝ }
+{
+    if limit <= held {
+        return 15;
+    }
+    0
+}
+
 // Pushes a packet along a path: 18, 13, 14, 15 are tested in this order.
-pub fn push(state: State, path: Path, packet: u32) -> Pushed
-    ensures { λ r. ⌜ Serves state (pushing (stepsOf path) (path .«leaf_rank») packet) (pushAnswer (r .answer)) (r .state) ⌝ }
+pub fn push(state: State, path: Path, packet: Packet) -> Served
+    ensures { λ r. ⌜ Serves state (pushing (stepsOf path) (path .«leaf_rank») packet) (answerOf (r .answer)) (r .state) ⌝ }
 {
     let test = examine(state);
     if !test.sound {
-        return Pushed {
+        return Served {
             state,
-            answer: PushAnswer::Refused(18),
+            answer: Answer::Refused(18),
         };
     }
-    let topology = state.topology;
-    let nodes = state.nodes;
+    let frame = state.frame;
+    let topology = frame.topology;
+    let nodes = frame.nodes;
     let bytes = &topology[..nodes];
     let added = arrivals::walk(bytes, path, packet);
     let fault = added.fault;
     if fault != 0 {
-        return Pushed {
+        return Served {
             state,
-            answer: PushAnswer::Refused(fault),
+            answer: Answer::Refused(fault),
         };
     }
-    if state.limit <= test.held {
+    let old = state.lengths;
+    let before = state.entries;
+    let number = room(frame.limit, test.held);
+    if number != 0 {
         let count = counted(state.refused);
-        let owners = state.owners;
-        let entries = state.entries;
-        return Pushed {
+        return Served {
             state: State {
-                topology,
-                nodes,
-                limit: state.limit,
+                frame,
                 refused: count,
-                owners,
-                entries,
-                used: state.used,
+                lengths: old,
+                entries: before,
             },
-            answer: PushAnswer::Full(count),
+            answer: Answer::Full(number, count),
         };
     }
-    arrivals::enter(state, added)
+    let pending = added.pending;
+    let lengths = arrivals::raised(nodes, old, pending);
+    let new = added.entries;
+    let entries = arrivals::opened(nodes, test.used, old, pending, added.count, new, before);
+    Served {
+        state: State {
+            frame,
+            refused: state.refused,
+            lengths,
+            entries,
+        },
+        answer: Answer::Accepted((test.held + 1) as u32),
+    }
 }

@@ -6,10 +6,10 @@ use Prim.Native.Nat.{zero-le}
 use native.Mathlib.Nat.{not-suc-le-zero}
 use native.Mathlib.Decide.{ℕ-discrete}
 use native.Mathlib.Omega.{arith}
-use mathlib.Core.List.{List}
+use mathlib.Core.List.{List, [], map}
 use mathlib.Core.Bool.{Bool, true, false, _&&_}
-use lib.ListN.{length, take, getD, set, length-set}
-use lib.Seq.{length-take-le, getD-take, getD-set-same, getD-set-other, ext-getD}
+use lib.ListN.{length, take, getD, set, replicate, length-set}
+use lib.Seq.{slice, length-take-le, getD-take, getD-set-same, getD-set-other, ext-getD}
 use lib.Dec.{leb}
 use borrow.Author.Tests.{le-leb, lt-leb, leb-true}
 use Rattle.topology.specs.Tree.{Topo}
@@ -21,12 +21,13 @@ use Rattle.pifo.specs.Tree.{PTree, empty, held, well}
 use Rattle.pifo.specs.Numbered.{assemble}
 use Rattle.pifo.specs.Machine.{Machine, opened}
 use Rattle.pifo.proofs.Order.{both, join}
-use Rattle.pifo.proofs.Numbered.{empty-assemble}
+use Rattle.pifo.proofs.Numbered.{empty-assemble, assemble-same}
 use Rattle.pifo.proofs.Runs.{opened-sound}
-use Rattle.queue_state.specs.State.{queueIn, queues, bytes, treeOf, machine, allBelow, wellFormed}
+use Rattle.queue_state.specs.State.{Packet, entryOf, startOf, queueIn, queues, bytes, treeOf, machine, wellFormed}
 use Rattle.queue_state.specs.Opening.{limitFault, openFault, Opens}
 use Rattle.queue_state.specs.Entries.{Empty}
 use Rattle.queue_state.specs.declared.Opened.{Opened}
+use Rattle.queue_state.specs.declared.Entry.{Entry as CodeEntry}
 use Rattle.queue_state.proofs.Formed.{formed, form}
 
 -- ---- the refusal
@@ -69,6 +70,17 @@ read-tree bs limit x n e f l = by-fault (fault 64 bs) (sym e ∙ f)
 
 -- ---- the state
 
+no-start : (k n : ℕ) → startOf (replicate k 0) n ≡ 0
+no-start zero zero = refl
+no-start zero (suc n) = refl
+no-start (suc k) zero = refl
+no-start (suc k) (suc n) = omega (arith, no-start k n)
+
+no-queue : (es : List CodeEntry) (n : ℕ) → queueIn (replicate 64 0) es n ≡ []
+no-queue es n =
+    ap (λ (k : ℕ). map entryOf (slice k (startOf (replicate 64 0) (suc n)) es)) (no-start 64 n)
+    ∙ ap (λ (k : ℕ). map entryOf (slice 0 k es)) (no-start 64 (suc n))
+
 no-fault : (bs : List ℕ) (limit : ℕ) → openFault bs limit ≡ 0 → (fault 64 bs ≡ 0) × (limitFault limit ≡ 0)
 unfolding openFault
 no-fault bs limit e = by-fault (fault 64 bs) e
@@ -110,24 +122,25 @@ module _ (bs : List ℕ) (limit : ℕ) (r : Opened) (z : r .refusal ≡ openFaul
   module _ (o : r .refusal ≡ 0) (t : List ℕ) (c : take (length bs) t ≡ bs) (e : Empty t (length bs) limit (r .state)) where
     same-bytes : bytes (r .state) ≡ bs
     unfolding bytes
-    same-bytes = ap (take (r .state .nodes)) (e .topology) ∙ ap (λ (n : ℕ). take n t) (e .nodes) ∙ c
+    same-bytes = ap (take (r .state .frame .nodes)) (e .topology) ∙ ap (λ (n : ℕ). take n t) (e .nodes) ∙ c
 
     same-tree : treeOf (r .state) ≡ empty (tree bs)
     unfolding treeOf queues
     same-tree =
-        ap (λ (n : ℕ). assemble (tree (bytes (r .state))) (queueIn (r .state .owners) (r .state .entries) n) 0) (e .used)
+        ap (λ (l : List ℕ). assemble (tree (bytes (r .state))) (queueIn l (r .state .entries)) 0) (e .lengths)
+        ∙ assemble-same (tree (bytes (r .state))) (queueIn (replicate 64 0) (r .state .entries)) (λ _. []) 0 (λ m _ _. no-queue (r .state .entries) m)
         ∙ sym (empty-assemble (tree (bytes (r .state))) 0)
         ∙ ap (λ (l : List ℕ). empty (tree l)) same-bytes
 
     same-machine : machine (r .state) ≡ opened (tree bs) limit
     unfolding machine
     same-machine =
-        ap (λ (x : Topo). made x (r .state .limit) (r .state .refused) (treeOf (r .state))) (ap tree same-bytes)
+        ap (λ (x : Topo). made x (r .state .frame .limit) (r .state .refused) (treeOf (r .state))) (ap tree same-bytes)
         ∙ ap (λ (x : ℕ). made (tree bs) x (r .state .refused) (treeOf (r .state))) (e .limit)
         ∙ ap (λ (x : ℕ). made (tree bs) limit x (treeOf (r .state))) (e .refused)
         ∙ ap (made (tree bs) limit 0) same-tree
       where
-        made : Topo → ℕ → ℕ → PTree ℕ → Machine ℕ
+        made : Topo → ℕ → ℕ → PTree Packet → Machine Packet
         made t l c p = record { topology = t; limit = l; refusals = c; tree = p }
 
     pub accepted-opens : Opens bs limit r
@@ -140,8 +153,7 @@ module _ (bs : List ℕ) (limit : ℕ) (r : Opened) (z : r .refusal ≡ openFaul
           machine = λ _. same-machine;
           formed = λ _. form (r .state) record {
             nodes = omega (arith, e .nodes, valid-length 64 bs (f .0));
-            used = omega (arith, e .used);
-            owned = ap (λ (n : ℕ). allBelow (r .state .nodes) (take n (r .state .owners))) (e .used);
+            used = omega (arith, ap (λ (l : List ℕ). startOf l (r .state .frame .nodes)) (e .lengths), no-start 64 (r .state .frame .nodes));
             valid = ap (fault 64) same-bytes ∙ f .0;
             least = omega (arith, e .limit, l .0);
             most = omega (arith, e .limit, l .1);

@@ -1,5 +1,6 @@
 pub mod Formed
-pub mod Owned
+pub mod Arrays
 pub mod Fresh
-pub mod Ranges
-pub mod Served
+pub mod Serving
+pub mod Parts
+pub mod Canon

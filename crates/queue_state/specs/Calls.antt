@@ -3,28 +3,35 @@ use mathlib.Core.Path.{_≡_}
 use Prim.Native.Nat.{ℕ}
 use mathlib.Core.List.{List}
 use mathlib.Core.Bool.{true, false}
-use Rattle.pifo.specs.Machine.{Call, Answer, refused, full, serve}
-use Rattle.queue_state.specs.State.{machine, wellFormed}
+use Rattle.pifo.specs.Machine.{Call, Answer, accepted, departed, refused, full, serve}
+use Rattle.queue_state.specs.State.{Packet, machine, wellFormed}
+use Rattle.queue_state.specs.declared.Answer.{Answer as CodeAnswer}
+use Rattle.queue_state.specs.declared.Answer.the-variants.{Accepted, Departed, Refused, Full}
 use Rattle.queue_state.specs.declared.Entry.{Entry}
 use Rattle.queue_state.specs.declared.State.{State}
 
+-- The definition's answer for each case of the code's; `numberOf` (pifo/specs/Machine) gives the paper's number for it.
+abbrev pub answerOf : CodeAnswer → Answer Packet
+answerOf (Accepted h) = accepted h
+answerOf (Departed p) = departed p
+answerOf (Refused n) = refused n
+answerOf (Full n c) = full n c
+
 -- the state with another count of refusals
 abbrev pub counting : State → ℕ → State
-counting s c =
-    record { topology = s .topology; nodes = s .nodes; limit = s .limit; refused = c; owners = s .owners; entries = s .entries; used = s .used }
+counting s c = record { frame = s .frame; refused = c; lengths = s .lengths; entries = s .entries }
 
--- the state with other entries
-abbrev pub withEntries : State → List ℕ → List Entry → ℕ → State
-withEntries s owners entries used =
-    record { topology = s .topology; nodes = s .nodes; limit = s .limit; refused = s .refused; owners = owners; entries = entries; used = used }
+-- the state with other queues
+abbrev pub withQueues : State → List ℕ → List Entry → State
+withQueues s lengths entries = record { frame = s .frame; refused = s .refused; lengths = lengths; entries = entries }
 
 -- A call on a state: refused by 18 where the state is not well formed, else as the machine answers. A refusal leaves the state as it
--- was, but for the count where the tree is full. Left free is how the arrays of a state after an accepted push or a pop have its machine:
--- the order between queues, and what stands past `used` and `nodes`. Every call goes by the machine alone.
-pub record Serves (s : State) (call : Call ℕ) (a : Answer ℕ) (r : State) : Type 0 where
+-- was, but for the count where there is no room. After an accepted push or a pop, the machine determines the lengths of the queues and the
+-- entries in them (`same-machine` in proofs/Canon); left free is what stands in the arrays past the last node and past the last entry.
+pub record Serves (s : State) (call : Call Packet) (a : Answer Packet) (r : State) : Type 0 where
   pub ill : wellFormed s ≡ false → a ≡ refused 18
   pub answer : wellFormed s ≡ true → a ≡ serve (machine s) call .0
   pub machine : wellFormed s ≡ true → machine r ≡ serve (machine s) call .1
   pub formed : wellFormed s ≡ true → wellFormed r ≡ true
   pub kept : (n : ℕ) → a ≡ refused n → r ≡ s
-  pub counted : (c : ℕ) → a ≡ full c → r ≡ counting s c
+  pub counted : (n c : ℕ) → a ≡ full n c → r ≡ counting s c

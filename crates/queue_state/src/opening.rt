@@ -1,5 +1,6 @@
 // The opening of a tree: the limit's refusal, and the state with no entries.
 use super::Entry;
+use super::Frame;
 use super::Item;
 use super::State;
 ghost use mathlib.Core.Path.{_≡_};
@@ -38,15 +39,16 @@ pub(crate) fn empty(topology: [u8; 64], nodes: usize, limit: usize) -> State
     ensures { λ r. ⌜ Empty topology nodes limit r ⌝ }
 {
     State {
-        topology,
-        nodes,
-        limit,
+        frame: Frame {
+            topology,
+            nodes,
+            limit,
+        },
         refused: 0,
-        owners: [0u8; 2304],
+        lengths: [0u16; 64],
         entries: [Entry {
             rank: 0,
             item: Item::Child(0),
         }; 2304],
-        used: 0,
     }
 }

@@ -2,19 +2,16 @@
 -- carrying of paths answer every call alike. What holds between the two from one call to the next is `Paired`: both sound, for one limit, the
 -- chip's tree the mirror of the source's, as many refusals counted; so they hold as many packets. `paired-opened` is its start, `paired-next`
 -- one call. `demand-3` of the crate `paired` goes on from here, over lists of calls.
-use mathlib.Core.Path.{_≡_, refl, sym, ap, _∙_}
+use mathlib.Core.Path.{_≡_, refl, sym, ap, ap₂, _∙_}
 use Prim.Native.Nat.{ℕ, zero, suc, _≤_, min}
 use native.Mathlib.Omega.{arith}
 use mathlib.Core.List.{List}
-use mathlib.Core.Bool.{Bool, true, false}
 use mathlib.Core.Option.{Option, none, some}
 use lib.ListN.{length}
-use lib.Dec.{leb}
-use borrow.Author.Tests.{leb-true, leb-false}
 use Rattle.topology.specs.Tree.{Topo, height}
-use Rattle.topology.specs.Reader.{pick}
 use Rattle.pifo.specs.Tree.{Step, pathFault, PTree, shape, push, pop, held}
-use Rattle.pifo.specs.Machine.{Machine, Call, pushing, popping, Answer, accepted, full, most, holding, counting, opened, servePath, servePop, serve}
+use Rattle.pifo.specs.Machine.{Machine, Call, pushing, popping, Answer, accepted, full, most, opened, room, serveRoom, servePath, servePop, serve}
+use Rattle.pifo.proofs.Push.{push-held}
 use Rattle.pifo.proofs.Pop.{pop-none, none-pop}
 use Rattle.pifo.proofs.Runs.{served, opened-sound}
 use Rattle.embedding_laws.specs.Rules.{Passes}
@@ -71,30 +68,24 @@ module _ (S T : Topo) (m : List ℕ) (E : Passes S T m) where
       alike-push ss l a (suc f) e = record { answer = refl; refusals = p .refusals; trees = p .trees }
       alike-push ss l a zero e =
           let g : pathFault (y .topology) (carry S T m ss) ≡ 0 = rw (p .chip-topology) (carry-fault ss e) in
-          rw g (by-tests (leb (x .limit) (held (x .tree))) (leb (y .limit) (held (y .tree))) refl refl)
+          rw (g, same-room) (by-room (room (x .limit) (held (x .tree))))
         where
-          cx : ℕ
-          cx = min (suc (x .refusals)) most
+          same-room : room (y .limit) (held (y .tree)) ≡ room (x .limit) (held (x .tree))
+          same-room = ap₂ room (p .limit) (held-alike x y p)
 
-          cy : ℕ
-          cy = min (suc (y .refusals)) most
-
-          by-tests : (b u : Bool) → leb (x .limit) (held (x .tree)) ≡ b → leb (y .limit) (held (y .tree)) ≡ u
-              → Alike S T m (pick b (full cx, counting x cx) (accepted, holding x (push (x .tree) ss l a)))
-              (pick u (full cy, counting y cy) (accepted, holding y (push (y .tree) (carry S T m ss) l a)))
-          by-tests true true b u =
-              let c : cy ≡ cx = omega (arith, p .refusals) in
-              record { answer = ap full (sym c); refusals = c; trees = p .trees }
-          by-tests true false b u =
-              absurd (omega (arith, leb-true (x .limit) (held (x .tree)) b, leb-false (y .limit) (held (y .tree)) u, p .limit, held-alike x y p))
-          by-tests false true b u =
-              absurd (omega (arith, leb-false (x .limit) (held (x .tree)) b, leb-true (y .limit) (held (y .tree)) u, p .limit, held-alike x y p))
-          by-tests false false b u =
+          by-room : (n : ℕ) → Alike S T m (serveRoom n x ss l a) (serveRoom n y (carry S T m ss) l a)
+          by-room zero =
+              let h = push-held (x .tree) ss l a (rw source-shape e) in
+              let k = push-held (y .tree) (carry S T m ss) l a (rw chip-shape (carry-fault ss e)) in
+              let same : held (push (x .tree) ss l a) ≡ held (push (y .tree) (carry S T m ss) l a) = omega (arith, h, k, held-alike x y p) in
               record {
-                answer = refl;
+                answer = ap accepted same;
                 refusals = p .refusals;
                 trees = mirrors-push (keeps S T m E) (x .tree) (y .tree) (p .source .tree) source-shape chip-shape (p .trees) ss l a e;
               }
+          by-room (suc n) =
+              let c : min (suc (y .refusals)) most ≡ min (suc (x .refusals)) most = omega (arith, p .refusals) in
+              record { answer = ap (full (suc n)) (sym c); refusals = c; trees = p .trees }
 
       alike-pop : (o : Option (P × PTree P)) → pop (x .tree) ≡ o → Alike S T m (servePop x o) (servePop y (pop (y .tree)))
       alike-pop none e =

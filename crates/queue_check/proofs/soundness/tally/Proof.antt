@@ -1,139 +1,262 @@
--- The loop has counted the entries before i (`Pass` in proofs/Pass.antt).
+-- Between two queues `Passed` holds, within one `Passing` (proofs/Passing.antt).
 use borrow.Author.Needs.{needs}
+use borrow.Author.Tests.{not-true, not-false}
 use native.Mathlib.Omega.{arith}
-use mathlib.Core.Path.{refl, sym}
 use native.Mathlib.Numerals.{add-one}
-use Prim.Native.Nat.{_≤_, _+_, _-_, _*_}
-use Rattle.queue_check.proofs.Pass.{Pass, begin, short, faulted, advance, tallied-not, tallied}
+use mathlib.Core.Path.{refl, ap}
+use mathlib.Core.Logic.{⊎-elim}
+use Prim.Native.Nat.{ℕ, _+_, _-_}
+use lib.ListN.{length}
+use Rattle.topology.proofs.Lookup.{valid-length, valid-byte}
+use Rattle.queue_check.proofs.Passing.{Passed, Passing, begin, enter-none, enter-some, over, advance, fault, mismatch, leave, tallied-not, tallied}
 use Rattle.queue_check.proofs.soundness.tally.Statement.{statement}
 use Rattle.queue_check.proofs.soundness.tally.Tie as tie
+use Rattle.queue_check.proofs.soundness.tally.Reads as reads
+use Rattle.queue_check.proofs.soundness.tally.Lts as lts
+use Rattle.queue_check.proofs.soundness.children_match.Reads as children-match-reads
+use Rattle.queue_check.proofs.soundness.place.Reads as place-reads
+use Rattle.queue_check.proofs.soundness.unsound.Reads as unsound-reads
+use Rattle.queue_state.proofs.wide16.Reads as wide16-reads
+
+abbrev Inv-loop2 : tie.InvT-loop2
+Inv-loop2 bytes limit lengths entries heads start₀ node end counts₀ last₀ start counts last = Passing bytes lengths entries heads start₀ node end start counts last
+
+abbrev μ-loop2 : tie.MeasureT-loop2
+μ-loop2 bytes limit lengths entries heads start₀ node end counts₀ last₀ start counts last = end - start
 
 abbrev Inv-loop : tie.InvT-loop
-Inv-loop bytes used owners entries lengths₀ counts₀ last₀ i₀ lengths counts last i = (i ≤ used) × Pass bytes owners entries i lengths counts last
+Inv-loop bytes limit lengths entries heads₀ start₀ node₀ heads start node = Passed bytes lengths entries heads start node
 
 abbrev μ-loop : tie.MeasureT-loop
-μ-loop bytes used owners entries lengths₀ counts₀ last₀ i₀ lengths counts last i = used - i
+μ-loop bytes limit lengths entries heads₀ start₀ node₀ heads start node = length bytes - node
 
-loop-holds : tie.Need-loop-holds Inv-loop μ-loop
-loop-holds c = (search needs, begin _ _ _ (c .before .pre .0 .nodes))
+-- src/soundness.rt:95:5
+loop-holds : tie.Need-loop-holds Inv-loop2 μ-loop2 Inv-loop μ-loop
+loop-holds c = begin _ _ _ _ refl
 
-array-read-wide : tie.Need-array-read-wide Inv-loop μ-loop
-array-read-wide c = search needs
+-- src/soundness.rt:96:34
+mul-wide16 : tie.Need-mul-wide16 Inv-loop2 μ-loop2 Inv-loop μ-loop
+mul-wide16 c = search needs
 
-wide-requires : tie.Need-wide-requires Inv-loop μ-loop
-wide-requires c κs = search needs
+-- src/soundness.rt:96:34
+array-read-wide16 : tie.Need-array-read-wide16 Inv-loop2 μ-loop2 Inv-loop μ-loop
+array-read-wide16 c = omega (arith, valid-length 64 _ (c .before .before .before .pre))
 
-mul-entry : tie.Need-mul-entry Inv-loop μ-loop
+-- src/soundness.rt:96:27
+wide16-requires : tie.Need-wide16-requires Inv-loop2 μ-loop2 Inv-loop μ-loop
+wide16-requires c κs = search needs
+
+-- src/soundness.rt:96:19
+add-end : tie.Need-add-end Inv-loop2 μ-loop2 Inv-loop μ-loop
+add-end c = search needs
+
+-- src/soundness.rt:98:13
+unsound-requires : tie.Need-unsound-requires Inv-loop2 μ-loop2 Inv-loop μ-loop
+unsound-requires c κs = search needs
+
+-- src/soundness.rt:98:13
+returns : tie.Need-returns Inv-loop2 μ-loop2 Inv-loop μ-loop
+returns c =
+    let w = c .before .before in
+    tallied-not _ _ _ _ _ (c .unsound .ensures)
+    (over _ _ _ _ _ _ _ _ (w .before .before .loop .inv) (w .before .loop-test .taken) (ap (λ (k : ℕ). w .before .before .loop .start + k) (w .wide16 .ensures .0)) (c .before .if1 .taken))
+
+-- src/soundness.rt:101:27
+mul-heads : tie.Need-mul-heads Inv-loop2 μ-loop2 Inv-loop μ-loop
+mul-heads c = search needs
+
+-- src/soundness.rt:101:27
+array-copy-out-heads : tie.Need-array-copy-out-heads Inv-loop2 μ-loop2 Inv-loop μ-loop
+array-copy-out-heads c = search needs
+
+-- src/soundness.rt:101:13
+mul-heads-2 : tie.Need-mul-heads-2 Inv-loop2 μ-loop2 Inv-loop μ-loop
+mul-heads-2 c = omega (arith, valid-length 64 _ (c .before .before .before .before .before .before .before .pre))
+
+-- src/soundness.rt:101:13
+array-set-from-heads : tie.Need-array-set-from-heads Inv-loop2 μ-loop2 Inv-loop μ-loop
+array-set-from-heads c = omega (arith, valid-length 64 _ (c .before .before .before .before .before .before .before .pre))
+
+-- src/soundness.rt:105:9
+loop2-holds : tie.Need-loop2-holds Inv-loop2 μ-loop2 Inv-loop μ-loop
+loop2-holds c =
+    let w = c .before .before in
+    let p = w .before .before .loop .inv in
+    let v = valid-length 64 _ (w .before .before .before .before .pre) in
+    let e = ap (λ (k : ℕ). w .before .before .loop .start + k) (w .wide16 .ensures .0) in
+    ⊎-elim
+    (λ x. enter-some _ _ _ _ _ _ _ p (w .before .loop-test .taken) (search needs) v e (c .before .if1 .left) (x .0 .taken) _ (x .2))
+    (λ x. enter-none _ _ _ _ _ _ _ p (w .before .loop-test .taken) (search needs) v e (c .before .if1 .left) (x .0 .left) _ (x .1))
+    (c .if2 .came)
+
+-- src/soundness.rt:106:25
+mul-entry : tie.Need-mul-entry Inv-loop2 μ-loop2 Inv-loop μ-loop
 mul-entry c = search needs
 
-array-copy-out-entry : tie.Need-array-copy-out-entry Inv-loop μ-loop
+-- src/soundness.rt:106:25
+array-copy-out-entry : tie.Need-array-copy-out-entry Inv-loop2 μ-loop2 Inv-loop μ-loop
 array-copy-out-entry c = search needs
 
-mul-place : tie.Need-mul-place Inv-loop μ-loop
-mul-place c = search needs
+-- src/soundness.rt:107:41
+shared-slice-read-place : tie.Need-shared-slice-read-place Inv-loop2 μ-loop2 Inv-loop μ-loop
+shared-slice-read-place c = search needs
 
-array-read-place : tie.Need-array-read-place Inv-loop μ-loop
-array-read-place c = search needs
+-- src/soundness.rt:107:17
+place-requires : tie.Need-place-requires Inv-loop2 μ-loop2 Inv-loop μ-loop
+place-requires c κs = valid-byte 64 _ (c .before .before .before .before .before .before .before .before .before .before .pre) _
 
-place-requires : tie.Need-place-requires Inv-loop μ-loop
-place-requires c κs = c .before .before .before .before .before .pre .0
+-- src/soundness.rt:109:17
+unsound-requires-2 : tie.Need-unsound-requires-2 Inv-loop2 μ-loop2 Inv-loop μ-loop
+unsound-requires-2 c κs = search needs
 
-returns : tie.Need-returns Inv-loop μ-loop
-returns c =
-    let at = c .before .before .before .before .before in
-    let a = at .before .before .args in
-    let own = sym (c .before .before .before .wide .ensures .0) in
-    tallied-not _ (a .t2) (a .t3) (a .used) _ _ _ (at .loop .inv .1) refl
-    (faulted _ (a .t2) (a .t3) (at .loop .i) _ _ _ (at .loop .inv .1) (search needs) (search needs) (a .used) (search needs) (search needs) (search needs) _ _ own (c .before .place .ensures) (c .if1 .taken))
+-- src/soundness.rt:109:17
+returns-2 : tie.Need-returns-2 Inv-loop2 μ-loop2 Inv-loop μ-loop
+returns-2 c =
+    let pl = c .before .before in
+    let at = pl .before .before .before .before in
+    tallied-not _ _ _ _ _ (c .unsound2 .ensures)
+    (fault _ _ _ _ _ _ _ _ _ _ (at .loop2 .inv) (pl .before .before .before .loop2-test .taken) _ (pl .place .ensures) _ (c .before .if3 .taken))
 
-mul-lengths : tie.Need-mul-lengths Inv-loop μ-loop
-mul-lengths c = search needs
-
-array-read-lengths : tie.Need-array-read-lengths Inv-loop μ-loop
-array-read-lengths c = omega (arith, c .before .place .ensures .owner (c .if1 .left), c .before .before .before .before .before .before .before .pre .0 .nodes)
-
-add-lengths : tie.Need-add-lengths Inv-loop μ-loop
-add-lengths c = omega (arith, short _ _ _ _ _ _ _ (c .before .before .before .before .before .loop .inv .1) (search needs) (search needs) _ (c .before .place .ensures .owner (c .if1 .left)))
-
-array-write-lengths : tie.Need-array-write-lengths Inv-loop μ-loop
-array-write-lengths c = omega (arith, c .before .place .ensures .owner (c .if1 .left), c .before .before .before .before .before .before .before .pre .0 .nodes)
-
-mul-counts : tie.Need-mul-counts Inv-loop μ-loop
+-- src/soundness.rt:111:13
+mul-counts : tie.Need-mul-counts Inv-loop2 μ-loop2 Inv-loop μ-loop
 mul-counts c = search needs
 
-add-counts : tie.Need-add-counts Inv-loop μ-loop
-add-counts c = search needs
+-- src/soundness.rt:111:13
+array-read-counts : tie.Need-array-read-counts Inv-loop2 μ-loop2 Inv-loop μ-loop
+array-read-counts c = search needs
 
-mul-counts-2 : tie.Need-mul-counts-2 Inv-loop μ-loop
-mul-counts-2 c = search needs
+-- src/soundness.rt:111:13
+add-counts : tie.Need-add-counts Inv-loop2 μ-loop2 Inv-loop μ-loop
+add-counts c = omega (arith, c .before .before .before .before .before .loop2 .inv .small (c .before .place .result), c .before .before .before .before .before .loop2 .inv .fits)
 
-array-read-counts : tie.Need-array-read-counts Inv-loop μ-loop
-array-read-counts c = omega (arith, c .before .place .ensures .owner (c .if1 .left), c .before .before .before .before .before .before .before .pre .0 .nodes)
+-- src/soundness.rt:111:13
+array-write-counts : tie.Need-array-write-counts Inv-loop2 μ-loop2 Inv-loop μ-loop
+array-write-counts c = search needs
 
-add-counts-2 : tie.Need-add-counts-2 Inv-loop μ-loop
-add-counts-2 c = omega (arith, c .before .before .before .before .before .loop .inv .1 .small (c .before .before .before .wide .result * 9 + c .before .place .result))
+-- src/soundness.rt:113:13
+add-start : tie.Need-add-start Inv-loop2 μ-loop2 Inv-loop μ-loop
+add-start c = search needs
 
-array-write-counts : tie.Need-array-write-counts Inv-loop μ-loop
-array-write-counts c = omega (arith, c .before .place .ensures .owner (c .if1 .left), c .before .before .before .before .before .before .before .pre .0 .nodes)
+-- src/soundness.rt:105:9
+loop2-less : tie.Need-loop2-less Inv-loop2 μ-loop2 Inv-loop μ-loop
+loop2-less c = search needs
 
-mul-last : tie.Need-mul-last Inv-loop μ-loop
-mul-last c = search needs
+-- src/soundness.rt:105:9
+loop2-again : tie.Need-loop2-again Inv-loop2 μ-loop2 Inv-loop μ-loop
+loop2-again c =
+    let pl = c .before in
+    let at = pl .before .before .before .before in
+    rw add-one (advance _ _ _ _ _ _ _ _ _ _ (at .loop2 .inv) (pl .before .before .before .loop2-test .taken) _ (pl .place .ensures) (c .if3 .left))
 
-array-write-last : tie.Need-array-write-last Inv-loop μ-loop
-array-write-last c = search needs
+-- src/soundness.rt:115:35
+slice-aggregate-children-match :
+    tie.Need-slice-aggregate-children-match Inv-loop2 μ-loop2 Inv-loop μ-loop
+slice-aggregate-children-match c = search needs
 
-add-i : tie.Need-add-i Inv-loop μ-loop
-add-i c = search needs
+-- src/soundness.rt:115:44
+slice-aggregate-children-match-2 :
+    tie.Need-slice-aggregate-children-match-2 Inv-loop2 μ-loop2 Inv-loop μ-loop
+slice-aggregate-children-match-2 c = search needs
 
-loop-less : tie.Need-loop-less Inv-loop μ-loop
+-- src/soundness.rt:115:13
+children-match-requires : tie.Need-children-match-requires Inv-loop2 μ-loop2 Inv-loop μ-loop
+children-match-requires c κs = search needs
+
+-- src/soundness.rt:116:13
+unsound-requires-3 : tie.Need-unsound-requires-3 Inv-loop2 μ-loop2 Inv-loop μ-loop
+unsound-requires-3 c κs = search needs
+
+-- src/soundness.rt:116:13
+returns-3 : tie.Need-returns-3 Inv-loop2 μ-loop2 Inv-loop μ-loop
+returns-3 c =
+    let m = c .before .before in
+    let l = m .before .before .before in
+    tallied-not _ _ _ _ _ (c .unsound3 .ensures)
+    (mismatch _ _ _ _ _ _ _ _ _ _ (l .before .loop2 .inv) (l .loop2-test .left) (valid-byte 64 _ (l .before .before .before .before .before .before .before .before .pre) _) _
+    (m .children-match .ensures .if-false (not-true _ (c .before .if4 .taken))))
+
+-- src/soundness.rt:118:9
+add-node : tie.Need-add-node Inv-loop2 μ-loop2 Inv-loop μ-loop
+add-node c = search needs
+
+-- src/soundness.rt:95:5
+loop-less : tie.Need-loop-less Inv-loop2 μ-loop2 Inv-loop μ-loop
 loop-less c = search needs
 
-loop-again : tie.Need-loop-again Inv-loop μ-loop
+-- src/soundness.rt:95:5
+loop-again : tie.Need-loop-again Inv-loop2 μ-loop2 Inv-loop μ-loop
 loop-again c =
-    let at = c .before .before .before .before .before in
-    let a = at .before .before .args in
-    let own = sym (c .before .before .before .wide .ensures .0) in
-    let p = c .before .place .ensures in
-    let low = c .if1 .left in (
-      search needs,
-      rw add-one
-          (advance _ (a .t2) (a .t3) (at .loop .i) _ _ _ (at .loop .inv .1) (search needs) (search needs) _ _ own (p .owner low) (p .rises low) (p .slot low) low
-          (at .before .before .pre .0 .nodes)),
-    )
+    let m = c .before in
+    let l = m .before .before .before in
+    rw add-one
+    (leave _ _ _ _ _ _ _ _ _ _ (l .before .loop2 .inv) (l .loop2-test .left) (valid-byte 64 _ (l .before .before .before .before .before .before .before .before .pre) _)
+    (m .children-match .ensures .if-true (not-false _ (c .if4 .left))))
 
-returns-2 : tie.Need-returns-2 Inv-loop μ-loop
-returns-2 c =
-    let at = c .before in
-    tallied _ _ _ _ _ _ _ (at .loop .inv .0) (c .loop-test .left) (at .loop .inv .1) refl
+-- src/soundness.rt:120:23
+array-read-wide16-2 : tie.Need-array-read-wide16-2 Inv-loop2 μ-loop2 Inv-loop μ-loop
+array-read-wide16-2 c = search needs
+
+-- src/soundness.rt:120:9
+wide16-requires-2 : tie.Need-wide16-requires-2 Inv-loop2 μ-loop2 Inv-loop μ-loop
+wide16-requires-2 c κs = search needs
+
+-- src/soundness.rt:122:9
+unsound-requires-4 : tie.Need-unsound-requires-4 Inv-loop2 μ-loop2 Inv-loop μ-loop
+unsound-requires-4 c κs = search needs
+
+-- src/soundness.rt:122:9
+returns-4 : tie.Need-returns-4 Inv-loop2 μ-loop2 Inv-loop μ-loop
+returns-4 c =
+    let w = c .before .before in
+    tallied-not _ _ _ _ _ (c .unsound4 .ensures) (λ a. omega (arith, w .wide162 .ensures .0, c .before .if5 .taken, a .room))
+
+-- src/soundness.rt:85:1
+returns-5 : tie.Need-returns-5 Inv-loop2 μ-loop2 Inv-loop μ-loop
+returns-5 c = tallied _ _ _ _ _ _ _ _ (c .before .before .before .loop .inv) (c .before .before .loop-test .left) (c .before .wide162 .ensures .0) (c .if5 .left)
 
 pub tally-spec : {M : Type 1} → statement M
 tally-spec =
     tie.close
     (tie.spec
+    Inv-loop2
+    μ-loop2
     Inv-loop
     μ-loop
     loop-holds
-    array-read-wide
-    wide-requires
+    mul-wide16
+    array-read-wide16
+    wide16-requires
+    add-end
+    unsound-requires
+    returns
+    mul-heads
+    array-copy-out-heads
+    mul-heads-2
+    array-set-from-heads
+    loop2-holds
     mul-entry
     array-copy-out-entry
-    mul-place
-    array-read-place
+    shared-slice-read-place
     place-requires
-    returns
-    mul-lengths
-    array-read-lengths
-    add-lengths
-    array-write-lengths
+    unsound-requires-2
+    returns-2
     mul-counts
-    add-counts
-    mul-counts-2
     array-read-counts
-    add-counts-2
+    add-counts
     array-write-counts
-    mul-last
-    array-write-last
-    add-i
+    add-start
+    loop2-less
+    loop2-again
+    slice-aggregate-children-match
+    slice-aggregate-children-match-2
+    children-match-requires
+    unsound-requires-3
+    returns-3
+    add-node
     loop-less
     loop-again
-    returns-2)
+    array-read-wide16-2
+    wide16-requires-2
+    unsound-requires-4
+    returns-4
+    returns-5)

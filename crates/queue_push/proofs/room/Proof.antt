@@ -1,0 +1,14 @@
+-- Full and not full.
+use mathlib.Core.Path.{sym}
+use Rattle.pifo.proofs.Answers.{room-none, room-some}
+use Rattle.queue_push.proofs.room.Statement.{statement}
+use Rattle.queue_push.proofs.room.Tie as tie
+
+returns : tie.Need-returns
+returns c = sym (room-none _ _ (c .if1 .taken))
+
+returns-2 : tie.Need-returns-2
+returns-2 c = sym (room-some _ _ (c .if1 .left))
+
+pub room-spec : {M : Type 1} → statement M
+room-spec = tie.close (tie.spec returns returns-2)
