@@ -1,7 +1,7 @@
 -- The loops that fill the table `best`: one source node's entries, then all source nodes from the last to the first. What the code's
 -- lists hold is brought over to the two trees that the bytes draw.
 use mathlib.Core.Path.{_≡_, refl, sym, ap, _∙_, subst}
-use Prim.Native.Nat.{ℕ, _+_, _*_, _-_, _≤_, _<_}
+use Prim.Native.Nat.{ℕ, zero, suc, _+_, _*_, _-_, _≤_, _<_}
 use native.Mathlib.Nat.{not-suc-le-zero}
 use native.Mathlib.Decide.{ℕ-discrete}
 use native.Mathlib.Omega.{arith}
@@ -20,7 +20,7 @@ use Rattle.topology.proofs.Lookup.{end-code}
 use Rattle.embedding_laws.specs.Sets.{none}
 use Rattle.embedding_laws.specs.Placing.{Placed}
 use Rattle.embedding_laws.specs.Tables.{Ends, bestBy, canBy, endBy, Frame, BranchOf, PlacedBelow, Room, NodeFrame, Draws}
-use Rattle.embedding_laws.specs.Meaning.{end, kid, full, Fits, PlacedAt, Entry, Truth, KidsOf, PlacedBy, EntryBy, NodeTo, Different}
+use Rattle.embedding_laws.specs.Meaning.{end, kid, full, Fits, PlacedAt, Entry, Truth, KidsOf, PlacedBy, EntryBy, reachBy, NodeTo, Different}
 use Rattle.embedding_laws.proofs.Placing.{placed-map}
 use Rattle.embedding_laws.proofs.Local.{end-after, end-within}
 use Rattle.embedding_laws.proofs.Program.{has-kid, entry-map}
@@ -101,9 +101,21 @@ module _ (source target ends kids : List ℕ) (s : ℕ) (f : NodeFrame source ta
           getD-set-other best (s * 64 + n) (s * 64 + t) v 0 (omega arith) in
           rw there (w .entries t (omega arith))
 
-  pub node-end : (n : ℕ) (best : List ℕ) → NodeTo before kids ends source target s n best → n ≤ length target → length target ≤ n
-      → NodeTo before kids ends source target s (length target) best
-  node-end n best w l g = record { places = w .places; kept = w .kept; entries = λ t h. w .entries t (omega arith) }
+  pub node-end : (n count : ℕ) (best : List ℕ) → NodeTo before kids ends source target s n best → count ≤ n → NodeTo before kids ends source target s count best
+  node-end n count best w g = record { places = w .places; kept = w .kept; entries = λ t h. w .entries t (omega arith) }
+
+-- the target nodes that a source node may go to
+pub reach-other : (s n : ℕ) → (s ≡ 0 → ⊥) → n ≡ reachBy s n
+reach-other zero n d = absurd (d refl)
+reach-other (suc s) n d = refl
+
+pub reach-within : (s n : ℕ) → 0 < n → reachBy s n ≤ n
+reach-within zero n h = h
+reach-within (suc s) n h = omega arith
+
+in-reach : (s t n : ℕ) → t < n → (s ≡ 0 → t ≡ 0) → t < reachBy s n
+in-reach zero t n l r = omega (arith, r refl)
+in-reach (suc s) t n l r = l
 
 -- The trees that the bytes draw.
 module _ (bytes : List ℕ) (limit : ℕ) (d : Draws limit bytes) where
@@ -184,14 +196,14 @@ module _ (source target : List ℕ) (d : Draws 32 source) (e : Draws 64 target) 
 
   -- no source node is behind the last
   pub table-start : (best : List ℕ) → Truth (tree source) (tree target) (bestBy best) (length source)
-  table-start best s t l h g = absurd (omega (arith, size-bytes source 32 d))
+  table-start best s t l h g r = absurd (omega (arith, size-bytes source 32 d))
 
   -- one source node more
   pub table-next : (s : ℕ) → s < length source → (kids : List ℕ) → KidsOf (tree source) s kids → (before best : List ℕ)
-      → NodeTo before kids ends source target s (length target) best → Truth (tree source) (tree target) (bestBy before) (s + 1)
+      → NodeTo before kids ends source target s (reachBy s (length target)) best → Truth (tree source) (tree target) (bestBy before) (s + 1)
       → Truth (tree source) (tree target) (bestBy best) s
   unfolding S T
-  table-next s h kids k before best w truth a t l g i = by-node (ℕ-discrete a s)
+  table-next s h kids k before best w truth a t l g i root = by-node (ℕ-discrete a s)
     where
       sized : size S ≡ length source
       sized = size-bytes source 32 d
@@ -234,9 +246,9 @@ module _ (source target : List ℕ) (d : Draws 32 source) (e : Draws 64 target) 
           hi : endBy ends t ≡ end T t
           hi = end-byte target 64 e ends n t t-in
 
-      here : Entry S T (Fits S T) (bestBy best) s t (bestBy best s t)
-      here =
-          let b = w .entries t t-in in
+      here : (s ≡ 0 → t ≡ 0) → Entry S T (Fits S T) (bestBy best) s t (bestBy best s t)
+      here r =
+          let b = w .entries t (in-reach s t (length target) t-in r) in
           let w-t : width (subtree T t) ≡ getD target t 0 = width-byte target 64 e t t-in in
           let hi : endBy ends t ≡ end T t = end-byte target 64 e ends n t t-in in
           record {
@@ -246,24 +258,26 @@ module _ (source target : List ℕ) (d : Draws 32 source) (e : Draws 64 target) 
           }
 
       by-node : Dec (a ≡ s) → Entry S T (Fits S T) (bestBy best) a t (bestBy best a t)
-      by-node (yes q) = subst (λ (b : ℕ). Entry S T (Fits S T) (bestBy best) b t (bestBy best b t)) (sym q) here
+      by-node (yes q) = subst (λ (b : ℕ). Entry S T (Fits S T) (bestBy best) b t (bestBy best b t)) (sym q) (here (λ z. root (q ∙ z)))
       by-node (no q) =
           let later : s < a = omega arith in
           subst (Entry S T (Fits S T) (bestBy best) a t) (behind a t later)
           (entry-map S T (Fits S T) (bestBy before) (bestBy best) a t (bestBy before a t) i
           (λ j x r o. behind (kid S a j) x (deeper j r later))
-          (truth a t (omega arith) g i))
+          (truth a t (omega arith) g i root))
         where
           deeper : (j : ℕ) → j < width (subtree S a) → s < a → s < kid S a j
           deeper j r later = omega (arith, childOf-after S a (width (subtree S a) - j) (has-kid S a j g r))
 
   -- the same from the node before s on
-  pub table-back : (s : ℕ) → 0 < s → s ≤ length source → (kids : List ℕ) → KidsOf (tree source) (s - 1) kids → (before best : List ℕ)
-      → NodeTo before kids ends source target (s - 1) (length target) best → Truth (tree source) (tree target) (bestBy before) s
-      → Truth (tree source) (tree target) (bestBy best) (s - 1)
-  table-back s p h kids k before best w truth =
+  pub table-back : (s : ℕ) → 0 < s → s ≤ length source → (kids : List ℕ) → KidsOf (tree source) (s - 1) kids
+      → (count : ℕ) → count ≡ reachBy (s - 1) (length target) → (before best : List ℕ) → NodeTo before kids ends source target (s - 1) count best
+      → Truth (tree source) (tree target) (bestBy before) s → Truth (tree source) (tree target) (bestBy best) (s - 1)
+  table-back s p h kids k count c before best w truth =
       let e : s ≡ s - 1 + 1 = omega arith in
-      table-next (s - 1) (omega arith) kids k before best w (subst (Truth (tree source) (tree target) (bestBy before)) e truth)
+      table-next (s - 1) (omega arith) kids k before best
+      (subst (λ (n : ℕ). NodeTo before kids ends source target (s - 1) n best) c w)
+      (subst (Truth (tree source) (tree target) (bestBy before)) e truth)
 
 pub table-end : (S T : Topo) (best : ℕ → ℕ → ℕ) (n : ℕ) → n ≤ 0 → Truth S T best n → Truth S T best 0
 table-end S T best n h truth = λ s t l. truth s t (omega arith)

@@ -12,12 +12,12 @@
 //
 // The contract of `search` cites embedding_laws/specs/Least, which a reader has to believe; the other definitions are for private functions.
 ghost use mathlib.Core.Path.{_≡_};
-ghost use Prim.Native.Nat.{_≤_, _<_, _*_, _+_, min};
+ghost use Prim.Native.Nat.{_≤_, _<_, _*_, _+_, _-_, min};
 ghost use lib.ListN.{length};
 ghost use Rattle.topology.specs.Reader.{tree};
 ghost use Rattle.embedding_laws.specs.Sets.{power, none};
-ghost use Rattle.embedding_laws.specs.Tables.{Ends, Frame, endBy, triedBy, RowTried, ChildTried, RowCopied, RowFilled, LastRow, BranchOf, PlacedBelow, Room, NodeFrame, Draws, Pair, bestBy};
-ghost use Rattle.embedding_laws.specs.Meaning.{KidsOf, EntryBy, NodeTo, Truth, Different, Put, ReadTo};
+ghost use Rattle.embedding_laws.specs.Tables.{Ends, Frame, endBy, cell, Turns, RowTried, ChildTried, RowCopied, RowFilled, LastRow, BranchOf, PlacedBelow, Room, NodeFrame, Draws, Pair, bestBy};
+ghost use Rattle.embedding_laws.specs.Meaning.{KidsOf, EntryBy, reachBy, NodeTo, Truth, Different, Put, ReadTo};
 ghost use Rattle.embedding_laws.specs.Least.{noneFault, leastMap, padded, searchFault, searchMap};
 use two_trees::branch_ends;
 use two_trees::trees_fault;
@@ -69,29 +69,27 @@ fn lesser(x: u64, y: u64) -> u64
     if x < y { x } else { y }
 }
 
-// What the entry of row `p` for a set becomes when a child of the given power may go to p: `here` is the child's part of the number, and
-// the others go where p's branch ends.
+// What the entry of row `p` for a set becomes when a child of the set, of the given power, may go to p: `here` is the child's part of the
+// number, and the others go where p's branch ends.
 fn tried(go: &[u64], p: usize, end: usize, set: usize, power: usize, here: u64) -> u64
-    requires { ⌜ Room (now go) × (p < 64) × (end ≤ 64) × (set < 256) × (0 < power) × (here ≤ none) ⌝ }
-    ensures { λ r. ⌜ r ≡ triedBy (now (go .entry)) p end power here set ⌝ }
+    requires { ⌜ Room (now go) × (p < 64) × (end ≤ 64) × (set < 256) × (power ≤ set) × (here ≤ none) ⌝ }
+    ensures { λ r. ⌜ r ≡ min (cell (now (go .entry)) p set) (here + cell (now (go .entry)) end (set - power)) ⌝ }
 {
-    let least = go[p * 256 + set];
-    if set / power % 2 == 0 {
-        return least;
-    }
-    lesser(least, here + go[end * 256 + (set - power)])
+    lesser(go[p * 256 + set], here + go[end * 256 + (set - power)])
 }
 
-// Tries a child at `p` in every entry of row p.
+// Tries a child at `p` in every entry of row p whose set holds it. Half of the sets do, by turns of the child's power.
 fn try_child(go: &mut [u64], p: usize, end: usize, sets: usize, power: usize, here: u64)
-    requires { ⌜ Room (now go) × (p < end) × (end ≤ 64) × (sets ≤ 256) × (0 < power) × (here ≤ none) ⌝ }
+    requires { ⌜ Room (now go) × (p < end) × (end ≤ 64) × Turns sets power × (here ≤ none) ⌝ }
     ensures { λ r. ⌜ RowTried (now (go .entry)) p end power here sets (now (go .exit)) ⌝ }
 {
-    let mut set = 0;
-    while set < sets {
+    let half = sets / 2;
+    let mut n = 0;
+    while n < half {
+        let set = n * 2 - n % power + power;
         let least = tried(go, p, end, set, power, here);
         go[p * 256 + set] = least;
-        set += 1;
+        n += 1;
     }
 }
 
@@ -106,7 +104,7 @@ fn try_at(
     power: usize,
     weight: u64,
 )
-    requires { ⌜ (length (now best) ≡ 2048) × (kid < 32) × Room (now go) × (p < end) × (end ≤ 64) × (sets ≤ 256) × (0 < power) × (weight ≤ 4398046511104) ⌝ }
+    requires { ⌜ (length (now best) ≡ 2048) × (kid < 32) × Room (now go) × (p < end) × (end ≤ 64) × Turns sets power × (weight ≤ 4398046511104) ⌝ }
     ensures { λ r. ⌜ ChildTried (bestBy (now (best .entry)) kid p) (now (go .entry)) p end power (p * weight) sets (now (go .exit)) ⌝ }
 {
     if NONE <= best[kid * 64 + p] {
@@ -210,7 +208,14 @@ fn entry(
     place(best, kids, children as usize, ends, go, t)
 }
 
-// Fills in the table's entries for source node `s`.
+// How many of the target's nodes a source node may go to: by rule 2 the root goes to the first.
+fn reach(node: usize, nodes: usize) -> usize
+    ensures { λ r. ⌜ r ≡ reachBy node nodes ⌝ }
+{
+    if node == 0 { 1 } else { nodes }
+}
+
+// Fills in the table's entries for source node `s` and the first `count` target nodes.
 fn fill_node(
     source: &[u8],
     target: &[u8],
@@ -219,12 +224,13 @@ fn fill_node(
     best: &mut [u64],
     go: &mut [u64],
     s: usize,
+    count: usize,
 )
-    requires { ⌜ NodeFrame (now source) (now target) (now ends) (now kids) s × (length (now best) ≡ 2048) × Room (now go) ⌝ }
-    ensures { λ r. ⌜ NodeTo (now (best .entry)) (now (kids .entry)) (now (ends .entry)) (now (source .entry)) (now (target .entry)) s (length (now (target .entry))) (now (best .exit)) × Room (now (go .exit)) ⌝ }
+    requires { ⌜ NodeFrame (now source) (now target) (now ends) (now kids) s × (length (now best) ≡ 2048) × Room (now go) × (count ≤ length (now target)) ⌝ }
+    ensures { λ r. ⌜ NodeTo (now (best .entry)) (now (kids .entry)) (now (ends .entry)) (now (source .entry)) (now (target .entry)) s count (now (best .exit)) × Room (now (go .exit)) ⌝ }
 {
     let mut t = 0;
-    while t < target.len() {
+    while t < count {
         let least = entry(best, kids, source[s], ends, go, target[t], t);
         best[s * 64 + t] = least;
         t += 1;
@@ -247,7 +253,8 @@ fn fill_table(
     while 0 < s {
         s -= 1;
         let kids = kids_of(source, source_ends, s);
-        fill_node(source, target, &kids, target_ends, best, go, s);
+        let count = reach(s, target.len());
+        fill_node(source, target, &kids, target_ends, best, go, s, count);
     }
 }
 

@@ -11,16 +11,15 @@ use Rattle.embedding_search.proofs.fill_node.Statement.{statement}
 use Rattle.embedding_search.proofs.fill_node.Tie as tie
 
 abbrev Inv-loop : tie.InvT-loop
-Inv-loop source target kids ends best₀ go₀ s t₀ best go t = (t ≤ length target) × NodeTo best₀ kids ends source target s t best × Room go
+Inv-loop source target kids ends best₀ go₀ s count t₀ best go t = NodeTo best₀ kids ends source target s t best × Room go
 
 abbrev μ-loop : tie.MeasureT-loop
-μ-loop source target kids ends best₀ go₀ s t₀ best go t = length target - t
+μ-loop source target kids ends best₀ go₀ s count t₀ best go t = count - t
 
 loop-holds : tie.Need-loop-holds Inv-loop μ-loop
 loop-holds c =
     let args = c .before .before .before .before .args in
     let pre = c .before .before .before .before .pre in (
-      omega arith,
       node-start (now (args .source)) (now (args .target)) (now (args .ends)) (now (args .kids)) (args .s) (pre .0)
           (now (args .best)) (pre .1),
       pre .2,
@@ -34,7 +33,8 @@ shared-slice-read-entry c =
 shared-slice-read-entry-2 : tie.Need-shared-slice-read-entry-2 Inv-loop μ-loop
 shared-slice-read-entry-2 c =
     let loop-test = c .before .before .before .before .loop-test in
-    loop-test .taken
+    let pre = c .before .before .before .before .before .before .before .before .before .before .pre in
+    omega (arith, loop-test .taken, pre .3)
 
 entry-requires : tie.Need-entry-requires Inv-loop μ-loop
 entry-requires c κs =
@@ -43,42 +43,42 @@ entry-requires c κs =
     let args = c .before .before .before .before .before .before .before .before .before .before .args in
     let pre = c .before .before .before .before .before .before .before .before .before .before .pre in (
       node-frame (now (args .source)) (now (args .target)) (now (args .ends)) (now (args .kids)) (args .s) (pre .0)
-          (now (args .best)) (pre .1) _ _ _ (loop .inv .1) (loop .inv .2),
-      pre .0 .branch _ (loop-test .taken),
+          (now (args .best)) (pre .1) _ _ _ (loop .inv .0) (loop .inv .1),
+      pre .0 .branch _ (omega (arith, loop-test .taken, pre .3)),
       omega
-          (arith, pre .0 .there, pre .0 .source-fits, pre .0 .target-fits, loop-test .taken),
+          (arith, pre .0 .there, pre .0 .source-fits, pre .0 .target-fits, pre .3, loop-test .taken),
     )
 
 mul-best : tie.Need-mul-best Inv-loop μ-loop
 mul-best c =
     let loop-test = c .before .before .before .before .before .before .before .loop-test in
     let pre = c .before .before .before .before .before .before .before .before .before .before .before .before .before .pre in
-    omega (arith, pre .0 .there, pre .0 .source-fits, pre .0 .target-fits, loop-test .taken)
+    omega (arith, pre .0 .there, pre .0 .source-fits, pre .0 .target-fits, pre .3, loop-test .taken)
 
 add-best : tie.Need-add-best Inv-loop μ-loop
 add-best c =
     let loop-test = c .before .before .before .before .before .before .before .loop-test in
     let pre = c .before .before .before .before .before .before .before .before .before .before .before .before .before .pre in
-    omega (arith, pre .0 .there, pre .0 .source-fits, pre .0 .target-fits, loop-test .taken)
+    omega (arith, pre .0 .there, pre .0 .source-fits, pre .0 .target-fits, pre .3, loop-test .taken)
 
 mul-best-2 : tie.Need-mul-best-2 Inv-loop μ-loop
 mul-best-2 c =
     let loop-test = c .before .before .before .before .before .before .before .loop-test in
     let pre = c .before .before .before .before .before .before .before .before .before .before .before .before .before .pre in
-    omega (arith, pre .0 .there, pre .0 .source-fits, pre .0 .target-fits, loop-test .taken)
+    omega (arith, pre .0 .there, pre .0 .source-fits, pre .0 .target-fits, pre .3, loop-test .taken)
 
 slice-write-best : tie.Need-slice-write-best Inv-loop μ-loop
 slice-write-best c =
     let loop-test = c .before .before .before .before .before .before .before .loop-test in
     let loop = c .before .before .before .before .before .before .before .before .loop in
     let pre = c .before .before .before .before .before .before .before .before .before .before .before .before .before .pre in
-    omega (arith, pre .0 .there, pre .0 .source-fits, pre .0 .target-fits, loop-test .taken, loop .inv .1 .places)
+    omega (arith, pre .0 .there, pre .0 .source-fits, pre .0 .target-fits, pre .3, loop-test .taken, loop .inv .0 .places)
 
 add-t : tie.Need-add-t Inv-loop μ-loop
 add-t c =
     let loop-test = c .before .before .before .before .before .before .before .loop-test in
     let pre = c .before .before .before .before .before .before .before .before .before .before .before .before .before .pre in
-    omega (arith, pre .0 .there, pre .0 .source-fits, pre .0 .target-fits, loop-test .taken)
+    omega (arith, pre .0 .there, pre .0 .source-fits, pre .0 .target-fits, pre .3, loop-test .taken)
 
 loop-less : tie.Need-loop-less Inv-loop μ-loop
 loop-less c =
@@ -93,9 +93,8 @@ loop-again c =
     let args = c .before .before .before .before .before .before .before .before .before .before .before .before .before .args
     in
     let pre = c .before .before .before .before .before .before .before .before .before .before .before .before .before .pre in (
-      omega (arith, loop-test .taken),
       node-next (now (args .source)) (now (args .target)) (now (args .ends)) (now (args .kids))
-          (args .s) (pre .0) (now (args .best)) (pre .1) _ _ (loop .inv .1) (loop-test .taken) _ (entry .ensures .0),
+          (args .s) (pre .0) (now (args .best)) (pre .1) _ _ (loop .inv .0) (omega (arith, loop-test .taken, pre .3)) _ (entry .ensures .0),
       entry
           .ensures .1,
     )
@@ -104,13 +103,13 @@ same-length : tie.Need-same-length Inv-loop μ-loop
 same-length c =
     let loop = c .before .loop in
     let pre = c .before .before .before .before .before .before .pre in
-    loop .inv .1 .places ∙ sym (pre .1)
+    loop .inv .0 .places ∙ sym (pre .1)
 
 same-length-2 : tie.Need-same-length-2 Inv-loop μ-loop
 same-length-2 c =
     let loop = c .before .loop in
     let pre = c .before .before .before .before .before .before .pre in
-    loop .inv .2 .places ∙ sym (pre .2 .places)
+    loop .inv .1 .places ∙ sym (pre .2 .places)
 
 returns : tie.Need-returns Inv-loop μ-loop
 returns c =
@@ -118,8 +117,8 @@ returns c =
     let args = c .before .before .before .before .before .before .args in
     let pre = c .before .before .before .before .before .before .pre in (
       node-end (now (args .source)) (now (args .target)) (now (args .ends)) (now (args .kids)) (args .s) (pre .0)
-          (now (args .best)) (pre .1) _ _ (loop .inv .1) (loop .inv .0) (c .loop-test .left),
-      loop .inv .2,
+          (now (args .best)) (pre .1) _ _ _ (loop .inv .0) (c .loop-test .left),
+      loop .inv .1,
     )
 
 pub fill-node-spec : {M : Type 1} → statement M
