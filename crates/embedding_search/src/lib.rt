@@ -16,7 +16,7 @@ ghost use Prim.Native.Nat.{_≤_, _<_, _*_, _+_, _-_, min};
 ghost use lib.ListN.{length};
 ghost use Rattle.topology.specs.Reader.{tree};
 ghost use Rattle.embedding_laws.specs.Sets.{power, none};
-ghost use Rattle.embedding_laws.specs.Tables.{Ends, Frame, endBy, cell, Turns, RowTried, ChildTried, RowCopied, RowFilled, LastRow, BranchOf, PlacedBelow, Room, NodeFrame, Draws, Pair, bestBy};
+ghost use Rattle.embedding_laws.specs.Tables.{Ends, Frame, endBy, cell, Turns, RowTried, ChildTried, RowCopied, RowFilled, LastRow, Scanned, Started, BranchOf, PlacedBelow, Room, NodeFrame, Draws, Pair, bestBy};
 ghost use Rattle.embedding_laws.specs.Meaning.{KidsOf, EntryBy, reachBy, NodeTo, Truth, Different, Put, ReadTo};
 ghost use Rattle.embedding_laws.specs.Least.{noneFault, leastMap, padded, searchFault, searchMap};
 use two_trees::branch_ends;
@@ -164,22 +164,36 @@ fn last_row(go: &mut [u64], hi: usize, sets: usize)
     }
 }
 
-// The least placing of all children below target node `t`.
+// The row that a scan down from `end` begins with. Where the scan before began at the same end, `hi`, its lowest row is `low`, and this one
+// goes on from there.
+fn start_row(go: &mut [u64], low: usize, hi: usize, end: usize, sets: usize) -> usize
+    requires { ⌜ Room (now go) × (end ≤ 64) × (sets ≤ 256) ⌝ }
+    ensures { λ r. ⌜ Started (now (go .entry)) low hi end sets r (now (go .exit)) ⌝ }
+{
+    if end == hi {
+        return low;
+    }
+    last_row(go, end, sets);
+    end
+}
+
+// The least placing of all children below target node `t`, after a scan from `hi` down to `low`.
 fn place(
     best: &[u64],
     kids: &[usize; 8],
     children: usize,
     ends: &[usize; 64],
     go: &mut [u64],
+    low: usize,
+    hi: usize,
     t: usize,
 ) -> u64
-    requires { ⌜ Frame (now best) (now kids) (now ends) children (now go) × BranchOf (now ends) t × (t < 64) ⌝ }
+    requires { ⌜ Frame (now best) (now kids) (now ends) children (now go) × BranchOf (now ends) t × (t < 64) × Scanned (now best) (now kids) (now ends) children (now go) low hi × (t < low) ⌝ }
     ensures { λ r. ⌜ PlacedBelow (now (best .entry)) (now (kids .entry)) (now (ends .entry)) children t (now (go .exit)) r ⌝ }
 {
     let sets = sets_of(children);
-    let hi = ends[t];
-    last_row(go, hi, sets);
-    let mut p = hi;
+    let end = ends[t];
+    let mut p = start_row(go, low, hi, end, sets);
     while t + 1 < p {
         p -= 1;
         fill_row(best, kids, children, ends, go, p, sets);
@@ -187,25 +201,52 @@ fn place(
     go[(t + 1) * 256 + (sets - 1)]
 }
 
-// The table's entry for a source node and a target node `t`, by their numbers of children: nothing where rule 3 forbids it.
+// An entry of the table, and how far down and from where its rows were scanned.
+struct Entered {
+    least: u64,
+    low: usize,
+    hi: usize,
+}
+
+// The table's entry for a source node and a target node `t`, by their numbers of children: nothing where rule 3 forbids it, and nothing
+// for a node with children at a leaf.
 fn entry(
     best: &[u64],
     kids: &[usize; 8],
     children: u8,
     ends: &[usize; 64],
     go: &mut [u64],
+    low: usize,
+    hi: usize,
     width: u8,
     t: usize,
-) -> u64
-    requires { ⌜ Frame (now best) (now kids) (now ends) children (now go) × BranchOf (now ends) t × (t < 64) ⌝ }
-    ensures { λ r. ⌜ EntryBy (now (best .entry)) (now (kids .entry)) (now (ends .entry)) children width t r × Room (now (go .exit)) ⌝ }
+) -> Entered
+    requires { ⌜ Frame (now best) (now kids) (now ends) children (now go) × BranchOf (now ends) t × (t < 64) × Scanned (now best) (now kids) (now ends) children (now go) low hi × (t < low) ⌝ }
+    ensures { λ r. ⌜ EntryBy (now (best .entry)) (now (kids .entry)) (now (ends .entry)) children width t (r .least) × Room (now (go .exit)) × Scanned (now (best .entry)) (now (kids .entry)) (now (ends .entry)) children (now (go .exit)) (r .low) (r .hi) × (t < r .low) ⌝ }
 {
+    let end = ends[t];
     if children == 0 {
         if width != 0 {
-            return NONE;
+            return Entered {
+                least: NONE,
+                low,
+                hi,
+            };
+        }
+    } else {
+        if end == t + 1 {
+            return Entered {
+                least: NONE,
+                low,
+                hi,
+            };
         }
     }
-    place(best, kids, children as usize, ends, go, t)
+    Entered {
+        least: place(best, kids, children as usize, ends, go, low, hi, t),
+        low: t + 1,
+        hi: end,
+    }
 }
 
 // How many of the target's nodes a source node may go to: by rule 2 the root goes to the first.
@@ -227,13 +268,17 @@ fn fill_node(
     count: usize,
 )
     requires { ⌜ NodeFrame (now source) (now target) (now ends) (now kids) s × (length (now best) ≡ 2048) × Room (now go) × (count ≤ length (now target)) ⌝ }
-    ensures { λ r. ⌜ NodeTo (now (best .entry)) (now (kids .entry)) (now (ends .entry)) (now (source .entry)) (now (target .entry)) s count (now (best .exit)) × Room (now (go .exit)) ⌝ }
+    ensures { λ r. ⌜ NodeTo (now (best .entry)) (now (kids .entry)) (now (ends .entry)) (now (source .entry)) (now (target .entry)) s 0 count (now (best .exit)) × Room (now (go .exit)) ⌝ }
 {
-    let mut t = 0;
-    while t < count {
-        let least = entry(best, kids, source[s], ends, go, target[t], t);
-        best[s * 64 + t] = least;
-        t += 1;
+    let mut t = count;
+    let mut low = 64;
+    let mut hi = 0;
+    while 0 < t {
+        t -= 1;
+        let entered = entry(best, kids, source[s], ends, go, low, hi, target[t], t);
+        best[s * 64 + t] = entered.least;
+        low = entered.low;
+        hi = entered.hi;
     }
 }
 
