@@ -6,9 +6,11 @@
 // nodes p, from the end of t's branch down to t + 1, meets the children's images one after the other: for each set of children p is
 // skipped, or one child of the set goes to p and the others go where p's branch has ended. The map is read off from the root.
 //
-// At one node p a source node with k children takes (k + 1) * 2^k steps. A target node lies in the branches of at most 9 nodes, so all
-// scans of one source node meet at most 9 * 64 nodes. All k together are at most 31 and each is at most 8, so that the sum of
-// (k + 1) * 2^k stays below 9000: about five million steps in all, about 2 ms on the slowest pair that was found.
+// At one node p a source node with k children takes 2^k steps, and 2^(k - 1) for each child, in whose sets alone it is tried: together
+// (k + 2) * 2^(k - 1). A target node lies in the branches of at most 9 nodes, so all scans of one source node meet at most 9 * 64 nodes;
+// they meet fewer where branches end together, since a scan goes on from the one before it that began at the same end. The root is tried
+// at the target's root alone. All k together are at most 31 and each is at most 8, so that the sum of (k + 2) * 2^(k - 1) stays below
+// 4500: about two and a half million steps in all, about 1 ms on the slowest pair that was found.
 //
 // The contract of `search` cites embedding_laws/specs/Least, which a reader has to believe; the other definitions are for private functions.
 ghost use mathlib.Core.Path.{_≡_};
