@@ -8,7 +8,7 @@
 //
 // At one node p a source node with k children takes 2^k steps, and 2^(k - 1) for each child, in whose sets alone it is tried: together
 // (k + 2) * 2^(k - 1). A target node lies in the branches of at most 9 nodes, so all scans of one source node meet at most 9 * 64 nodes;
-// they meet fewer where branches end together, since a scan goes on from the one before it that began at the same end. The root is tried
+// they meet fewer where branches end together, since a scan goes on from the one before it if that began at the same end. The root is tried
 // at the target's root alone. All k together are at most 31 and each is at most 8, so that the sum of (k + 2) * 2^(k - 1) stays below
 // 4500: about two and a half million steps in all, about 1 ms on the slowest pair that was found.
 //
@@ -179,7 +179,7 @@ fn start_row(go: &mut [u64], low: usize, hi: usize, end: usize, sets: usize) -> 
     end
 }
 
-// The least placing of all children below target node `t`, after a scan from `hi` down to `low`.
+// The least placing of all children below target node `t`; the last scan went from `hi` down to `low`.
 fn place(
     best: &[u64],
     kids: &[usize; 8],
@@ -203,7 +203,7 @@ fn place(
     go[(t + 1) * 256 + (sets - 1)]
 }
 
-// An entry of the table, and how far down and from where its rows were scanned.
+// An entry of the table, and the lowest row and the end of the last scan.
 struct Entered {
     least: u64,
     low: usize,
@@ -258,7 +258,8 @@ fn reach(node: usize, nodes: usize) -> usize
     if node == 0 { 1 } else { nodes }
 }
 
-// Fills in the table's entries for source node `s` and the first `count` target nodes.
+// Fills in the table's entries for source node `s` and the first `count` target nodes, from the last of these to the first, so that a scan
+// may go on from the one before it. No branch ends at 0: there is none before the first.
 fn fill_node(
     source: &[u8],
     target: &[u8],

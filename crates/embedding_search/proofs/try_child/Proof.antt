@@ -1,7 +1,6 @@
 -- `try_child` meets its contract. The child is tried in the first n of the sets that hold it.
-use borrow.Author.Needs.{needs}
 use mathlib.Core.Path.{sym, _∙_}
-use Prim.Native.Nat.{_≤_, _<_, _-_, _*_}
+use Prim.Native.Nat.{_-_}
 use native.Mathlib.Nat.{mod-le}
 use native.Mathlib.Omega.{arith}
 use Rattle.embedding_laws.specs.Sets.{holding}
@@ -48,7 +47,7 @@ tried-requires c κs =
     let pre = c .before .before .before .before .pre in (
       record { places = loop .inv .row .places; bound = loop .inv .row .bound },
       omega (arith, pre .1, pre .2),
-      pre .2,
+      omega (arith, pre .1, pre .2),
       omega (arith, holding-in _ _ _ (pre .3) (loop-test .taken), pre .3 .few),
       omega arith,
       pre .4,
