@@ -43,12 +43,12 @@ module _ {P : Type 0} where
   -- ---- by node number
 
   -- the head of a node's queue
-  abbrev headOf : ℕ → List (Entry P) → Taken
-  headOf n [] = taken n 0 0
-  headOf n (e ∷ es) = takenAt n e
+  abbrev pub headTaken : ℕ → List (Entry P) → Taken
+  headTaken n [] = taken n 0 0
+  headTaken n (e ∷ es) = takenAt n e
 
   abbrev pub headAt : Queues P → ℕ → Taken
-  headAt q n = headOf n (q n)
+  headAt q n = headTaken n (q n)
 
   -- below child i + 1 of an assembled forest
   wayIn-nth : (ts : Forest) (q : Queues P) (k i : ℕ) → i < count ts
@@ -81,7 +81,7 @@ module _ {P : Type 0} where
           ap (λ (x : List (Entry P)). way (pnode x (assembleAll ts q (suc k))) k) e
           ∙ ap (λ (x : List Taken). taken k (suc i) n ∷ x)
           (wayIn-nth ts q (suc k) i h ∙ ap (λ (j : ℕ). way (assemble (nth ts i) q j) j) m ∙ w)
-          ∙ ap (λ (x : List (Entry P)). headOf k x ∷ map (headAt q) ns) (sym e)
+          ∙ ap (λ (x : List (Entry P)). headTaken k x ∷ map (headAt q) ns) (sym e)
 
       by-test : (n i : ℕ) (l : List (Entry P)) → q k ≡ entry n (child (suc i)) ∷ l → (b : Bool) → ltb i (count ts) ≡ b → Below
           → Heads (node ts) k q (pick b (through k (descent left (nth ts i) (kidAt (node ts) k i) q)) none)
@@ -92,7 +92,7 @@ module _ {P : Type 0} where
           → Heads (node ts) k q (descentBy l (count ts) k (λ i. descent left (nth ts i) (kidAt (node ts) k i) q))
       by-head [] e r = tt
       by-head (entry n (packet p) ∷ l) e r =
-          ap (λ (x : List (Entry P)). way (pnode x (assembleAll ts q (suc k))) k) e ∙ ap (λ (x : List (Entry P)). headOf k x ∷ []) (sym e)
+          ap (λ (x : List (Entry P)). way (pnode x (assembleAll ts q (suc k))) k) e ∙ ap (λ (x : List (Entry P)). headTaken k x ∷ []) (sym e)
       by-head (entry n (child zero) ∷ l) e r = tt
       by-head (entry n (child (suc i)) ∷ l) e r = by-test n i l e (ltb i (count ts)) refl r
 
