@@ -5,7 +5,7 @@
 //! alone. A state goes in and comes out by value, so that the time of one copy
 //! of a state stands first.
 
-use linduvar_tests::plain::{PlainAnswer, PlainPath, PlainState};
+use linduvar_tests::plain::{PlainAnswer, PlainPath, PlainPopped, PlainState};
 use linduvar_tests::queue_tree::{self, QueueTree, Step, MOST_PACKETS};
 use linduvar_tests::random::Random;
 use linduvar_tests::rattle_queue_tree;
@@ -102,7 +102,7 @@ impl Filled {
     }
 
     /// A pop that departs.
-    pub fn pop(&self) -> PlainAnswer {
+    pub fn pop(&self) -> PlainPopped {
         rattle_queue_tree::pop(black_box(&self.state))
     }
 
