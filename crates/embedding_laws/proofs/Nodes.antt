@@ -1,13 +1,12 @@
 -- The loops that fill the table `best`: one source node's entries, then all source nodes from the last to the first. What the code's
 -- lists hold is brought over to the two trees that the bytes draw.
 use mathlib.Core.Path.{_≡_, refl, sym, ap, _∙_, subst}
-use Prim.Native.Nat.{ℕ, _+_, _*_, _-_, _≤_, _<_}
-use native.Mathlib.Nat.{not-suc-le-zero}
+use Prim.Native.Nat.{ℕ, zero, suc, _+_, _*_, _-_, _≤_, _<_}
 use native.Mathlib.Decide.{ℕ-discrete}
 use native.Mathlib.Omega.{arith}
 use mathlib.Core.List.{List}
-use mathlib.Core.Bool.{true}
-use lib.ListN.{length, getD, set, replicate, length-set, length-replicate}
+use mathlib.Core.Bool.{true, false}
+use lib.ListN.{length, getD, set, replicate, length-set, length-replicate, getD-replicate}
 use lib.Seq.{getD-set-same, getD-set-other}
 use Rattle.topology.specs.Tree.{Topo, width, size}
 use Rattle.topology.specs.Address.{subtree}
@@ -18,10 +17,11 @@ use Rattle.topology.proofs.Children.{HasChild, childOf-lt, childOf-after, paren
 use Rattle.topology.proofs.Decoding.{length-code, byte-width}
 use Rattle.topology.proofs.Lookup.{end-code}
 use Rattle.embedding_laws.specs.Sets.{none}
-use Rattle.embedding_laws.specs.Placing.{Placed}
-use Rattle.embedding_laws.specs.Tables.{Ends, bestBy, canBy, endBy, Frame, BranchOf, PlacedBelow, Room, NodeFrame, Draws}
-use Rattle.embedding_laws.specs.Meaning.{end, kid, full, Fits, PlacedAt, Entry, Truth, KidsOf, PlacedBy, EntryBy, NodeTo, Different}
+use Rattle.embedding_laws.specs.Placing.{Member, Placed}
+use Rattle.embedding_laws.specs.Tables.{Ends, bestBy, canBy, endBy, Frame, BranchOf, PlacedBelow, Scanned, Room, NodeFrame, Draws}
+use Rattle.embedding_laws.specs.Meaning.{end, kid, full, Fits, PlacedAt, Entry, Truth, KidsOf, PlacedBy, EntryBy, reachBy, NodeTo, Different}
 use Rattle.embedding_laws.proofs.Placing.{placed-map}
+use Rattle.embedding_laws.proofs.Cells.{scanned-same}
 use Rattle.embedding_laws.proofs.Local.{end-after, end-within}
 use Rattle.embedding_laws.proofs.Program.{has-kid, entry-map}
 
@@ -39,6 +39,19 @@ pub entry-placed : (best kids ends : List ℕ) (c w t : ℕ) → (c ≡ 0 → w 
     → EntryBy best kids ends c w t v
 entry-placed best kids ends c w t k go v p =
     record { bound = p .bound; lower = λ h. p .least .lower; fits = λ h. k; attained = p .least .attained }
+
+-- no node is below a leaf
+pub entry-leaf : (best kids ends : List ℕ) (c w t : ℕ) → (c ≡ 0 → ⊥) → endBy ends t ≡ t + 1 → EntryBy best kids ends c w t none
+entry-leaf best kids ends c w t d e =
+    record {
+      bound = omega arith;
+      lower = λ k ys q. absurd (omega (arith, q .from 0 first, q .to 0 first));
+      fits = λ h. absurd (omega arith);
+      attained = λ h. absurd (omega arith);
+    }
+  where
+    first : Member (replicate c true) 0
+    first = getD-replicate c 0 true false (omega arith)
 
 entryBy-map : (best other kids ends : List ℕ) (c w t v : ℕ)
     → ((j x : ℕ) → j < c → bestBy best (getD kids j 0) x ≡ bestBy other (getD kids j 0) x)
@@ -64,46 +77,92 @@ entryBy-map best other kids ends c w t v same e =
         placed-map (canBy other kids) (canBy best kids) (endBy ends) (endBy ends) (endBy ends t) (replicate c true) (t + 1) ys
         (λ j x l g o. rw (same j x (in-full j l)) o) (λ x g. refl)
 
-module _ (source target ends kids : List ℕ) (s : ℕ) (f : NodeFrame source target ends kids s) (before : List ℕ) (places : length before ≡ 2048) where
-  pub node-start : NodeTo before kids ends source target s 0 before
-  node-start = record { places = places; kept = λ i h. refl; entries = λ t h. absurd (not-suc-le-zero h) }
+-- One source node's entries for the target nodes from t on and before count, and the rows of the last scan.
+pub record Filled (before kids ends source target : List ℕ) (s t count : ℕ) (best go : List ℕ) (low hi : ℕ) : Type 0 where
+  pub upto : t ≤ count
+  pub node : NodeTo before kids ends source target s t count best
+  pub room : Room go
+  pub above : t ≤ low
+  pub scanned : Scanned best kids ends (getD source s 0) go low hi
 
-  pub node-frame : (n : ℕ) (best go : List ℕ) → NodeTo before kids ends source target s n best → Room go → Frame best kids ends (getD source s 0) go
-  node-frame n best go w r =
+module _ (source target ends kids : List ℕ) (s : ℕ) (f : NodeFrame source target ends kids s) (before : List ℕ) (places : length before ≡ 2048)
+    (count : ℕ) (all : count ≤ length target) where
+  pub node-start : (go : List ℕ) → Room go → Filled before kids ends source target s count count before go 64 0
+  node-start go r =
+      record {
+        upto = omega arith;
+        node = record { places = places; kept = λ i h. refl; entries = λ t h g. absurd (omega arith) };
+        room = r;
+        above = omega (arith, f .target-fits);
+        scanned = record { some = λ h. absurd (omega arith); rows = λ q a b. absurd (omega arith) };
+      }
+
+  pub node-frame : (t low hi : ℕ) (best go : List ℕ) → Filled before kids ends source target s t count best go low hi
+      → Frame best kids ends (getD source s 0) go
+  node-frame t low hi best go w =
       record {
         few = f .few;
-        best-places = w .places;
+        best-places = w .node .places;
         kids-small = f .small;
         ends-small = f .ends-small;
-        go-places = r .places;
-        go-bound = r .bound;
+        go-places = w .room .places;
+        go-bound = w .room .bound;
       }
 
-  pub node-next : (n : ℕ) (best : List ℕ) → NodeTo before kids ends source target s n best → n < length target → (v : ℕ)
-      → EntryBy best kids ends (getD source s 0) (getD target n 0) n v → NodeTo before kids ends source target s (n + 1) (set best (s * 64 + n) v)
-  node-next n best w h v e =
+  pub node-next : (t low hi : ℕ) (best go : List ℕ) → Filled before kids ends source target s t count best go low hi → 0 < t → (v : ℕ)
+      → EntryBy best kids ends (getD source s 0) (getD target (t - 1) 0) (t - 1) v
+      → (after : List ℕ) → Room after → (low′ hi′ : ℕ) → t - 1 < low′ → Scanned best kids ends (getD source s 0) after low′ hi′
+      → Filled before kids ends source target s (t - 1) count (set best (s * 64 + (t - 1)) v) after low′ hi′
+  node-next t low hi best go w h v e after r low′ hi′ a sc =
       record {
-        places = length-set best (s * 64 + n) v ∙ w .places;
-        kept = λ i g. getD-set-other best (s * 64 + n) i v 0 (omega (arith, f .target-fits)) ∙ w .kept i g;
-        entries = λ t g. here-or-before t g (ℕ-discrete t n);
+        upto = omega (arith, w .upto);
+        node = record {
+          places = length-set best (s * 64 + n) v ∙ w .node .places;
+          kept = λ i g. getD-set-other best (s * 64 + n) i v 0 (omega (arith, inside)) ∙ w .node .kept i g;
+          entries = λ x g l. here-or-behind x g l (ℕ-discrete x n);
+        };
+        room = r;
+        above = omega arith;
+        scanned = scanned-same best (set best (s * 64 + n) v) kids ends (getD source s 0) after low′ hi′
+            (λ j x l. sym (getD-set-other best (s * 64 + n) (getD kids j 0 * 64 + x) v 0 (omega (arith, inside, f .after j l)))) sc;
       }
     where
+      n : ℕ
+      n = t - 1
+
+      inside : n < 64
+      inside = omega (arith, w .upto, f .target-fits)
+
       behind : (j x : ℕ) → j < getD source s 0 → bestBy best (getD kids j 0) x ≡ bestBy before (getD kids j 0) x
-      behind j x l = w .kept (getD kids j 0 * 64 + x) (omega (arith, f .after j l))
+      behind j x l = w .node .kept (getD kids j 0 * 64 + x) (omega (arith, f .after j l))
 
-      here-or-before : (t : ℕ) → t < n + 1 → Dec (t ≡ n) → EntryBy before kids ends (getD source s 0) (getD target t 0) t (bestBy (set best (s * 64 + n) v) s t)
-      here-or-before t g (yes q) =
+      here-or-behind : (x : ℕ) → n ≤ x → x < count → Dec (x ≡ n) → EntryBy before kids ends (getD source s 0) (getD target x 0) x (bestBy (set best (s * 64 + n) v) s x)
+      here-or-behind x g l (yes q) =
           let there : getD (set best (s * 64 + n) v) (s * 64 + n) 0 ≡ v =
-          getD-set-same best (s * 64 + n) v 0 (omega (arith, w .places, f .there, f .source-fits, f .target-fits)) in
+          getD-set-same best (s * 64 + n) v 0 (omega (arith, w .node .places, f .there, f .source-fits, inside)) in
           rw (q, there) (entryBy-map best before kids ends (getD source s 0) (getD target n 0) n v behind e)
-      here-or-before t g (no d) =
-          let there : getD (set best (s * 64 + n) v) (s * 64 + t) 0 ≡ getD best (s * 64 + t) 0 =
-          getD-set-other best (s * 64 + n) (s * 64 + t) v 0 (omega arith) in
-          rw there (w .entries t (omega arith))
+      here-or-behind x g l (no d) =
+          let there : getD (set best (s * 64 + n) v) (s * 64 + x) 0 ≡ getD best (s * 64 + x) 0 =
+          getD-set-other best (s * 64 + n) (s * 64 + x) v 0 (omega arith) in
+          rw there (w .node .entries x (omega arith) l)
 
-  pub node-end : (n : ℕ) (best : List ℕ) → NodeTo before kids ends source target s n best → n ≤ length target → length target ≤ n
-      → NodeTo before kids ends source target s (length target) best
-  node-end n best w l g = record { places = w .places; kept = w .kept; entries = λ t h. w .entries t (omega arith) }
+  pub node-end : (t low hi : ℕ) (best go : List ℕ) → Filled before kids ends source target s t count best go low hi → t ≤ 0
+      → NodeTo before kids ends source target s 0 count best
+  node-end t low hi best go w g =
+      record { places = w .node .places; kept = w .node .kept; entries = λ x a l. w .node .entries x (omega arith) l }
+
+-- the target nodes that a source node may go to
+pub reach-other : (s n : ℕ) → (s ≡ 0 → ⊥) → n ≡ reachBy s n
+reach-other zero n d = absurd (d refl)
+reach-other (suc s) n d = refl
+
+pub reach-within : (s n : ℕ) → 0 < n → reachBy s n ≤ n
+reach-within zero n h = h
+reach-within (suc s) n h = omega arith
+
+in-reach : (s t n : ℕ) → t < n → (s ≡ 0 → t ≡ 0) → t < reachBy s n
+in-reach zero t n l r = omega (arith, r refl)
+in-reach (suc s) t n l r = l
 
 -- The trees that the bytes draw.
 module _ (bytes : List ℕ) (limit : ℕ) (d : Draws limit bytes) where
@@ -184,14 +243,14 @@ module _ (source target : List ℕ) (d : Draws 32 source) (e : Draws 64 target) 
 
   -- no source node is behind the last
   pub table-start : (best : List ℕ) → Truth (tree source) (tree target) (bestBy best) (length source)
-  table-start best s t l h g = absurd (omega (arith, size-bytes source 32 d))
+  table-start best s t l h g r = absurd (omega (arith, size-bytes source 32 d))
 
   -- one source node more
   pub table-next : (s : ℕ) → s < length source → (kids : List ℕ) → KidsOf (tree source) s kids → (before best : List ℕ)
-      → NodeTo before kids ends source target s (length target) best → Truth (tree source) (tree target) (bestBy before) (s + 1)
+      → NodeTo before kids ends source target s 0 (reachBy s (length target)) best → Truth (tree source) (tree target) (bestBy before) (s + 1)
       → Truth (tree source) (tree target) (bestBy best) s
   unfolding S T
-  table-next s h kids k before best w truth a t l g i = by-node (ℕ-discrete a s)
+  table-next s h kids k before best w truth a t l g i root = by-node (ℕ-discrete a s)
     where
       sized : size S ≡ length source
       sized = size-bytes source 32 d
@@ -234,9 +293,9 @@ module _ (source target : List ℕ) (d : Draws 32 source) (e : Draws 64 target) 
           hi : endBy ends t ≡ end T t
           hi = end-byte target 64 e ends n t t-in
 
-      here : Entry S T (Fits S T) (bestBy best) s t (bestBy best s t)
-      here =
-          let b = w .entries t t-in in
+      here : (s ≡ 0 → t ≡ 0) → Entry S T (Fits S T) (bestBy best) s t (bestBy best s t)
+      here r =
+          let b = w .entries t (omega arith) (in-reach s t (length target) t-in r) in
           let w-t : width (subtree T t) ≡ getD target t 0 = width-byte target 64 e t t-in in
           let hi : endBy ends t ≡ end T t = end-byte target 64 e ends n t t-in in
           record {
@@ -246,24 +305,26 @@ module _ (source target : List ℕ) (d : Draws 32 source) (e : Draws 64 target) 
           }
 
       by-node : Dec (a ≡ s) → Entry S T (Fits S T) (bestBy best) a t (bestBy best a t)
-      by-node (yes q) = subst (λ (b : ℕ). Entry S T (Fits S T) (bestBy best) b t (bestBy best b t)) (sym q) here
+      by-node (yes q) = subst (λ (b : ℕ). Entry S T (Fits S T) (bestBy best) b t (bestBy best b t)) (sym q) (here (λ z. root (q ∙ z)))
       by-node (no q) =
           let later : s < a = omega arith in
           subst (Entry S T (Fits S T) (bestBy best) a t) (behind a t later)
           (entry-map S T (Fits S T) (bestBy before) (bestBy best) a t (bestBy before a t) i
           (λ j x r o. behind (kid S a j) x (deeper j r later))
-          (truth a t (omega arith) g i))
+          (truth a t (omega arith) g i root))
         where
           deeper : (j : ℕ) → j < width (subtree S a) → s < a → s < kid S a j
           deeper j r later = omega (arith, childOf-after S a (width (subtree S a) - j) (has-kid S a j g r))
 
   -- the same from the node before s on
-  pub table-back : (s : ℕ) → 0 < s → s ≤ length source → (kids : List ℕ) → KidsOf (tree source) (s - 1) kids → (before best : List ℕ)
-      → NodeTo before kids ends source target (s - 1) (length target) best → Truth (tree source) (tree target) (bestBy before) s
-      → Truth (tree source) (tree target) (bestBy best) (s - 1)
-  table-back s p h kids k before best w truth =
+  pub table-back : (s : ℕ) → 0 < s → s ≤ length source → (kids : List ℕ) → KidsOf (tree source) (s - 1) kids
+      → (count : ℕ) → count ≡ reachBy (s - 1) (length target) → (before best : List ℕ) → NodeTo before kids ends source target (s - 1) 0 count best
+      → Truth (tree source) (tree target) (bestBy before) s → Truth (tree source) (tree target) (bestBy best) (s - 1)
+  table-back s p h kids k count c before best w truth =
       let e : s ≡ s - 1 + 1 = omega arith in
-      table-next (s - 1) (omega arith) kids k before best w (subst (Truth (tree source) (tree target) (bestBy before)) e truth)
+      table-next (s - 1) (omega arith) kids k before best
+      (subst (λ (n : ℕ). NodeTo before kids ends source target (s - 1) 0 n best) c w)
+      (subst (Truth (tree source) (tree target) (bestBy before)) e truth)
 
 pub table-end : (S T : Topo) (best : ℕ → ℕ → ℕ) (n : ℕ) → n ≤ 0 → Truth S T best n → Truth S T best 0
 table-end S T best n h truth = λ s t l. truth s t (omega arith)

@@ -184,9 +184,12 @@ module _ (S T : Topo) where
       opens-from zero s f h = absurd (omega arith)
       opens-from (suc fuel) s f h =
           let q = placing s h (λ j l. opens-from fuel (kid S s j) (later j l) (childOf-lt S s (width (subtree S s) - j) (has-kid S s j h l))) in
-          let e = truth s (image m s) (omega arith) h (p .within s h) .lower (allowed s h) (kidImages m s) q in
+          let e = truth s (image m s) (omega arith) h (p .within s h) (at-root s) .lower (allowed s h) (kidImages m s) q in
           omega (arith, pack-none (kidImages m s) (omega (arith, length-tabulate (width (subtree S s)) (λ j. image m (kid S s j)), few s h)) (images-small s h))
         where
+          at-root : (s : ℕ) → s ≡ 0 → image m s ≡ 0
+          at-root s z = rw z (p .root)
+
           later : (j : ℕ) → j < width (subtree S s) → size S ≤ kid S s j + fuel
           later j l = omega (arith, childOf-after S s (width (subtree S s) - j) (has-kid S s j h l))
 
@@ -215,9 +218,13 @@ module _ (S T : Topo) where
         number : pack images ≡ best s (image m s)
         kids : (j : ℕ) → j < width (subtree S s) → image m (kid S s j) ≡ getD images j 0
 
+      -- the table's entry for a node and its image
+      entry : (s : ℕ) → s < size S → Opened s → Entry S T fits best s (image m s) (best s (image m s))
+      entry s h o = truth s (image m s) (omega arith) h (o .node) (λ z. rw z (r .root))
+
       chosen : (s : ℕ) → s < size S → Opened s → Chosen s
       chosen s h o =
-          let a = truth s (image m s) (omega arith) h (o .node) .attained (o .is-open) in
+          let a = entry s h o .attained (o .is-open) in
           let ys = a .0 in
           let q = a .1 in
           let e = a .2 in
@@ -268,7 +275,7 @@ module _ (S T : Topo) where
       child-member s i h = full-member S s (width (subtree S s) - i) (omega (arith, h))
 
       all-allowed : (s : ℕ) → s < size S → fits s (image m s)
-      all-allowed s h = truth s (image m s) (omega arith) h (opened s h .node) .allowed (opened s h .is-open)
+      all-allowed s h = entry s h (opened s h) .allowed (opened s h .is-open)
 
       local : Local S T m
       local =
@@ -303,8 +310,7 @@ module _ (S T : Topo) where
           let placed : PlacedAt S T best s (image m s) zs =
           subst (λ (t : ℕ). PlacedAt S T best s t zs) e
           (placing l p a s (h .0) (λ j g. opens l p a (kid S s j) (childOf-lt S s (w - j) (has-kid S s j (h .0) g)))) in
-          let entry = truth s (image m s) (omega arith) (h .0) (f .node) in
-          let low = entry .lower (entry .allowed (f .is-open)) zs placed in
+          let low = entry s (h .0) f .lower (entry s (h .0) f .allowed (f .is-open)) zs placed in
           let long : length zs ≡ w = length-tabulate w (λ j. image l (kid S s j)) in
           let images-long : length (c .images) ≡ w = c .placed .long ∙ length-replicate w true in
           let at : (j : ℕ) → j < w → getD zs j 0 ≡ image l (kid S s j) = λ j g. getD-tabulate w (λ j. image l (kid S s j)) j 0 g in

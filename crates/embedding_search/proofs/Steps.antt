@@ -1,24 +1,12 @@
--- The small steps of the search: what one child offers, the set without it, and the number of sets. One law for each answer.
+-- The small steps of the search: what one child offers, and the number of sets. One law for each answer.
 use mathlib.Core.Path.{_≡_, refl, ap, _∙_}
-use Prim.Native.Nat.{ℕ, _+_, _*_, _-_, _/_, _%_, _≤_, _<_, _^_, min}
-use native.Mathlib.Nat.{le-of-lt, mul-le-mul-right, div-eq-of-lt}
+use Prim.Native.Nat.{ℕ, _+_, _*_, _≤_, _<_, _^_}
+use native.Mathlib.Nat.{le-of-lt, mul-le-mul-right}
 use native.Mathlib.Omega.{arith}
-use native.Mathlib.Decide.{decLt}
 use mathlib.Core.List.{List}
-use borrow.Author.Tests.{eq-eqb, ne-eqb}
 use Rattle.embedding_laws.specs.Sets.{power, none}
-use Rattle.embedding_laws.specs.Tables.{cell, triedBy, Room, RowTried, ChildTried}
+use Rattle.embedding_laws.specs.Tables.{Room, RowTried, ChildTried}
 use Rattle.embedding_laws.proofs.Cells.{power-128, power-next}
-
--- an entry where the child is not in the set, and where it is
-pub tried-absent : (go : List ℕ) (p end n pow here : ℕ) → n / pow % 2 ≡ 0 → cell go p n ≡ triedBy go p end pow here n
-unfolding triedBy
-tried-absent go p end n pow here e = rw (eq-eqb (n / pow % 2) 0 e)
-
-pub tried-member : (go : List ℕ) (p end n pow here x : ℕ) → (n / pow % 2 ≡ 0 → ⊥) → x ≡ min (cell go p n) (here + cell go end (n - pow))
-    → x ≡ triedBy go p end pow here n
-unfolding triedBy
-tried-member go p end n pow here x e q = rw (ne-eqb (n / pow % 2) 0 e) q
 
 -- a child that may not go to p leaves the row, and one that may is tried in it
 module _ (go : List ℕ) (entry p end pow here n : ℕ) where
@@ -35,14 +23,6 @@ module _ (go : List ℕ) (entry p end pow here n : ℕ) where
   pub open-tried : (after : List ℕ) → entry < none → RowTried go p end pow here n after → ChildTried entry go p end pow here n after
   open-tried after h t =
       record { places = t .places; bound = t .bound; kept = t .kept; shut = λ s. absurd (omega (arith, h, s)); cells = λ o. t .cells }
-
--- a child in the set can be taken out of its number
-pub member-power : (n pow : ℕ) → 0 < pow → (n / pow % 2 ≡ 0 → ⊥) → pow ≤ n
-member-power n pow p h = by-order (decLt n pow)
-  where
-    by-order : Dec (n < pow) → pow ≤ n
-    by-order (yes l) = absurd (h (ap (λ (x : ℕ). x % 2) (div-eq-of-lt l)))
-    by-order (no g) = omega arith
 
 -- the number of sets of the children before i
 pub record Doubling (k i sets : ℕ) : Type 0 where

@@ -6,18 +6,20 @@
 // nodes p, from the end of t's branch down to t + 1, meets the children's images one after the other: for each set of children p is
 // skipped, or one child of the set goes to p and the others go where p's branch has ended. The map is read off from the root.
 //
-// At one node p a source node with k children takes (k + 1) * 2^k steps. A target node lies in the branches of at most 9 nodes, so all
-// scans of one source node meet at most 9 * 64 nodes. All k together are at most 31 and each is at most 8, so that the sum of
-// (k + 1) * 2^k stays below 9000: about five million steps in all, about 2 ms on the slowest pair that was found.
+// At one node p a source node with k children takes 2^k steps, and 2^(k - 1) for each child, in whose sets alone it is tried: together
+// (k + 2) * 2^(k - 1). A target node lies in the branches of at most 9 nodes, so all scans of one source node meet at most 9 * 64 nodes;
+// they meet fewer where branches end together, since a scan goes on from the one before it if that began at the same end. The root is tried
+// at the target's root alone. All k together are at most 31 and each is at most 8, so that the sum of (k + 2) * 2^(k - 1) stays below
+// 4500: about two and a half million steps in all, about 1 ms on the slowest pair that was found.
 //
 // The contract of `search` cites embedding_laws/specs/Least, which a reader has to believe; the other definitions are for private functions.
 ghost use mathlib.Core.Path.{_≡_};
-ghost use Prim.Native.Nat.{_≤_, _<_, _*_, _+_, min};
+ghost use Prim.Native.Nat.{_≤_, _<_, _*_, _+_, _-_, min};
 ghost use lib.ListN.{length};
 ghost use Rattle.topology.specs.Reader.{tree};
 ghost use Rattle.embedding_laws.specs.Sets.{power, none};
-ghost use Rattle.embedding_laws.specs.Tables.{Ends, Frame, endBy, triedBy, RowTried, ChildTried, RowCopied, RowFilled, LastRow, BranchOf, PlacedBelow, Room, NodeFrame, Draws, Pair, bestBy};
-ghost use Rattle.embedding_laws.specs.Meaning.{KidsOf, EntryBy, NodeTo, Truth, Different, Put, ReadTo};
+ghost use Rattle.embedding_laws.specs.Tables.{Ends, Frame, endBy, cell, Turns, RowTried, ChildTried, RowCopied, RowFilled, LastRow, Scanned, Started, BranchOf, PlacedBelow, Room, NodeFrame, Draws, Pair, bestBy};
+ghost use Rattle.embedding_laws.specs.Meaning.{KidsOf, EntryBy, reachBy, NodeTo, Truth, Different, Put, ReadTo};
 ghost use Rattle.embedding_laws.specs.Least.{noneFault, leastMap, padded, searchFault, searchMap};
 use two_trees::branch_ends;
 use two_trees::trees_fault;
@@ -69,29 +71,27 @@ fn lesser(x: u64, y: u64) -> u64
     if x < y { x } else { y }
 }
 
-// What the entry of row `p` for a set becomes when a child of the given power may go to p: `here` is the child's part of the number, and
-// the others go where p's branch ends.
+// What the entry of row `p` for a set becomes when a child of the set, of the given power, may go to p: `here` is the child's part of the
+// number, and the others go where p's branch ends.
 fn tried(go: &[u64], p: usize, end: usize, set: usize, power: usize, here: u64) -> u64
-    requires { ⌜ Room (now go) × (p < 64) × (end ≤ 64) × (set < 256) × (0 < power) × (here ≤ none) ⌝ }
-    ensures { λ r. ⌜ r ≡ triedBy (now (go .entry)) p end power here set ⌝ }
+    requires { ⌜ Room (now go) × (p < 64) × (end ≤ 64) × (set < 256) × (power ≤ set) × (here ≤ none) ⌝ }
+    ensures { λ r. ⌜ r ≡ min (cell (now (go .entry)) p set) (here + cell (now (go .entry)) end (set - power)) ⌝ }
 {
-    let least = go[p * 256 + set];
-    if set / power % 2 == 0 {
-        return least;
-    }
-    lesser(least, here + go[end * 256 + (set - power)])
+    lesser(go[p * 256 + set], here + go[end * 256 + (set - power)])
 }
 
-// Tries a child at `p` in every entry of row p.
+// Tries a child at `p` in every entry of row p whose set holds it. Half of the sets do, by turns of the child's power.
 fn try_child(go: &mut [u64], p: usize, end: usize, sets: usize, power: usize, here: u64)
-    requires { ⌜ Room (now go) × (p < end) × (end ≤ 64) × (sets ≤ 256) × (0 < power) × (here ≤ none) ⌝ }
+    requires { ⌜ Room (now go) × (p < end) × (end ≤ 64) × Turns sets power × (here ≤ none) ⌝ }
     ensures { λ r. ⌜ RowTried (now (go .entry)) p end power here sets (now (go .exit)) ⌝ }
 {
-    let mut set = 0;
-    while set < sets {
+    let half = sets / 2;
+    let mut n = 0;
+    while n < half {
+        let set = n * 2 - n % power + power;
         let least = tried(go, p, end, set, power, here);
         go[p * 256 + set] = least;
-        set += 1;
+        n += 1;
     }
 }
 
@@ -106,7 +106,7 @@ fn try_at(
     power: usize,
     weight: u64,
 )
-    requires { ⌜ (length (now best) ≡ 2048) × (kid < 32) × Room (now go) × (p < end) × (end ≤ 64) × (sets ≤ 256) × (0 < power) × (weight ≤ 4398046511104) ⌝ }
+    requires { ⌜ (length (now best) ≡ 2048) × (kid < 32) × Room (now go) × (p < end) × (end ≤ 64) × Turns sets power × (weight ≤ 4398046511104) ⌝ }
     ensures { λ r. ⌜ ChildTried (bestBy (now (best .entry)) kid p) (now (go .entry)) p end power (p * weight) sets (now (go .exit)) ⌝ }
 {
     if NONE <= best[kid * 64 + p] {
@@ -166,22 +166,36 @@ fn last_row(go: &mut [u64], hi: usize, sets: usize)
     }
 }
 
-// The least placing of all children below target node `t`.
+// The row that a scan down from `end` begins with. Where the scan before began at the same end, `hi`, its lowest row is `low`, and this one
+// goes on from there.
+fn start_row(go: &mut [u64], low: usize, hi: usize, end: usize, sets: usize) -> usize
+    requires { ⌜ Room (now go) × (end ≤ 64) × (sets ≤ 256) ⌝ }
+    ensures { λ r. ⌜ Started (now (go .entry)) low hi end sets r (now (go .exit)) ⌝ }
+{
+    if end == hi {
+        return low;
+    }
+    last_row(go, end, sets);
+    end
+}
+
+// The least placing of all children below target node `t`; the last scan went from `hi` down to `low`.
 fn place(
     best: &[u64],
     kids: &[usize; 8],
     children: usize,
     ends: &[usize; 64],
     go: &mut [u64],
+    low: usize,
+    hi: usize,
     t: usize,
 ) -> u64
-    requires { ⌜ Frame (now best) (now kids) (now ends) children (now go) × BranchOf (now ends) t × (t < 64) ⌝ }
+    requires { ⌜ Frame (now best) (now kids) (now ends) children (now go) × BranchOf (now ends) t × (t < 64) × Scanned (now best) (now kids) (now ends) children (now go) low hi × (t < low) ⌝ }
     ensures { λ r. ⌜ PlacedBelow (now (best .entry)) (now (kids .entry)) (now (ends .entry)) children t (now (go .exit)) r ⌝ }
 {
     let sets = sets_of(children);
-    let hi = ends[t];
-    last_row(go, hi, sets);
-    let mut p = hi;
+    let end = ends[t];
+    let mut p = start_row(go, low, hi, end, sets);
     while t + 1 < p {
         p -= 1;
         fill_row(best, kids, children, ends, go, p, sets);
@@ -189,28 +203,63 @@ fn place(
     go[(t + 1) * 256 + (sets - 1)]
 }
 
-// The table's entry for a source node and a target node `t`, by their numbers of children: nothing where rule 3 forbids it.
+// An entry of the table, and the lowest row and the end of the last scan.
+struct Entered {
+    least: u64,
+    low: usize,
+    hi: usize,
+}
+
+// The table's entry for a source node and a target node `t`, by their numbers of children: nothing where rule 3 forbids it, and nothing
+// for a node with children at a leaf.
 fn entry(
     best: &[u64],
     kids: &[usize; 8],
     children: u8,
     ends: &[usize; 64],
     go: &mut [u64],
+    low: usize,
+    hi: usize,
     width: u8,
     t: usize,
-) -> u64
-    requires { ⌜ Frame (now best) (now kids) (now ends) children (now go) × BranchOf (now ends) t × (t < 64) ⌝ }
-    ensures { λ r. ⌜ EntryBy (now (best .entry)) (now (kids .entry)) (now (ends .entry)) children width t r × Room (now (go .exit)) ⌝ }
+) -> Entered
+    requires { ⌜ Frame (now best) (now kids) (now ends) children (now go) × BranchOf (now ends) t × (t < 64) × Scanned (now best) (now kids) (now ends) children (now go) low hi × (t < low) ⌝ }
+    ensures { λ r. ⌜ EntryBy (now (best .entry)) (now (kids .entry)) (now (ends .entry)) children width t (r .least) × Room (now (go .exit)) × Scanned (now (best .entry)) (now (kids .entry)) (now (ends .entry)) children (now (go .exit)) (r .low) (r .hi) × (t < r .low) ⌝ }
 {
+    let end = ends[t];
     if children == 0 {
         if width != 0 {
-            return NONE;
+            return Entered {
+                least: NONE,
+                low,
+                hi,
+            };
+        }
+    } else {
+        if end == t + 1 {
+            return Entered {
+                least: NONE,
+                low,
+                hi,
+            };
         }
     }
-    place(best, kids, children as usize, ends, go, t)
+    Entered {
+        least: place(best, kids, children as usize, ends, go, low, hi, t),
+        low: t + 1,
+        hi: end,
+    }
 }
 
-// Fills in the table's entries for source node `s`.
+// How many of the target's nodes a source node may go to: by rule 2 the root goes to the first.
+fn reach(node: usize, nodes: usize) -> usize
+    ensures { λ r. ⌜ r ≡ reachBy node nodes ⌝ }
+{
+    if node == 0 { 1 } else { nodes }
+}
+
+// Fills in the table's entries for source node `s` and the first `count` target nodes, from the last of these to the first, so that a scan
+// may go on from the one before it. No branch ends at 0: there is none before the first.
 fn fill_node(
     source: &[u8],
     target: &[u8],
@@ -219,15 +268,20 @@ fn fill_node(
     best: &mut [u64],
     go: &mut [u64],
     s: usize,
+    count: usize,
 )
-    requires { ⌜ NodeFrame (now source) (now target) (now ends) (now kids) s × (length (now best) ≡ 2048) × Room (now go) ⌝ }
-    ensures { λ r. ⌜ NodeTo (now (best .entry)) (now (kids .entry)) (now (ends .entry)) (now (source .entry)) (now (target .entry)) s (length (now (target .entry))) (now (best .exit)) × Room (now (go .exit)) ⌝ }
+    requires { ⌜ NodeFrame (now source) (now target) (now ends) (now kids) s × (length (now best) ≡ 2048) × Room (now go) × (count ≤ length (now target)) ⌝ }
+    ensures { λ r. ⌜ NodeTo (now (best .entry)) (now (kids .entry)) (now (ends .entry)) (now (source .entry)) (now (target .entry)) s 0 count (now (best .exit)) × Room (now (go .exit)) ⌝ }
 {
-    let mut t = 0;
-    while t < target.len() {
-        let least = entry(best, kids, source[s], ends, go, target[t], t);
-        best[s * 64 + t] = least;
-        t += 1;
+    let mut t = count;
+    let mut low = 64;
+    let mut hi = 0;
+    while 0 < t {
+        t -= 1;
+        let entered = entry(best, kids, source[s], ends, go, low, hi, target[t], t);
+        best[s * 64 + t] = entered.least;
+        low = entered.low;
+        hi = entered.hi;
     }
 }
 
@@ -247,7 +301,8 @@ fn fill_table(
     while 0 < s {
         s -= 1;
         let kids = kids_of(source, source_ends, s);
-        fill_node(source, target, &kids, target_ends, best, go, s);
+        let count = reach(s, target.len());
+        fill_node(source, target, &kids, target_ends, best, go, s, count);
     }
 }
 

@@ -3,7 +3,7 @@ use mathlib.Core.Path.{sym, _∙_}
 use Prim.Native.Nat.{_-_, _<_}
 use native.Mathlib.Omega.{arith}
 use denote.Ref.{now}
-use Rattle.embedding_laws.proofs.Cells.{power-some, power-128, power-256, weight-small, Trying, try-start, try-next, try-end}
+use Rattle.embedding_laws.proofs.Cells.{power-128, power-256, turns-of, weight-small, Trying, try-start, try-next, try-end}
 use Rattle.embedding_search.proofs.fill_row.Statement.{statement}
 use Rattle.embedding_search.proofs.fill_row.Tie as tie
 
@@ -64,8 +64,7 @@ try-at-requires c κs =
       record { places = loop .inv .places; bound = loop .inv .bound },
       pre .1,
       pre .0 .ends-small _,
-      omega (arith, pre .2, power-256 (args .children) (pre .0 .few)),
-      omega (arith, loop .inv .pow-is, power-some (loop .i)),
+      turns-of (args .children) (loop .i) _ _ (pre .0 .few) (loop-test .taken) (pre .2) (loop .inv .pow-is),
       omega (arith, loop .inv .wei-is, weight-small (loop .i) few),
     )
 

@@ -1,13 +1,14 @@
 -- `fill_table` meets its contract. The table is right from source node s on.
+use borrow.Author.Needs.{needs}
 use mathlib.Core.Path.{_≡_, sym, _∙_}
-use Prim.Native.Nat.{_≤_}
+use Prim.Native.Nat.{_≤_, _-_}
 use lib.ListN.{length}
 use native.Mathlib.Omega.{arith}
 use denote.Ref.{now}
 use Rattle.topology.specs.Reader.{tree}
 use Rattle.embedding_laws.specs.Tables.{bestBy, Room}
 use Rattle.embedding_laws.specs.Meaning.{Truth}
-use Rattle.embedding_laws.proofs.Nodes.{frame-of, table-start, table-back, table-end}
+use Rattle.embedding_laws.proofs.Nodes.{frame-of, reach-within, table-start, table-back, table-end}
 use Rattle.embedding_search.proofs.fill_table.Statement.{statement}
 use Rattle.embedding_search.proofs.fill_table.Tie as tie
 
@@ -37,41 +38,44 @@ kids-of-requires c κs =
     let pre = c .before .before .before .before .before .before .pre in
     (pre .0 .source-draws, pre .0 .source-table, omega (arith, loop .inv .0, c .loop-test .taken))
 
+reach-requires : tie.Need-reach-requires Inv-loop μ-loop
+reach-requires c κs = search needs
+
 fill-node-requires : tie.Need-fill-node-requires Inv-loop μ-loop
 fill-node-requires c κs =
-    let kids-of = c .before .before .before .kids-of in
-    let loop-test = c .before .before .before .before .loop-test in
-    let loop = c .before .before .before .before .before .loop in
-    let args = c .before .before .before .before .before .before .before .before .before .before .args in
-    let pre = c .before .before .before .before .before .before .before .before .before .before .pre in (
+    let reach = c .before .before .before .reach in
+    let kids-of = c .before .before .before .before .kids-of in
+    let loop-test = c .before .before .before .before .before .loop-test in
+    let loop = c .before .before .before .before .before .before .loop in
+    let args = c .before .before .before .before .before .before .before .before .before .before .before .args in
+    let pre = c .before .before .before .before .before .before .before .before .before .before .before .pre in (
       frame-of (now (args .source)) (now (args .target)) (pre .0 .source-draws) (pre .0 .target-draws) (now (args .target-ends))
           (pre .0 .target-table) _ (omega (arith, loop .inv .0, loop-test .taken)) _ (kids-of .ensures),
       loop .inv .1,
-      loop .inv
-          .2,
+      loop .inv .2,
+      omega (arith, reach .ensures, reach-within (loop .s - 1) _ (pre .0 .target-draws .some)),
     )
 
 loop-less : tie.Need-loop-less Inv-loop μ-loop
 loop-less c =
-    let loop-test = c .before .before .before .before .before .before .before .before .before .loop-test in
+    let loop-test = c .before .before .before .before .before .before .before .before .before .before .loop-test in
     omega (arith, loop-test .taken)
 
 loop-again : tie.Need-loop-again Inv-loop μ-loop
 loop-again c =
     let fill-node = c .before .before .before .before .fill-node in
-    let kids-of = c .before .before .before .before .before .before .before .before .kids-of in
-    let loop-test = c .before .before .before .before .before .before .before .before .before .loop-test in
-    let loop = c .before .before .before .before .before .before .before .before .before .before .loop in
-    let args = c .before .before .before .before .before .before .before .before .before .before .before .before .before
-    .before .before .args in
-    let pre = c .before .before .before .before .before .before .before .before .before .before .before .before .before .before
-    .before .pre in (
+    let reach = c .before .before .before .before .before .before .before .before .reach in
+    let kids-of = c .before .before .before .before .before .before .before .before .before .kids-of in
+    let loop-test = c .before .before .before .before .before .before .before .before .before .before .loop-test in
+    let loop = c .before .before .before .before .before .before .before .before .before .before .before .loop in
+    let args = c .before .before .before .before .before .before .before .before .before .before .before .before .before .before .before .before .args in
+    let pre = c .before .before .before .before .before .before .before .before .before .before .before .before .before .before .before .before .pre in (
       omega (arith, loop .inv .0),
       fill-node .ensures .0 .places,
       fill-node .ensures .1,
       table-back (now (args .source))
           (now (args .target)) (pre .0 .source-draws) (pre .0 .target-draws) (now (args .target-ends)) (pre .0 .target-table) _
-          (loop-test .taken) (loop .inv .0) _ (kids-of .ensures) _ _ (fill-node .ensures .0) (loop .inv .3),
+          (loop-test .taken) (loop .inv .0) _ (kids-of .ensures) _ (reach .ensures) _ _ (fill-node .ensures .0) (loop .inv .3),
     )
 
 same-length : tie.Need-same-length Inv-loop μ-loop
@@ -100,6 +104,7 @@ fill-table-spec =
     loop-holds
     sub-s
     kids-of-requires
+    reach-requires
     fill-node-requires
     loop-less
     loop-again

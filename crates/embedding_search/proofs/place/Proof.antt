@@ -2,33 +2,33 @@
 use mathlib.Core.Path.{refl, sym, _∙_}
 use native.Mathlib.Omega.{arith}
 use denote.Ref.{now}
-use Rattle.embedding_laws.proofs.Cells.{power-some, power-256, Filling, filling-start, filling-frame, filling-next, filling-end}
+use Rattle.embedding_laws.proofs.Cells.{power-some, power-256, Filling, filling-begin, filling-frame, filling-next, filling-end}
 use Rattle.embedding_search.proofs.place.Statement.{statement}
 use Rattle.embedding_search.proofs.place.Tie as tie
 
 abbrev Inv-loop : tie.InvT-loop
-Inv-loop best kids children ends go₀ t sets hi p₀ go p = Filling best kids ends children t p go
+Inv-loop best kids children ends go₀ low hi t sets end p₀ go p = Filling best kids ends children t p go
 
 abbrev μ-loop : tie.MeasureT-loop
-μ-loop best kids children ends go₀ t sets hi p₀ go p = p
+μ-loop best kids children ends go₀ low hi t sets end p₀ go p = p
 
 sets-of-requires : tie.Need-sets-of-requires Inv-loop μ-loop
 sets-of-requires c κs =
     let pre = c .before .before .pre in
     pre .0 .few
 
-mul-hi : tie.Need-mul-hi Inv-loop μ-loop
-mul-hi c =
+mul-end : tie.Need-mul-end Inv-loop μ-loop
+mul-end c =
     let pre = c .before .before .before .pre in
     omega (arith, pre .2)
 
-element-copy-out-hi : tie.Need-element-copy-out-hi Inv-loop μ-loop
-element-copy-out-hi c =
+element-copy-out-end : tie.Need-element-copy-out-end Inv-loop μ-loop
+element-copy-out-end c =
     let pre = c .before .before .before .pre in
     pre .2
 
-last-row-requires : tie.Need-last-row-requires Inv-loop μ-loop
-last-row-requires c κs =
+start-row-requires : tie.Need-start-row-requires Inv-loop μ-loop
+start-row-requires c κs =
     let sets-of = c .before .before .sets-of in
     let pre = c .before .before .before .before .before .pre in
     let args = c .before .before .before .before .before .args in (
@@ -40,12 +40,12 @@ last-row-requires c κs =
 
 loop-holds : tie.Need-loop-holds Inv-loop μ-loop
 loop-holds c =
-    let last-row = c .before .before .last-row in
+    let start-row = c .before .before .start-row in
     let sets-of = c .before .before .before .before .before .sets-of in
     let args = c .before .before .before .before .before .before .before .before .args in
     let pre = c .before .before .before .before .before .before .before .before .pre in
-    filling-start (now (args .best)) (now (args .kids)) (now (args .ends)) (args .children) (now (args .go)) (pre .0) (args .t)
-    (pre .1) _ (sets-of .ensures) _ (last-row .ensures)
+    filling-begin (now (args .best)) (now (args .kids)) (now (args .ends)) (args .children) (now (args .go)) (pre .0) (args .t)
+    (pre .1) _ _ (pre .3) (pre .4) _ (sets-of .ensures) _ _ (start-row .ensures)
 
 add-loop : tie.Need-add-loop Inv-loop μ-loop
 add-loop c =
@@ -151,9 +151,9 @@ place-spec =
     Inv-loop
     μ-loop
     sets-of-requires
-    mul-hi
-    element-copy-out-hi
-    last-row-requires
+    mul-end
+    element-copy-out-end
+    start-row-requires
     loop-holds
     add-loop
     sub-p

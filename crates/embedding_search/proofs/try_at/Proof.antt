@@ -29,13 +29,13 @@ mul-try-child : tie.Need-mul-try-child
 mul-try-child c =
     let args = c .before .before .before .before .before .args in
     let pre = c .before .before .before .before .before .pre in
-    omega (arith, here-fits (args .p) (args .weight) (omega (arith, pre .3, pre .4)) (pre .7))
+    omega (arith, here-fits (args .p) (args .weight) (omega (arith, pre .3, pre .4)) (pre .6))
 
 try-child-requires : tie.Need-try-child-requires
 try-child-requires c κs =
     let args = c .before .before .before .before .before .args in
     let pre = c .before .before .before .before .before .pre in
-    (pre .2, pre .3, pre .4, pre .5, pre .6, here-fits (args .p) (args .weight) (omega (arith, pre .3, pre .4)) (pre .7))
+    (pre .2, pre .3, pre .4, pre .5, here-fits (args .p) (args .weight) (omega (arith, pre .3, pre .4)) (pre .6))
 
 same-length : tie.Need-same-length
 same-length c =

@@ -44,7 +44,13 @@ pub fn run(random: &mut Random) {
     search("chains", &[(bunch(8, 3), bunch(7, 8))]);
     let stars = [vec![7], fan(8).repeat(3), vec![0; 4]].concat();
     let spine = [[8, 0, 0, 0, 0, 0, 0, 0].repeat(7), fan(7)].concat();
-    search("stars, a spine", &[(stars, spine)]);
+    let stalk = [vec![1; 6], vec![7], fan(8).repeat(6), fan(2)].concat();
+    search("stars, a spine", &[(stars.clone(), spine)]);
+    search("stars, a stalk", &[(stars.clone(), stalk)]);
+    // No two of these target nodes with children have branches that end together.
+    let fork = [vec![7], fan(8).repeat(5), fan(4), vec![0]].concat();
+    let forks = [vec![2; 6], fork, vec![0; 6]].concat();
+    search("stars, forks", &[(stars, forks)]);
     let source = [vec![8], fan(8), fan(8), fan(7), vec![0; 5]].concat();
     let few = [vec![8], fan(7).repeat(6), fan(8), vec![1; 5], vec![0]].concat();
     let enough = [vec![8], fan(7).repeat(5), fan(8), vec![0, 1], fan(8)].concat();
