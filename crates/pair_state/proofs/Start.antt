@@ -4,29 +4,21 @@ use mathlib.Core.Logic.{_≢_}
 use Prim.Native.Nat.{ℕ, zero, suc, _-_}
 use native.Mathlib.Omega.{arith}
 use mathlib.Core.List.{List, [], _++_}
-use mathlib.Core.Bool.{true}
 use lib.ListN.{length, take, replicate}
 use lib.Seq.{take-append-seam}
-use borrow.Author.Tests.{eq-eqb}
 use Rattle.topology.specs.Reader.{orElse, fault, tree}
-use Rattle.topology.specs.Tree.{code}
-use Rattle.topology.proofs.Reader.{drawn, fault-wider}
+use Rattle.topology.proofs.Reader.{fault-wider}
 use Rattle.topology.proofs.Lookup.{valid-size}
 use Rattle.topology.proofs.Refusals.{orElse-none}
-use Rattle.pifo.specs.Machine.{Machine}
 use Rattle.embedding_laws.specs.Rules.{Passes}
-use Rattle.embedding_laws.specs.Check.{mapFault}
 use Rattle.embedding_laws.specs.Least.{leastMap, noneFault, searchFault, searchMap}
 use Rattle.embedding_laws.proofs.Rules.{mapFault-none}
 use Rattle.embedding_laws.proofs.Searching.{search-map}
 use Rattle.simulation.proofs.Simulation.{paired-opened}
-use Rattle.queue_state.specs.State.{bytes, machine}
 use Rattle.queue_state.specs.Opening.{limitFault, openFault, Opens}
 use Rattle.queue_state.specs.declared.Opened.{Opened}
-use Rattle.queue_state.proofs.Formed.{formed}
-use Rattle.pair_state.specs.Pair.{mapped, InStep}
+use Rattle.pair_state.specs.Step.{InStep}
 use Rattle.pair_state.specs.Opening.{bothFault, OpensBoth}
-use Rattle.pair_state.proofs.Parts.{joined, not-source}
 
 -- refused by the search: no tree is opened
 pub search-refused : (source target : List ℕ) (limit number : ℕ) (map : List ℕ) (none : Opened) → number ≡ searchFault source target → number ≢ 0
@@ -36,49 +28,27 @@ unfolding bothFault openFault fault
 search-refused source target limit zero map none e z q o = absurd (z refl)
 search-refused source target limit (suc n) map none e z q o =
     record {
-      refusal = number;
+      refusal = ap (λ (f : ℕ). orElse f (limitFault limit)) e;
       drawn = λ r. absurd (omega arith);
       chip = λ r. absurd (omega arith);
       map = q;
       in-step = λ r. absurd (omega arith);
-      nothing = λ _. not-source (record { source = none .state; chip = none .state; map = map }) (o .nothing (λ r. first-is-1 (sym (o .refusal) ∙ r)));
+      nothing = λ _. let ill = o .nothing (λ r. first-is-1 (sym (o .refusal) ∙ r)) in (ill, ill);
     }
   where
-    number : suc n ≡ bothFault source target limit
-    number = ap (λ (f : ℕ). orElse f (limitFault limit)) e
-
     first-is-1 : openFault [] limit ≡ 0 → ⊥
     first-is-1 r = omega arith
 
--- What is opened: two trees with none of the faults, for a map that meets the rules.
-module _ (source target map : List ℕ) (f : fault 32 source ≡ 0) (g : fault 64 target ≡ 0) (E : Passes (tree source) (tree target) (take (length source) map))
-    (limit : ℕ) (x y : Opened) (o : Opens source limit x) (u : Opens target limit y) (z : x .refusal ≡ 0) (n : y .refusal ≡ 0) where
-  pub source-opened : bytes (x .state) ≡ source
-  unfolding machine
-  source-opened =
-      sym (drawn 64 (bytes (x .state)) (formed (x .state) (o .formed z) .valid))
-      ∙ ap (λ (m : Machine ℕ). code (m .topology)) (o .machine z)
-      ∙ drawn 32 source f
-
-  pub chip-opened : bytes (y .state) ≡ target
-  unfolding machine
-  chip-opened =
-      sym (drawn 64 (bytes (y .state)) (formed (y .state) (u .formed n) .valid))
-      ∙ ap (λ (m : Machine ℕ). code (m .topology)) (u .machine n)
-      ∙ drawn 64 target g
-
-  is-mapped : mapped (record { source = x .state; chip = y .state; map = map }) ≡ true
-  unfolding mapped
-  is-mapped =
-      rw (source-opened, chip-opened)
-      (eq-eqb (mapFault source target (take (length source) map)) 0 (mapFault-none source target (take (length source) map) .1 (f, g, E)))
-
-  pub opened-in-step : InStep (record { source = x .state; chip = y .state; map = map })
-  opened-in-step =
-      record {
-        formed = joined (record { source = x .state; chip = y .state; map = map }) (record { source = o .formed z; chip = u .formed n; mapped = is-mapped });
-        paired = rw (source-opened, chip-opened, o .machine z, u .machine n) (paired-opened (tree source) (tree target) (take (length source) map) E limit);
-      }
+-- two trees with none of the faults, opened, are in step for a map that meets the rules
+pub opened-in-step : (source target m : List ℕ) → fault 32 source ≡ 0 → fault 64 target ≡ 0 → Passes (tree source) (tree target) m
+    → (limit : ℕ) (x y : Opened) → Opens source limit x → Opens target limit y → x .refusal ≡ 0 → y .refusal ≡ 0 → InStep source target m (x .state) (y .state)
+opened-in-step source target m f g E limit x y o u z n =
+    record {
+      mapped = mapFault-none source target m .1 (f, g, E);
+      source-formed = o .formed z;
+      chip-formed = u .formed n;
+      paired = rw (o .machine z, u .machine n) (paired-opened (tree source) (tree target) m E limit);
+    }
 
 -- the number by which a tree with no fault is refused
 pub open-number : (bytes : List ℕ) (limit : ℕ) (x : Opened) → fault 64 bytes ≡ 0 → Opens bytes limit x → x .refusal ≡ limitFault limit
@@ -109,11 +79,12 @@ module _ (source target : List ℕ) (e : searchFault source target ≡ 0) where
   both-opened limit map q x y o u =
       let a = open-number source limit x (fault-wider 32 64 source (omega arith) (faultless .0)) o in
       let b = open-number target limit y (faultless .1) u in
+      let same : y .refusal ≡ x .refusal = b ∙ sym a in
       record {
         refusal = a ∙ ap (λ (f : ℕ). orElse f (limitFault limit)) (sym e);
         drawn = λ z. o .machine z;
-        chip = λ z. u .machine (b ∙ sym a ∙ z);
+        chip = λ z. u .machine (same ∙ z);
         map = q;
-        in-step = λ z. opened-in-step source target map (faultless .0) (faultless .1) (images-pass map q) limit x y o u z (b ∙ sym a ∙ z);
-        nothing = λ n. not-source (record { source = x .state; chip = y .state; map = map }) (o .nothing n);
+        in-step = λ z. opened-in-step source target (take (length source) map) (faultless .0) (faultless .1) (images-pass map q) limit x y o u z (same ∙ z);
+        nothing = λ n. (o .nothing n, u .nothing (λ z. n (sym same ∙ z)));
       }

@@ -1,4 +1,3 @@
--- To be believed: Pair (what a pair is, when its trees are in step), Opening and Counts (what the calls promise).
-pub mod Pair
+-- To believe: Step (when two trees are in step) and Opening (what an opening promises).
+pub mod Step
 pub mod Opening
-pub mod Counts

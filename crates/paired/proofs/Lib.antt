@@ -1,5 +1,3 @@
-pub mod Carrying
-pub mod Both
-pub mod Pushing
+pub mod Sides
 pub mod Demand
 pub mod Starred

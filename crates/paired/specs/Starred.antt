@@ -7,6 +7,7 @@ use Rattle.topology.specs.Reader.{fault, tree}
 use Rattle.pifo.specs.Tree.{step}
 use Rattle.pifo.specs.Machine.{Call, pushing, popping, Answer, accepted, departed, opened, answers}
 use Rattle.embedding_laws.specs.Least.{Found, nothing, list, leastMap, searchFault}
+use Rattle.queue_state.specs.State.{Packet}
 
 -- a source and a target; the search's number and its map
 abbrev pub pairs : List (List ℕ × List ℕ)
@@ -52,15 +53,15 @@ numbers = 1 ∷ 1 ∷ 2 ∷ 4 ∷ 0 ∷ 5 ∷ []
 
 -- Two packets, 1 and 2, down child 1 of the tree 1 0: the earlier with step rank 1 and leaf rank 9, the later with 4 and 2. The later leaves
 -- first.
-abbrev pub calls : List (Call ℕ)
+abbrev pub calls : List (Call Packet)
 calls = pushing (step 1 1 ∷ []) 9 1 ∷ pushing (step 1 4 ∷ []) 2 2 ∷ popping ∷ popping ∷ []
 
-abbrev pub answered : List (Answer ℕ)
-answered = accepted ∷ accepted ∷ departed 2 ∷ departed 1 ∷ []
+abbrev pub answered : List (Answer Packet)
+answered = accepted 1 ∷ accepted 2 ∷ departed 2 ∷ departed 1 ∷ []
 
 -- the whole table, and what it gives by the definitions
 abbrev pub Table : Type 0
-Table = List (ℕ × Found) × List ℕ × List (Answer ℕ)
+Table = List (ℕ × Found) × List ℕ × List (Answer Packet)
 
 abbrev pub given : Table
 given = (maps, numbers, answered)
