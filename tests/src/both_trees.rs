@@ -31,14 +31,14 @@ impl BothTrees {
         Ok(both)
     }
 
-    pub fn push(&mut self, path: &Path, packet: u32) -> Result<(), Refusal> {
+    pub fn push(&mut self, path: &Path, packet: u32) -> Result<usize, Refusal> {
         let answer = self.source.push(&path.steps, path.leaf_rank, packet);
         let carried = self.translator.carry(path);
         let chip =
             carried.and_then(|carried| self.chip.push(&carried.steps, carried.leaf_rank, packet));
         assert_eq!(answer, chip, "a push of {packet} along {path:?}");
         match answer {
-            Ok(()) => self.accepted += 1,
+            Ok(_) => self.accepted += 1,
             Err(Refusal::Full(_)) => self.turned_away = self.turned_away.saturating_add(1),
             Err(_) => {}
         }
@@ -47,8 +47,9 @@ impl BothTrees {
     }
 
     pub fn pop(&mut self) -> Result<u32, Refusal> {
-        let answer = self.source.pop();
-        assert_eq!(answer, self.chip.pop(), "a pop");
+        let answer = self.source.pop().map(|departure| departure.packet);
+        let chip = self.chip.pop().map(|departure| departure.packet);
+        assert_eq!(answer, chip, "a pop");
         if answer.is_ok() {
             self.departed += 1;
         }

@@ -11,10 +11,16 @@ pub fn scripts() -> Vec<(&'static str, Vec<u8>)> {
     let deep = opening(&chain(), &chain(), MOST_PACKETS);
     let lanes = opening(&[1, 0], &chains(), MOST_PACKETS);
     let chip = opening(&[1, 0], &full_chip(), MOST_PACKETS);
+    let (source, target) = largest_pair();
+    let largest = opening(&source, &target, MOST_PACKETS);
     let pop = |_: u32| vec![POP];
     vec![
         ("pops of an empty tree", filled(&alone, 0, &[], pop)),
         ("pops of empty trees, 2 in 64", filled(&chip, 0, &[], pop)),
+        (
+            "pops of empty trees, 32 in 64",
+            filled(&largest, 0, &[], pop),
+        ),
         ("push, pop, one node", filled(&alone, 0, &[], push_pop(&[]))),
         (
             "push, pop, one node, full",
@@ -111,6 +117,15 @@ fn chains() -> Vec<u8> {
 /// 64 nodes: one way of eight steps, and fans beside it.
 fn full_chip() -> Vec<u8> {
     [vec![8], chain()[1..].to_vec(), fan(7).repeat(6), fan(6)].concat()
+}
+
+/// 32 nodes and 64, with a map.
+pub fn largest_pair() -> (Vec<u8>, Vec<u8>) {
+    let fans = |count: u8| {
+        let all_but_one = fan(7).repeat(usize::from(count) - 1);
+        [vec![count], all_but_one, fan(6)].concat()
+    };
+    (fans(4), fans(8))
 }
 
 fn fan(children: u8) -> Vec<u8> {

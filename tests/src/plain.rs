@@ -1,11 +1,12 @@
-//! States, paths and answers as they cross the boundary to the Rattle library,
-//! laid out as C does. A path is the library's own; a state is written as plain
-//! numbers.
+//! States, paths, ways and answers as they cross the boundary to the Rattle
+//! library, laid out as C does. A path and a way are the library's own; a state
+//! is written as plain numbers.
 
-use crate::queue_tree::{Entry, Item, State, Step, MOST_ENTRIES};
+use crate::queue_tree::{Entry, Item, State, Step, Taken, MOST_ENTRIES};
 use crate::topology::TARGET_NODES;
 
-/// A path has room for one step more than the deepest tree takes.
+/// A path has room for one step more than the deepest tree takes; as many nodes
+/// are on the longest way of a pop.
 pub const MOST_STEPS: usize = 9;
 
 /// Where `tag` is 0 the child `child`, else the packet `packet`.
@@ -18,16 +19,25 @@ pub struct PlainEntry {
     pub packet: u32,
 }
 
+/// What stands beside the queues and their count of refusals.
 #[repr(C)]
 #[derive(Clone, Copy, Debug, PartialEq, Eq)]
-pub struct PlainState {
+pub struct PlainFrame {
     pub topology: [u8; TARGET_NODES],
     pub nodes: usize,
     pub limit: usize,
+}
+
+/// The queues stand one behind the other in the order of their nodes, each from
+/// its head on and as long as its length says. Behind the last node and the
+/// last entry there may be anything.
+#[repr(C)]
+#[derive(Clone, Copy, Debug, PartialEq, Eq)]
+pub struct PlainState {
+    pub frame: PlainFrame,
     pub refused: u32,
-    pub owners: [u8; MOST_ENTRIES],
+    pub lengths: [u16; TARGET_NODES],
     pub entries: [PlainEntry; MOST_ENTRIES],
-    pub used: usize,
 }
 
 #[repr(C)]
@@ -63,13 +73,37 @@ pub struct PlainOpened {
     pub refusal: u8,
 }
 
-/// 0 or the refusal, with the packet that departs or the refusals counted.
+/// 0 or the refusal, with the packets held after a push, the packet that
+/// departs or the refusals counted.
 #[repr(C)]
 #[derive(Clone, Copy)]
 pub struct PlainAnswer {
     pub state: PlainState,
     pub number: u8,
     pub value: u32,
+}
+
+#[repr(C)]
+#[derive(Clone, Copy, Debug, PartialEq, Eq)]
+pub struct PlainTaken {
+    pub node: u8,
+    pub child: u8,
+    pub rank: u32,
+}
+
+/// Zeros past the last node.
+#[repr(C)]
+#[derive(Clone, Copy, Debug, PartialEq, Eq)]
+pub struct PlainWay {
+    pub taken: [PlainTaken; MOST_STEPS],
+    pub count: usize,
+}
+
+#[repr(C)]
+#[derive(Clone, Copy)]
+pub struct PlainPopped {
+    pub answer: PlainAnswer,
+    pub way: PlainWay,
 }
 
 /// 0 or the refusal, with a count.
@@ -115,72 +149,72 @@ impl PlainEntry {
 }
 
 impl PlainState {
-    /// The state, the queue of node 0 first and so on.
     pub fn write(state: &State) -> PlainState {
         let mut plain = PlainState {
-            topology: [0; TARGET_NODES],
-            nodes: state.queues.len(),
-            limit: state.limit,
+            frame: PlainFrame {
+                topology: [0; TARGET_NODES],
+                nodes: state.queues.len(),
+                limit: state.limit,
+            },
             refused: state.refused,
-            owners: [0; MOST_ENTRIES],
+            lengths: [0; TARGET_NODES],
             entries: [PlainEntry::NONE; MOST_ENTRIES],
-            used: 0,
         };
-        plain.topology[..state.topology.len()].copy_from_slice(&state.topology);
+        plain.frame.topology[..state.topology.len()].copy_from_slice(&state.topology);
         for (node, queue) in state.queues.iter().enumerate() {
             for entry in queue {
-                plain
-                    .append(node as u8, entry)
-                    .expect("room for each entry");
+                plain.append(node, entry).expect("room for each entry");
             }
         }
         plain
     }
 
-    /// None if there are more nodes or entries than there can be, or an entry
-    /// at a node that is not there.
+    /// None if there are more nodes or entries than there can be.
     pub fn read(&self) -> Option<State> {
-        if self.nodes > TARGET_NODES || self.used > MOST_ENTRIES {
-            return None;
-        }
-        let mut queues = vec![Vec::new(); self.nodes];
-        for at in 0..self.used {
-            let queue = queues.get_mut(usize::from(self.owners[at]))?;
-            queue.push(self.entries[at].read());
+        let frame = &self.frame;
+        let mut entries = &self.entries[..];
+        let mut queues = Vec::new();
+        for &length in self.lengths.get(..frame.nodes)? {
+            let (queue, behind) = entries.split_at_checked(usize::from(length))?;
+            queues.push(queue.iter().map(PlainEntry::read).collect());
+            entries = behind;
         }
         Some(State {
-            topology: self.topology[..self.nodes].to_vec(),
-            limit: self.limit,
+            topology: frame.topology[..frame.nodes].to_vec(),
+            limit: frame.limit,
             refused: self.refused,
             queues,
         })
     }
 
-    pub fn set(&mut self, at: usize, owner: u8, entry: &Entry) {
-        self.owners[at] = owner;
-        self.entries[at] = PlainEntry::write(entry);
+    /// Where the queue of a node begins.
+    fn start(&self, node: usize) -> usize {
+        let before = &self.lengths[..node];
+        before.iter().map(|&length| usize::from(length)).sum()
     }
 
-    /// Adds an entry behind all others; None if there is no room.
-    pub fn append(&mut self, owner: u8, entry: &Entry) -> Option<()> {
-        if self.used == MOST_ENTRIES {
+    /// How many entries there are.
+    pub fn used(&self) -> usize {
+        self.start(self.frame.nodes)
+    }
+
+    /// Adds an entry behind all others of a queue; None if there is no room.
+    pub fn append(&mut self, node: usize, entry: &Entry) -> Option<()> {
+        let (at, used) = (self.start(node + 1), self.used());
+        if used == MOST_ENTRIES {
             return None;
         }
-        self.set(self.used, owner, entry);
-        self.used += 1;
+        self.entries.copy_within(at..used, at + 1);
+        self.entries[at] = PlainEntry::write(entry);
+        self.lengths[node] += 1;
         Some(())
     }
 
-    /// Takes an entry out.
-    pub fn remove(&mut self, at: usize) {
-        for behind in at + 1..self.used {
-            self.set(
-                behind - 1,
-                self.owners[behind],
-                &self.entries[behind].read(),
-            );
-        }
-        self.used -= 1;
+    /// Takes an entry out of the queue that it is in.
+    pub fn remove(&mut self, node: usize, at: usize) {
+        let used = self.used();
+        self.entries.copy_within(at + 1..used, at);
+        self.lengths[node] -= 1;
     }
 
     /// The same with every entry written anew, those behind the last included,
@@ -215,5 +249,23 @@ impl PlainPath {
         steps
             .map(|&PlainStep { child, rank }| Step { child, rank })
             .collect()
+    }
+}
+
+impl PlainWay {
+    pub fn write(way: &[Taken]) -> PlainWay {
+        let none = PlainTaken {
+            node: 0,
+            child: 0,
+            rank: 0,
+        };
+        let mut plain = PlainWay {
+            taken: [none; MOST_STEPS],
+            count: way.len(),
+        };
+        for (place, &Taken { node, child, rank }) in plain.taken.iter_mut().zip(way) {
+            *place = PlainTaken { node, child, rank };
+        }
+        plain
     }
 }

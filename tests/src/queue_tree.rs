@@ -53,8 +53,25 @@ pub struct Step {
     pub rank: u32,
 }
 
+/// What a pop takes at a node: the head of its queue, with the child that it
+/// names, or 0 at a leaf.
+#[derive(Clone, Copy, Debug, PartialEq, Eq)]
+pub struct Taken {
+    pub node: u8,
+    pub child: u8,
+    pub rank: u32,
+}
+
+/// A packet that departs, and what is taken on its way from the root on.
+#[derive(Clone, Debug, PartialEq, Eq)]
+pub struct Departure {
+    pub packet: u32,
+    pub way: Vec<Taken>,
+}
+
 #[derive(Clone)]
 struct Node {
+    number: u8,
     /// The head comes first.
     queue: Vec<Entry>,
     children: Vec<Node>,
@@ -84,9 +101,20 @@ impl Node {
         }
     }
 
-    fn pop(&mut self) -> u32 {
-        match self.queue.remove(0).item {
-            Item::Child(child) => self.child(child).expect("a child of the node").pop(),
+    /// Adds what it takes, here and below, to the way.
+    fn pop(&mut self, way: &mut Vec<Taken>) -> u32 {
+        let Entry { rank, item } = self.queue.remove(0);
+        let child = match item {
+            Item::Child(child) => child,
+            Item::Packet(_) => 0,
+        };
+        way.push(Taken {
+            node: self.number,
+            child,
+            rank,
+        });
+        match item {
+            Item::Child(child) => self.child(child).expect("a child of the node").pop(way),
             Item::Packet(packet) => packet,
         }
     }
@@ -129,7 +157,8 @@ impl QueueTree {
         })
     }
 
-    pub fn push(&mut self, steps: &[Step], leaf_rank: u32, packet: u32) -> Result<(), Refusal> {
+    /// Answers how many packets are then held.
+    pub fn push(&mut self, steps: &[Step], leaf_rank: u32, packet: u32) -> Result<usize, Refusal> {
         let mut node = &mut self.root;
         for step in steps {
             node = node.child(step.child).ok_or(Refusal::NoSuchChild)?;
@@ -143,14 +172,16 @@ impl QueueTree {
             return Err(Refusal::Full(self.refused));
         }
         self.root.push(steps, leaf_rank, packet);
-        Ok(())
+        Ok(self.root.queue.len())
     }
 
-    pub fn pop(&mut self) -> Result<u32, Refusal> {
+    pub fn pop(&mut self) -> Result<Departure, Refusal> {
         if self.root.queue.is_empty() {
             return Err(Refusal::NoneHeld);
         }
-        Ok(self.root.pop())
+        let mut way = Vec::new();
+        let packet = self.root.pop(&mut way);
+        Ok(Departure { packet, way })
     }
 
     pub fn topology(&self) -> &[u8] {
@@ -196,6 +227,7 @@ impl QueueTree {
 /// The branch under a node, with a queue for each node.
 fn node(topology: &Topology, number: usize, queue: &mut impl FnMut(usize) -> Vec<Entry>) -> Node {
     Node {
+        number: number as u8,
         queue: queue(number),
         children: topology
             .children(number)

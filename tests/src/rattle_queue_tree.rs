@@ -1,6 +1,6 @@
 //! The queue tree of the Rattle library, made safe to call.
 
-use crate::plain::{PlainAmount, PlainAnswer, PlainOpened, PlainPath, PlainState};
+use crate::plain::{PlainAmount, PlainAnswer, PlainOpened, PlainPath, PlainPopped, PlainState};
 
 mod boundary {
     use super::*;
@@ -9,7 +9,7 @@ mod boundary {
         pub fn linduvar_open(topology: *const u8, topology_len: usize, limit: usize)
             -> PlainOpened;
         pub fn linduvar_push(state: PlainState, path: PlainPath, packet: u32) -> PlainAnswer;
-        pub fn linduvar_pop(state: PlainState) -> PlainAnswer;
+        pub fn linduvar_pop(state: PlainState) -> PlainPopped;
         pub fn linduvar_held(state: PlainState) -> PlainAmount;
         pub fn linduvar_refusals(state: PlainState) -> PlainAmount;
         pub fn linduvar_churn(
@@ -34,7 +34,7 @@ pub fn push(state: &PlainState, path: &PlainPath, packet: u32) -> PlainAnswer {
     unsafe { boundary::linduvar_push(*state, *path, packet) }
 }
 
-pub fn pop(state: &PlainState) -> PlainAnswer {
+pub fn pop(state: &PlainState) -> PlainPopped {
     unsafe { boundary::linduvar_pop(*state) }
 }
 

@@ -182,11 +182,11 @@ fn damage_path(steps: &mut Vec<Step>, kind: &str, topology: &Topology, random: &
 
 /// Ways to write a state that leave its queues as they are.
 pub const DRESSES: [&str; 7] = [
-    "queue by queue",
-    "entries shuffled",
+    "nothing but its numbers",
     "other tags of packets",
     "noise beside children and packets",
     "noise behind the entries",
+    "noise behind the lengths",
     "noise behind the topology",
     "limit as many as held",
 ];
@@ -194,20 +194,7 @@ pub const DRESSES: [&str; 7] = [
 /// A state, written in that way.
 pub fn dressed(state: &State, kind: &str, random: &mut Random) -> PlainState {
     let mut plain = PlainState::write(state);
-    if kind == "queue by queue" {
-        return plain;
-    }
-    // Whose turn it is next; the entries of each queue stay in order.
-    let used = plain.used;
-    let mut turns: Vec<u8> = plain.owners[..used].to_vec();
-    for last in (1..turns.len()).rev() {
-        turns.swap(last, random.within(0..=last));
-    }
-    let mut queues: Vec<_> = state.queues.iter().map(|queue| queue.iter()).collect();
-    for (at, &node) in turns.iter().enumerate() {
-        let entry = queues[usize::from(node)].next();
-        plain.set(at, node, entry.expect("a turn for each entry"));
-    }
+    let (nodes, used) = (plain.frame.nodes, plain.used());
     for entry in &mut plain.entries[..used] {
         match (kind, entry.tag) {
             ("other tags of packets", 1) => entry.tag = random.within(1..=255) as u8,
@@ -216,19 +203,20 @@ pub fn dressed(state: &State, kind: &str, random: &mut Random) -> PlainState {
             _ => {}
         }
     }
-    if kind == "noise behind the entries" {
-        for at in used..MOST_ENTRIES {
-            plain.owners[at] = random.below(256) as u8;
-            plain.entries[at] = PlainEntry {
-                rank: random.number() as u32,
-                tag: random.below(256) as u8,
-                child: random.below(256) as u8,
-                packet: random.number() as u32,
-            };
+    match kind {
+        "noise behind the entries" => plain.entries[used..].fill_with(|| PlainEntry {
+            rank: random.number() as u32,
+            tag: random.below(256) as u8,
+            child: random.below(256) as u8,
+            packet: random.number() as u32,
+        }),
+        "noise behind the lengths" => {
+            plain.lengths[nodes..].fill_with(|| random.number() as u16);
         }
-    }
-    if kind == "noise behind the topology" {
-        plain.topology[plain.nodes..].fill_with(|| random.below(256) as u8);
+        "noise behind the topology" => {
+            plain.frame.topology[nodes..].fill_with(|| random.below(256) as u8);
+        }
+        _ => {}
     }
     plain
 }
@@ -242,7 +230,7 @@ fn last(item: Item) -> Entry {
 }
 
 /// Ways to break a clause of well-formedness.
-pub const DAMAGES: [&str; 23] = [
+pub const DAMAGES: [&str; 24] = [
     "topology byte",
     "number of nodes",
     "limit 0",
@@ -250,9 +238,10 @@ pub const DAMAGES: [&str; 23] = [
     "limit below the packets held",
     "packets far above the limit",
     "more entries than there can be",
-    "an entry more or less",
-    "owner past the last node",
-    "another owner",
+    "length too long",
+    "length too short",
+    "one length more, another less",
+    "entries of two queues exchanged",
     "falling rank at an inner node",
     "falling rank at a leaf",
     "packet for a child at an inner node",
@@ -271,11 +260,15 @@ pub const DAMAGES: [&str; 23] = [
 /// Breaks one clause of a well formed state; None where that state gives no
 /// occasion for it.
 pub fn damage(state: &mut PlainState, kind: &str, random: &mut Random) -> Option<()> {
-    let (nodes, used) = (state.nodes, state.used);
-    let owners = state.owners;
-    let topology = state.topology;
+    let (nodes, used) = (state.frame.nodes, state.used());
+    let topology = state.frame.topology;
+    let lengths = state.lengths;
     let children = |node: usize| usize::from(topology[node]);
-    let owner = |at: usize| usize::from(owners[at]);
+    let length = |node: usize| usize::from(lengths[node]);
+    let owners: Vec<usize> = (0..nodes)
+        .flat_map(|node| vec![node; length(node)])
+        .collect();
+    let owner = |at: usize| owners[at];
     let is_leaf = |node: usize| topology[node] == 0;
 
     // A place to break it: some entry, some node.
@@ -292,62 +285,74 @@ pub fn damage(state: &mut PlainState, kind: &str, random: &mut Random) -> Option
         "topology byte" => {
             let at = random.below(nodes);
             let byte = topology[at];
-            state.topology[at] = random.pick(&[0, 1, byte + 1, byte.wrapping_sub(1), 8, 9, 255]);
+            state.frame.topology[at] =
+                random.pick(&[0, 1, byte + 1, byte.wrapping_sub(1), 8, 9, 255]);
         }
         "number of nodes" => {
             let far = random.pick(&[256 + nodes, (1 << 32) + nodes, usize::MAX]);
-            state.nodes = random.pick(&[0, nodes - 1, nodes + 1, 65, 255, far]);
+            state.frame.nodes = random.pick(&[0, nodes - 1, nodes + 1, 65, 255, far]);
         }
-        "limit 0" => state.limit = 0,
+        "limit 0" => state.frame.limit = 0,
         "limit above 256" => {
-            let limit = state.limit;
+            let limit = state.frame.limit;
             let far = random.pick(&[65_536 + limit, (1 << 32) + limit, usize::MAX]);
-            state.limit = random.pick(&[257, 258, 511, 512, far]);
+            state.frame.limit = random.pick(&[257, 258, 511, 512, far]);
         }
         "limit below the packets held" => {
             if at_leaf.len() < 2 {
                 return None;
             }
-            state.limit = at_leaf.len() - 1;
+            state.frame.limit = at_leaf.len() - 1;
         }
         "packets far above the limit" => {
             // One leaf that has them all.
             let limit = random.pick(&[1, 255, 256]);
-            (state.topology[0], state.nodes) = (0, 1);
-            (state.limit, state.used) = (limit, 0);
-            for _ in 0..random.pick(&[limit + 1, 257, limit + 256, 512, MOST_ENTRIES]) {
-                state.append(0, &last(Item::Packet(1)))?;
-            }
+            let packets = random.pick(&[limit + 1, 257, limit + 256, 512, MOST_ENTRIES]);
+            (state.frame.topology[0], state.frame.nodes) = (0, 1);
+            (state.frame.limit, state.lengths[0]) = (limit, packets as u16);
+            state.entries[..packets].fill(PlainEntry::write(&last(Item::Packet(1))));
         }
         "more entries than there can be" => {
-            let far = random.pick(&[65_536 + used, (1 << 32) + used, usize::MAX]);
-            state.used = random.pick(&[MOST_ENTRIES + 1, 32_768, far]);
-        }
-        "an entry more or less" => {
-            let number = random.pick(&[used + 1, used.wrapping_sub(1), used + 256, 0]);
-            if number > MOST_ENTRIES {
-                return None;
-            }
-            state.used = number;
-        }
-        "owner past the last node" => {
-            let past = random.pick(&[nodes, nodes + 1, 64, 128, 255]);
-            if past < nodes {
-                return None;
-            }
-            // In place of another owner, or with an entry more.
-            if random.one_in(2) {
-                state.owners[any_entry?] = past as u8;
+            let (one, other) = (random.below(nodes), random.below(nodes));
+            let too_many = (MOST_ENTRIES + 1 - used + length(one)) as u16;
+            if one != other && random.one_in(2) {
+                // In 16 bits the sum would be as before.
+                state.lengths[one] += 1 << 15;
+                state.lengths[other] += 1 << 15;
             } else {
-                state.append(past as u8, &last(Item::Packet(0)))?;
+                state.lengths[one] = random.pick(&[too_many, 1 << 15, u16::MAX]);
             }
         }
-        "another owner" => state.owners[any_entry?] = random.below(nodes) as u8,
+        "length too long" => {
+            let more = random.pick(&[1, 1, 2, 256]);
+            if used + more > MOST_ENTRIES {
+                return None;
+            }
+            state.lengths[random.below(nodes)] += more as u16;
+        }
+        "length too short" => {
+            let node = owner(any_entry?);
+            state.lengths[node] -= random.within(1..=length(node)) as u16;
+        }
+        "one length more, another less" => {
+            state.lengths[owner(any_entry?)] -= 1;
+            state.lengths[random.below(nodes)] += 1;
+        }
+        "entries of two queues exchanged" => {
+            let (one, other) = (any_entry?, random.below(used));
+            if owner(one) == owner(other) {
+                return None;
+            }
+            state.entries.swap(one, other);
+        }
         "falling rank at an inner node" | "falling rank at a leaf" => {
             let inside = kind == "falling rank at an inner node";
             let first = if inside { inner_entry? } else { leaf_entry? };
             // Against the next of the same queue.
-            let second = (first + 1..used).find(|&at| owner(at) == owner(first))?;
+            let second = first + 1;
+            if second == used || owner(second) != owner(first) {
+                return None;
+            }
             let (low, mut high) = (state.entries[first].rank, state.entries[second].rank);
             if low == high {
                 high = high.checked_add(1)?;
@@ -359,12 +364,12 @@ pub fn damage(state: &mut PlainState, kind: &str, random: &mut Random) -> Option
             state.entries[inner_entry?].tag = random.pick(&[1, 2, 255]);
         }
         "packet more at an inner node" => {
-            state.append(inner_node? as u8, &last(Item::Packet(1)))?;
+            state.append(inner_node?, &last(Item::Packet(1)))?;
         }
         "child for a packet at a leaf" => state.entries[leaf_entry?].tag = 0,
         "child more at a leaf" => {
             let child = Item::Child(random.pick(&[0, 1, 2]));
-            state.append(leaf as u8, &last(child))?;
+            state.append(leaf, &last(child))?;
         }
         "child number 0" | "child number too large" => {
             let node = inner_node?;
@@ -377,7 +382,7 @@ pub fn damage(state: &mut PlainState, kind: &str, random: &mut Random) -> Option
                 let at = inner_entry?;
                 state.entries[at].child = past(owner(at), random);
             } else {
-                state.append(node as u8, &last(Item::Child(past(node, random))))?;
+                state.append(node, &last(Item::Child(past(node, random))))?;
             }
         }
         "another child" => {
@@ -388,21 +393,25 @@ pub fn damage(state: &mut PlainState, kind: &str, random: &mut Random) -> Option
             let node = inner_node?;
             let most = children(node) as u8;
             let any = random.within(1..=children(node)) as u8;
-            state.append(node as u8, &last(Item::Child(random.pick(&[any, most]))))?;
+            state.append(node, &last(Item::Child(random.pick(&[any, most]))))?;
         }
         "child 256 times more" => {
             let node = inner_node?;
             let child = Item::Child(random.within(1..=children(node)) as u8);
             for _ in 0..256 {
-                state.append(node as u8, &last(child))?;
+                state.append(node, &last(child))?;
             }
         }
-        "child less" => state.remove(inner_entry?),
+        "child less" => {
+            let at = inner_entry?;
+            state.remove(owner(at), at);
+        }
         "packet more or less at a leaf" => {
             if random.one_in(2) {
-                state.remove(leaf_entry?);
+                let at = leaf_entry?;
+                state.remove(owner(at), at);
             } else {
-                state.append(leaf as u8, &last(Item::Packet(1)))?;
+                state.append(leaf, &last(Item::Packet(1)))?;
             }
         }
         _ => unreachable!("a kind of damage without a name"),

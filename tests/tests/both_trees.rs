@@ -122,15 +122,16 @@ impl Trees {
             leaf_rank: path.leaf_rank,
         };
         let rust = match self.rust.push(&drawn, packet) {
-            Ok(()) => (0, 0),
+            Ok(held) => (0, held as u32),
             Err(refusal) => refused(refusal),
         };
         self.compare("a push", source, chip, rust)
     }
 
     fn pop(&mut self) -> Answer {
-        let source = taken(&mut self.source, rattle::pop);
-        let chip = taken(&mut self.chip, rattle::pop);
+        let popped = |state: &PlainState| rattle::pop(state).answer;
+        let source = taken(&mut self.source, popped);
+        let chip = taken(&mut self.chip, popped);
         let rust = match self.rust.pop() {
             Ok(packet) => (0, packet),
             Err(refusal) => refused(refusal),
@@ -166,7 +167,8 @@ impl Trees {
     }
 }
 
-/// 0 or the refusal, with the packet, the count that 15 returns, or 0.
+/// 0 or the refusal, with the packets then held, the packet that departs, the
+/// count that 15 returns, or 0.
 type Answer = (u8, u32);
 
 type Count = fn(&PlainState) -> PlainAmount;

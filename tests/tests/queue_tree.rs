@@ -3,8 +3,12 @@
 //! difference ends the run.
 
 use linduvar_tests::generate;
-use linduvar_tests::plain::{PlainAmount, PlainAnswer, PlainPath, PlainState};
-use linduvar_tests::queue_tree::{self, QueueTree, Refusal, Step, MOST_ENTRIES, MOST_PACKETS};
+use linduvar_tests::plain::{
+    PlainAmount, PlainAnswer, PlainPath, PlainPopped, PlainState, PlainWay,
+};
+use linduvar_tests::queue_tree::{
+    self, QueueTree, Refusal, Step, Taken, MOST_ENTRIES, MOST_PACKETS,
+};
 use linduvar_tests::random::{seeded, Random};
 use linduvar_tests::rattle_queue_tree;
 use linduvar_tests::states::{
@@ -43,43 +47,43 @@ fn main() {
 fn examples() {
     // Two packets down child 1: the later leaves first.
     let mut tree = Literal::open(&[1, 0], 2);
-    tree.push(&[(1, 1)], 9, 100, (0, 0));
-    tree.push(&[(1, 4)], 2, 200, (0, 0));
-    tree.pop((0, 200));
-    tree.pop((0, 100));
-    tree.pop((16, 0));
+    tree.push(&[(1, 1)], 9, 100, (0, 1));
+    tree.push(&[(1, 4)], 2, 200, (0, 2));
+    tree.pop((0, 200), &[(0, 1, 1), (1, 0, 2)]);
+    tree.pop((0, 100), &[(0, 1, 4), (1, 0, 9)]);
+    tree.pop((16, 0), &[]);
 
     // The script of gatewalk, on the source.
     let mut tree = Literal::open(&[3, 0, 0, 0], 2);
-    tree.push(&[(3, 5)], 0, 0x0A, (0, 0));
-    tree.push(&[(1, 5)], 0, 0x0B, (0, 0));
+    tree.push(&[(3, 5)], 0, 0x0A, (0, 1));
+    tree.push(&[(1, 5)], 0, 0x0B, (0, 2));
     tree.push(&[(2, 3)], 0, 0x0C, (15, 1));
-    tree.pop((0, 0x0A));
-    tree.push(&[(2, 3)], 0, 0x0C, (0, 0));
-    tree.pop((0, 0x0C));
-    tree.pop((0, 0x0B));
-    tree.pop((16, 0));
+    tree.pop((0, 0x0A), &[(0, 3, 5), (3, 0, 0)]);
+    tree.push(&[(2, 3)], 0, 0x0C, (0, 2));
+    tree.pop((0, 0x0C), &[(0, 2, 3), (2, 0, 0)]);
+    tree.pop((0, 0x0B), &[(0, 1, 5), (1, 0, 0)]);
+    tree.pop((16, 0), &[]);
     // And on the chip, where the paths are carried over.
     let mut tree = Literal::open(&[2, 2, 0, 0, 0], 2);
-    tree.push(&[(2, 5)], 0, 0x0A, (0, 0));
-    tree.push(&[(1, 5), (1, 5)], 0, 0x0B, (0, 0));
+    tree.push(&[(2, 5)], 0, 0x0A, (0, 1));
+    tree.push(&[(1, 5), (1, 5)], 0, 0x0B, (0, 2));
     tree.push(&[(1, 3), (2, 3)], 0, 0x0C, (15, 1));
-    tree.pop((0, 0x0A));
-    tree.push(&[(1, 3), (2, 3)], 0, 0x0C, (0, 0));
-    tree.pop((0, 0x0C));
-    tree.pop((0, 0x0B));
-    tree.pop((16, 0));
+    tree.pop((0, 0x0A), &[(0, 2, 5), (4, 0, 0)]);
+    tree.push(&[(1, 3), (2, 3)], 0, 0x0C, (0, 2));
+    tree.pop((0, 0x0C), &[(0, 1, 3), (1, 2, 3), (3, 0, 0)]);
+    tree.pop((0, 0x0B), &[(0, 1, 5), (1, 1, 5), (2, 0, 0)]);
+    tree.pop((16, 0), &[]);
 
     // Ties go by arrival, at the leaf and above it.
     let mut tree = Literal::open(&[2, 0, 0], 256);
-    tree.push(&[(2, 7)], 7, 4, (0, 0));
-    tree.push(&[(1, 7)], 7, 3, (0, 0));
-    tree.push(&[(2, 7)], 7, 2, (0, 0));
-    tree.push(&[(2, 7)], 6, 1, (0, 0));
-    for packet in [1, 3, 4, 2] {
-        tree.pop((0, packet));
+    tree.push(&[(2, 7)], 7, 4, (0, 1));
+    tree.push(&[(1, 7)], 7, 3, (0, 2));
+    tree.push(&[(2, 7)], 7, 2, (0, 3));
+    tree.push(&[(2, 7)], 6, 1, (0, 4));
+    for (packet, leaf, leaf_rank) in [(1, 2, 6), (3, 1, 7), (4, 2, 7), (2, 2, 7)] {
+        tree.pop((0, packet), &[(0, leaf, 7), (leaf, 0, leaf_rank)]);
     }
-    tree.pop((16, 0));
+    tree.pop((16, 0), &[]);
 
     // Paths at fault; 13 goes before 14, and both before 15.
     let mut tree = Literal::open(&[2, 1, 0, 0], 1);
@@ -94,30 +98,31 @@ fn examples() {
         tree.push(&[], 0, 0, (14, 0));
         tree.push(&[(1, 1)], 0, 0, (14, 0));
         if !full {
-            tree.pop((16, 0));
-            tree.push(&[(1, 1), (1, 1)], 0, u32::MAX, (0, 0));
+            tree.pop((16, 0), &[]);
+            tree.push(&[(1, 1), (1, 1)], 0, u32::MAX, (0, 1));
         }
     }
     tree.push(&[(2, 1)], 0, 0, (15, 1));
     tree.push(&[(2, 1)], 0, 0, (15, 2));
-    tree.pop((0, u32::MAX));
+    tree.pop((0, u32::MAX), &[(0, 1, 1), (1, 1, 1), (2, 0, 0)]);
 
     // One leaf and nothing else.
     let mut tree = Literal::open(&[0], 3);
     tree.push(&[(1, 0)], 0, 9, (13, 0));
-    tree.push(&[], u32::MAX, 1, (0, 0));
-    tree.push(&[], 0, 2, (0, 0));
-    tree.push(&[], 1 << 31, 3, (0, 0));
-    for packet in [2, 3, 1] {
-        tree.pop((0, packet));
+    tree.push(&[], u32::MAX, 1, (0, 1));
+    tree.push(&[], 0, 2, (0, 2));
+    tree.push(&[], 1 << 31, 3, (0, 3));
+    for (packet, rank) in [(2, 0), (3, 1 << 31), (1, u32::MAX)] {
+        tree.pop((0, packet), &[(0, 0, rank)]);
     }
 
     // The deepest path has 8 steps, and a ninth is refused.
     let mut tree = Literal::open(&[1, 1, 1, 1, 1, 1, 1, 1, 0], 1);
     tree.push(&[(1, 0); 9], 0, 5, (13, 0));
     tree.push(&[(1, 0); 7], 0, 5, (14, 0));
-    tree.push(&[(1, 0); 8], 0, 5, (0, 0));
-    tree.pop((0, 5));
+    tree.push(&[(1, 3); 8], 4, 5, (0, 1));
+    let down = [0, 1, 2, 3, 4, 5, 6, 7].map(|node| (node, 1, 3));
+    tree.pop((0, 5), &[&down[..], &[(8, 0, 4)]].concat());
     println!("examples: as the paper has them");
 }
 
@@ -147,9 +152,17 @@ impl Literal {
         self.state = rattle.state;
     }
 
-    fn pop(&mut self, answer: (u8, u32)) {
-        let rattle = rattle_queue_tree::pop(&self.state);
+    fn pop(&mut self, answer: (u8, u32), way: &[(u8, u8, u32)]) {
+        let PlainPopped {
+            answer: rattle,
+            way: met,
+        } = rattle_queue_tree::pop(&self.state);
         assert_eq!((rattle.number, rattle.value), answer, "pop");
+        let way: Vec<Taken> = way
+            .iter()
+            .map(|&(node, child, rank)| Taken { node, child, rank })
+            .collect();
+        assert_eq!(met, PlainWay::write(&way), "the way of a pop");
         self.state = rattle.state;
     }
 }
@@ -394,7 +407,7 @@ struct Comparison {
 const ANSWERS: [usize; 12] = [0, 1, 2, 3, 4, 5, 13, 14, 15, 16, 17, 18];
 
 /// What is worth to be met besides the kinds of paths and states.
-const OCCASIONS: [&str; 19] = [
+const OCCASIONS: [&str; 28] = [
     "accepted 0 steps down",
     "accepted 1 steps down",
     "accepted 2 steps down",
@@ -405,6 +418,15 @@ const OCCASIONS: [&str; 19] = [
     "accepted 7 steps down",
     "accepted 8 steps down",
     "accepted through an eighth child",
+    "departed 0 steps down",
+    "departed 1 steps down",
+    "departed 2 steps down",
+    "departed 3 steps down",
+    "departed 4 steps down",
+    "departed 5 steps down",
+    "departed 6 steps down",
+    "departed 7 steps down",
+    "departed 8 steps down",
     "full at a limit of 1",
     "full at a limit of 2",
     "full at a limit of 255",
@@ -495,17 +517,20 @@ impl Comparison {
         let refused = sides.tree.refusals();
         let limit = sides.tree.limit();
 
-        let rattle = match call {
-            Call::Push { path, packet } => rattle_queue_tree::push(&before, path, *packet),
+        let PlainPopped { answer, way } = match call {
+            Call::Push { path, packet } => PlainPopped {
+                answer: rattle_queue_tree::push(&before, path, *packet),
+                way: PlainWay::write(&[]),
+            },
             Call::Pop => rattle_queue_tree::pop(&before),
         };
-        let PlainAnswer { number, value, .. } = rattle;
-        sides.plain = rattle.state;
+        let PlainAnswer { number, value, .. } = answer;
+        sides.plain = answer.state;
         let rust = make(&mut sides.tree, call);
         self.agree(
             format_args!("{call:?}"),
             Some(&before),
-            (number, value),
+            (number, value, way),
             rust,
         );
         self.meet(number);
@@ -530,6 +555,10 @@ impl Comparison {
                 if path.count > 0 && path.steps[0].child == 8 {
                     self.kinds.meet("accepted through an eighth child");
                 }
+            }
+            (0, Call::Pop) => {
+                self.kinds
+                    .meet(&format!("departed {} steps down", way.count - 1));
             }
             (15, _) => self.kinds.meet(&format!("full at a limit of {limit}")),
             _ => {}
@@ -579,9 +608,12 @@ impl Comparison {
             self.agree(question, Some(before), rattle, eighteen);
             self.meet(18);
         }
+        let popped = rattle_queue_tree::pop(before);
+        let question = format_args!("the way of a pop on an ill formed state: {kind}");
+        self.agree(question, Some(before), popped.way, PlainWay::write(&[]));
         for (call, rattle) in [
             ("push", rattle_queue_tree::push(before, path, 0)),
-            ("pop", rattle_queue_tree::pop(before)),
+            ("pop", popped.answer),
         ] {
             let question = format_args!("{call} on an ill formed state: {kind}");
             let same = rattle.state == before.rewritten();
@@ -621,18 +653,21 @@ impl Comparison {
     }
 }
 
-/// Makes the call on this side; its answer's number and value.
-fn make(tree: &mut QueueTree, call: &Call) -> (u8, u32) {
+/// Makes the call on this side; its answer's number and value, and the way of a
+/// pop.
+fn make(tree: &mut QueueTree, call: &Call) -> (u8, u32, PlainWay) {
     let answer = match call {
-        Call::Push { path, packet } => {
-            let pushed = tree.push(&path.read(), path.leaf_rank, *packet);
-            pushed.map(|()| 0)
-        }
-        Call::Pop => tree.pop(),
+        Call::Push { path, packet } => tree
+            .push(&path.read(), path.leaf_rank, *packet)
+            .map(|held| (held as u32, Vec::new())),
+        Call::Pop => tree
+            .pop()
+            .map(|departure| (departure.packet, departure.way)),
     };
-    match answer {
-        Ok(packet) => (0, packet),
-        Err(Refusal::Full(count)) => (15, count),
-        Err(refusal) => (refusal.number(), 0),
-    }
+    let (number, value, way) = match answer {
+        Ok((value, way)) => (0, value, way),
+        Err(Refusal::Full(count)) => (15, count, Vec::new()),
+        Err(refusal) => (refusal.number(), 0, Vec::new()),
+    };
+    (number, value, PlainWay::write(&way))
 }

@@ -7,18 +7,18 @@ use mathlib.Core.Bool.{Bool}
 use borrow.Author.Tests.{eq-eqb, ne-eqb}
 use Rattle.topology.specs.Reader.{pick}
 use Rattle.pifo.specs.Machine.{Machine, Answer, pushing, popping, after, serve}
-use Rattle.queue_state.specs.State.{machine, wellFormed}
+use Rattle.queue_state.specs.State.{Packet, machine, wellFormed}
 use Rattle.queue_state.specs.Calls.{Serves}
 use Rattle.queue_push.specs.Calls.{stepsOf}
 use Rattle.queue_push.specs.declared.Path.{Path}
 use Rattle.queue_state.specs.declared.State.{State}
 use Rattle.exports_bench.specs.Churn.{inTurn, roundOf, churned, Rounded, Churned}
 
-pub round-served : (s t u : State) (path : Path) (k : ℕ) (a b : Answer ℕ) → Serves s popping a t
+pub round-served : (s t u : State) (path : Path) (k : ℕ) (a b : Answer Packet) → Serves s popping a t
     → Serves t (pushing (stepsOf path) (path .«leaf_rank») k) b u → Rounded s path k u
 round-served s t u path k a b first second =
     record {
-      machine = λ w. second .machine (first .formed w) ∙ ap (λ (m : Machine ℕ). serve m (pushing (stepsOf path) (path .«leaf_rank») k) .1) (first .machine w);
+      machine = λ w. second .machine (first .formed w) ∙ ap (λ (m : Machine Packet). serve m (pushing (stepsOf path) (path .«leaf_rank») k) .1) (first .machine w);
       formed = λ w. second .formed (first .formed w);
       ill = λ w.
           let stays = first .kept 18 (first .ill w) in
@@ -37,7 +37,7 @@ churn-more s even odd i t u path e before now =
     record {
       machine = λ w.
           now .machine (before .formed w)
-          ∙ ap (λ (m : Machine ℕ). after m (roundOf path i)) (before .machine w)
+          ∙ ap (λ (m : Machine Packet). after m (roundOf path i)) (before .machine w)
           ∙ ap (λ (p : Path). after (churned even odd (machine s) i) (roundOf p i)) e
           ∙ ap (churned even odd (machine s)) (sym n);
       formed = λ w. now .formed (before .formed w);

@@ -7,12 +7,12 @@ use lib.Dec.{eqb}
 use Rattle.topology.specs.Reader.{pick}
 use Rattle.pifo.specs.Machine.{Machine, Call, pushing, popping, after}
 use Rattle.queue_push.specs.Calls.{stepsOf}
-use Rattle.queue_state.specs.State.{machine, wellFormed}
+use Rattle.queue_state.specs.State.{Packet, machine, wellFormed}
 use Rattle.queue_push.specs.declared.Path.{Path}
 use Rattle.queue_state.specs.declared.State.{State}
 
 -- one round: a pop, then the packet k along a path
-abbrev pub roundOf : Path → ℕ → List (Call ℕ)
+abbrev pub roundOf : Path → ℕ → List (Call Packet)
 roundOf path k = popping ∷ pushing (stepsOf path) (path .«leaf_rank») k ∷ []
 
 -- the path of round k: the first in even rounds, the second in odd ones
@@ -20,7 +20,7 @@ abbrev pub inTurn : Path → Path → ℕ → Path
 inTurn even odd k = pick (eqb (k % 2) 0) even odd
 
 -- the machine after rounds 0 to n - 1
-unfoldable pub churned : Path → Path → Machine ℕ → ℕ → Machine ℕ
+unfoldable pub churned : Path → Path → Machine Packet → ℕ → Machine Packet
 churned even odd m zero = m
 churned even odd m (suc k) = after (churned even odd m k) (roundOf (inTurn even odd k) k)
 

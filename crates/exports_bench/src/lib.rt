@@ -21,7 +21,7 @@ fn round(state: State, path: Path, number: u32) -> State
     ensures { λ r. ⌜ Rounded state path number r ⌝ }
 {
     let popped = queue_pop::pop(state);
-    let pushed = queue_push::push(popped.state, path, number);
+    let pushed = queue_push::push(popped.served.state, path, number);
     pushed.state
 }
 

@@ -1,15 +1,19 @@
 // Pushes and pops of a queue tree for a program in C or Rust: what `tests/` links and compares. A state crosses as plain numbers.
 use plain_state::PlainState;
-use queue_pop::PopAnswer;
+use queue_pop::Way;
 use queue_push::Path;
-use queue_push::PushAnswer;
+use queue_state::Answer;
+use queue_state::Packet;
 ghost use mathlib.Core.Path.{_≡_};
 ghost use Rattle.pifo.specs.Machine.{pushing, popping, numberOf};
-ghost use Rattle.queue_push.specs.Calls.{stepsOf, pushAnswer};
-ghost use Rattle.queue_pop.specs.Calls.{popAnswer};
-ghost use Rattle.exports_queue_tree.specs.Answers.{valueOf, Served};
+ghost use Rattle.queue_state.specs.Calls.{answerOf};
+ghost use Rattle.queue_push.specs.Calls.{stepsOf};
+ghost use Rattle.queue_pop.specs.Ways.{wayOf};
+ghost use Rattle.plain_state.specs.Plain.{stateOf};
+ghost use Rattle.exports_queue_tree.specs.Answers.{valueOf, ServesPlain};
 
-// The answer to a push or a pop: a refusal's number or 0, the count that comes with 15 or the packet that departs, else 0.
+// The answer to a call: a refusal's number or 0, and beside it the packets held after a push, the packet that departs, the new count of
+// refusals of a push that has no room, else 0.
 #[repr(C)]
 pub struct PlainAnswer {
     pub state: PlainState,
@@ -17,68 +21,64 @@ pub struct PlainAnswer {
     pub value: u32,
 }
 
-fn push_number(answer: PushAnswer) -> u8
-    ensures { λ r. ⌜ r ≡ numberOf (pushAnswer answer) ⌝ }
+// The answer to a pop, and the way of the packet that departs.
+#[repr(C)]
+pub struct PlainPopped {
+    pub answer: PlainAnswer,
+    pub way: Way,
+}
+
+fn answer_number(answer: Answer) -> u8
+    ensures { λ r. ⌜ r ≡ numberOf (answerOf answer) ⌝ }
 {
     match answer {
-        PushAnswer::Accepted => 0,
-        PushAnswer::Refused(number) => number,
-        PushAnswer::Full(_) => 15,
+        Answer::Accepted(_) => 0,
+        Answer::Departed(_) => 0,
+        Answer::Refused(number) => number,
+        Answer::Full(number, _) => number,
     }
 }
 
-fn push_value(answer: PushAnswer) -> u32
-    ensures { λ r. ⌜ r ≡ valueOf (pushAnswer answer) ⌝ }
+fn answer_value(answer: Answer) -> u32
+    ensures { λ r. ⌜ r ≡ valueOf (answerOf answer) ⌝ }
 {
     match answer {
-        PushAnswer::Accepted => 0,
-        PushAnswer::Refused(_) => 0,
-        PushAnswer::Full(count) => count,
+        Answer::Accepted(held) => held,
+        Answer::Departed(packet) => packet,
+        Answer::Refused(_) => 0,
+        Answer::Full(_, count) => count,
     }
 }
 
 // Pushes a packet along a path.
 #[no_mangle]
-pub extern "C" fn linduvar_push(state: PlainState, path: Path, packet: u32) -> PlainAnswer
-    ensures { λ r. ⌜ Served state (pushing (stepsOf path) (path .«leaf_rank») packet) r ⌝ }
+pub extern "C" fn linduvar_push(state: PlainState, path: Path, packet: Packet) -> PlainAnswer
+    ensures { λ r. ⌜ ServesPlain state (pushing (stepsOf path) (path .«leaf_rank») packet) r ⌝ }
 {
-    let pushed = queue_push::push(plain_state::state_of(state), path, packet);
-    let answer = pushed.answer;
+    let served = queue_push::push(plain_state::state_of(state), path, packet);
+    let answer = served.answer;
     PlainAnswer {
-        state: plain_state::plain(pushed.state),
-        number: push_number(answer),
-        value: push_value(answer),
-    }
-}
-
-fn pop_number(answer: PopAnswer) -> u8
-    ensures { λ r. ⌜ r ≡ numberOf (popAnswer answer) ⌝ }
-{
-    match answer {
-        PopAnswer::Departed(_) => 0,
-        PopAnswer::Refused(number) => number,
-    }
-}
-
-fn pop_value(answer: PopAnswer) -> u32
-    ensures { λ r. ⌜ r ≡ valueOf (popAnswer answer) ⌝ }
-{
-    match answer {
-        PopAnswer::Departed(packet) => packet,
-        PopAnswer::Refused(_) => 0,
+        state: plain_state::plain(served.state),
+        number: answer_number(answer),
+        value: answer_value(answer),
     }
 }
 
 // Pops the packet at the head.
 #[no_mangle]
-pub extern "C" fn linduvar_pop(state: PlainState) -> PlainAnswer
-    ensures { λ r. ⌜ Served state popping r ⌝ }
+pub extern "C" fn linduvar_pop(state: PlainState) -> PlainPopped
+    ensures { λ r. ⌜ ServesPlain state popping (r .answer) × (r .way ≡ wayOf (stateOf state)) ⌝ }
 {
     let popped = queue_pop::pop(plain_state::state_of(state));
-    let answer = popped.answer;
-    PlainAnswer {
-        state: plain_state::plain(popped.state),
-        number: pop_number(answer),
-        value: pop_value(answer),
+    let served = popped.served;
+    let answer = served.answer;
+    let way = popped.way;
+    PlainPopped {
+        answer: PlainAnswer {
+            state: plain_state::plain(served.state),
+            number: answer_number(answer),
+            value: answer_value(answer),
+        },
+        way,
     }
 }

@@ -75,6 +75,23 @@ module _ {P : Type 0} (m : Machine P) where
       by-pop none = refl
       by-pop (some (p, u)) = refl
 
+  -- An accepted push is answered with the packets that the machine then holds.
+  pub accepted-held : (c : Call P) (h : ℕ) → serve m c .0 ≡ accepted h → h ≡ held (serve m c .1 .tree)
+  accepted-held (pushing ss l p) h = by-fault (pathFault (m .topology) ss)
+    where
+      in-room : (n : ℕ) → serveRoom n m ss l p .0 ≡ accepted h → h ≡ held (serveRoom n m ss l p .1 .tree)
+      in-room zero e = cc
+      in-room (suc n) e = absurd (clash (cc))
+
+      by-fault : (f : ℕ) → servePath f m ss l p .0 ≡ accepted h → h ≡ held (servePath f m ss l p .1 .tree)
+      by-fault zero e = in-room (room (m .limit) (held (m .tree))) e
+      by-fault (suc f) e = absurd (clash (cc))
+  accepted-held popping h = by-pop (pop (m .tree))
+    where
+      by-pop : (o : Option (P × PTree P)) → servePop m o .0 ≡ accepted h → h ≡ held (servePop m o .1 .tree)
+      by-pop none e = absurd (clash (cc))
+      by-pop (some (p, u)) e = absurd (clash (cc))
+
   -- The number of a refusal has at most two digits.
   pub serve-number : (c : Call P) → numberOf (serve m c .0) ≤ 99
   serve-number (pushing ss l p) = by-fault (pathFault (m .topology) ss) (fault-number (m .topology) ss)

@@ -36,27 +36,11 @@ entries-back (e ∷ es) =
 -- a state with its entries apart, on either side
 abbrev pub stateWith : PlainState → List Entry → State
 stateWith p es =
-    record {
-      topology = p .topology;
-      nodes = p .nodes;
-      limit = p .limit;
-      refused = p .refused;
-      owners = p .owners;
-      entries = es;
-      used = p .used;
-    }
+    record { frame = p .frame; refused = p .refused; lengths = p .lengths; entries = es }
 
 abbrev pub plainWith : State → List PlainEntry → PlainState
 plainWith s es =
-    record {
-      topology = s .topology;
-      nodes = s .nodes;
-      limit = s .limit;
-      refused = s .refused;
-      owners = s .owners;
-      entries = es;
-      used = s .used;
-    }
+    record { frame = s .frame; refused = s .refused; lengths = s .lengths; entries = es }
 
 pub state-from : (p : PlainState) (es : List Entry) → es ≡ map entryOf (p .entries) → stateWith p es ≡ stateOf p
 unfolding stateOf

@@ -19,15 +19,7 @@ entryOf e = record { rank = e .rank; item = itemFrom (e .tag) (e .child) (e .pac
 
 unfoldable pub stateOf : PlainState → State
 stateOf s =
-    record {
-      topology = s .topology;
-      nodes = s .nodes;
-      limit = s .limit;
-      refused = s .refused;
-      owners = s .owners;
-      entries = map entryOf (s .entries);
-      used = s .used;
-    }
+    record { frame = s .frame; refused = s .refused; lengths = s .lengths; entries = map entryOf (s .entries) }
 
 -- an entry of a rank, as it is written
 abbrev pub plainItem : ℕ → Item → PlainEntry
@@ -40,15 +32,7 @@ plainEntry e = plainItem (e .rank) (e .item)
 -- the numbers of a state, as they are written
 unfoldable pub plainOf : State → PlainState
 plainOf s =
-    record {
-      topology = s .topology;
-      nodes = s .nodes;
-      limit = s .limit;
-      refused = s .refused;
-      owners = s .owners;
-      entries = map plainEntry (s .entries);
-      used = s .used;
-    }
+    record { frame = s .frame; refused = s .refused; lengths = s .lengths; entries = map plainEntry (s .entries) }
 
 -- numbers that are as they are written
 abbrev pub Written : PlainState → Type 0

@@ -1,7 +1,10 @@
 // A state of a queue tree as plain numbers: an exported function can take or return no struct that holds an enum, so `State` itself cannot
 // cross to a program in C or Rust.
 use queue_state::Entry;
+use queue_state::Frame;
 use queue_state::Item;
+use queue_state::Packet;
+use queue_state::Rank;
 use queue_state::State;
 ghost use mathlib.Core.Path.{_≡_};
 ghost use mathlib.Core.List.{map};
@@ -10,22 +13,19 @@ ghost use Rattle.plain_state.specs.Plain.{entryOf, stateOf, plainEntry, 
 // An entry: where `tag` is 0 the child `child`, else the packet `packet`.
 #[repr(C)]
 pub struct PlainEntry {
-    pub rank: u32,
+    pub rank: Rank,
     pub tag: u8,
     pub child: u8,
-    pub packet: u32,
+    pub packet: Packet,
 }
 
 // The fields are those of a state.
 #[repr(C)]
 pub struct PlainState {
-    pub topology: [u8; 64],
-    pub nodes: usize,
-    pub limit: usize,
+    pub frame: Frame,
     pub refused: u32,
-    pub owners: [u8; 2304],
+    pub lengths: [u16; 64],
     pub entries: [PlainEntry; 2304],
-    pub used: usize,
 }
 
 fn entry_of(plain: PlainEntry) -> Entry
@@ -62,18 +62,15 @@ fn entries_of(plain: [PlainEntry; 2304]) -> [Entry; 2304]
 pub fn state_of(plain: PlainState) -> State
     ensures { λ r. ⌜ r ≡ stateOf plain ⌝ }
 {
-    let topology = plain.topology;
-    let owners = plain.owners;
+    let frame = plain.frame;
+    let lengths = plain.lengths;
     let given = plain.entries;
     let entries = entries_of(given);
     State {
-        topology,
-        nodes: plain.nodes,
-        limit: plain.limit,
+        frame,
         refused: plain.refused,
-        owners,
+        lengths,
         entries,
-        used: plain.used,
     }
 }
 
@@ -119,17 +116,14 @@ fn plain_entries(entries: [Entry; 2304]) -> [PlainEntry; 2304]
 pub fn plain(state: State) -> PlainState
     ensures { λ r. ⌜ r ≡ plainOf state ⌝ }
 {
-    let topology = state.topology;
-    let owners = state.owners;
+    let frame = state.frame;
+    let lengths = state.lengths;
     let given = state.entries;
     let entries = plain_entries(given);
     PlainState {
-        topology,
-        nodes: state.nodes,
-        limit: state.limit,
+        frame,
         refused: state.refused,
-        owners,
+        lengths,
         entries,
-        used: state.used,
     }
 }

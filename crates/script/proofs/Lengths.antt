@@ -20,7 +20,7 @@ use Rattle.pifo.specs.Machine.{Machine, Call, pushing, popping, Answer, accepte
 use Rattle.pifo.specs.Runs.{Sound}
 use Rattle.pifo.proofs.Order.{both}
 use Rattle.pifo.proofs.Runs.{served as serve-sound, opened-sound}
-use Rattle.pifo.proofs.Answers.{serve-number}
+use Rattle.pifo.proofs.Answers.{accepted-held, serve-number}
 use Rattle.embedding_laws.specs.Least.{Found, nothing, list, noneFault, leastMap, searchFault, searchMap}
 use Rattle.queue_state.specs.Opening.{limitFault}
 use Rattle.pair_state.specs.Opening.{bothFault}
@@ -39,7 +39,7 @@ use Rattle.commands.proofs.Found.{further, told, next-inside, refused-inside}
 
 -- ---- the lines
 
-no-length : (n at : ℕ) → n ≤ 22 → at < 65536 → length (noLine n at) ≤ 13
+no-length : (n at : ℕ) → n ≤ 99 → at < 65536 → length (noLine n at) ≤ 13
 unfolding noLine
 no-length n at h g =
     omega (
@@ -114,7 +114,7 @@ module _ (at : ℕ) (h : at < 65536) where
       let few = within 32 s (fine .0) .nodes in
       let low = within 64 t (fine .1) .nodes in
       record {
-        good = (opened-sound ℕ (tree s) n, limited n (none .1));
+        good = (opened-sound Packet (tree s) n, limited n (none .1));
         line = omega (
           arith,
           map-length (take (length s) (searchMap s t)) (omega (arith, E .long, few))
@@ -129,17 +129,18 @@ module _ (at : ℕ) (h : at < 65536) where
           by-test true q z = leb-true n 256 (both (leb 1 n) (leb n 256) q .1)
           by-test false q z = absurd (omega arith)
 
-  short-served : (m : Machine ℕ) (steps after : List Step) (c : Call ℕ) → Sound m → m .limit ≤ 256
+  short-served : (m : Machine Packet) (steps after : List Step) (c : Call Packet) → Sound m → m .limit ≤ 256
       → Short at (serving m steps) (served (serve m c) after)
   short-served m steps after c s g =
       let z = serve-sound m c s in
-      by-answer (serve m c .0) (serve m c .1) (z .sound) (omega (arith, z .limit, g)) (serve-number m c)
+      by-answer (serve m c .0) (serve m c .1) (z .sound) (omega (arith, z .limit, g)) (serve-number m c) (accepted-held m c)
     where
-      by-answer : (a : Answer ℕ) (n : Machine ℕ) → Sound n → n .limit ≤ 256 → numberOf a ≤ 16 → Short at (serving m steps) (served (a, n) after)
-      by-answer accepted n t l k = record { good = (t, l); line = omega (arith, in-length (held (n .tree)) (omega (arith, t .limit, l))) }
-      by-answer (departed p) n t l k = record { good = (t, l); line = omega (arith, out-length p) }
-      by-answer (refused x) n t l k = record { good = (t, l); line = omega (arith, no-length x at (omega (arith, k)) h) }
-      by-answer (full x) n t l k = record { good = (t, l); line = omega (arith, no-length 15 at (omega arith) h) }
+      by-answer : (a : Answer Packet) (n : Machine Packet) → Sound n → n .limit ≤ 256 → numberOf a ≤ 99 → ((k : ℕ) → a ≡ accepted k → k ≡ held (n .tree))
+          → Short at (serving m steps) (served (a, n) after)
+      by-answer (accepted k) n t l x e = record { good = (t, l); line = omega (arith, in-length k (omega (arith, e k refl, t .limit, l))) }
+      by-answer (departed p) n t l x e = record { good = (t, l); line = omega (arith, out-length p) }
+      by-answer (refused k) n t l x e = record { good = (t, l); line = omega (arith, no-length k at (omega (arith, x)) h) }
+      by-answer (full k c) n t l x e = record { good = (t, l); line = omega (arith, no-length k at (omega (arith, x)) h) }
 
   out-of-turn : (sheet : Sheet) → Good sheet → Short at sheet (no-by 22, sheet)
   out-of-turn sheet g = record { good = g; line = omega (arith, no-length 22 at (omega arith) h) }

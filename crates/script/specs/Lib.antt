@@ -6,4 +6,3 @@ pub mod Output
 pub mod Parts
 pub mod Turns
 pub mod Steps
-pub mod Replies

@@ -7,9 +7,10 @@ use mathlib.Core.Option.{Option, none, some}
 use lib.ListN.{length, take}
 use lib.Dec.{leb, ltb}
 use Rattle.topology.specs.Reader.{pick, tree}
-use Rattle.pifo.specs.Tree.{Step, step, held}
+use Rattle.pifo.specs.Tree.{Step, step}
 use Rattle.pifo.specs.Machine.{Machine, Answer, accepted, departed, refused, full, pushing, popping, serve, opened}
 use Rattle.embedding_laws.specs.Least.{searchMap}
+use Rattle.queue_state.specs.State.{Packet}
 use Rattle.pair_state.specs.Opening.{bothFault}
 use Rattle.commands.specs.declared.Command.{Command}
 use Rattle.commands.specs.declared.Command.the-variants.{Source, Target, Limit, Compile, Step as StepTo, Push, Pop}
@@ -18,14 +19,14 @@ pub data Sheet : Type 0 where
   -- before 04: the bytes of the source and of the target, and the limit once it is given
   drawing : List ℕ → List ℕ → Option ℕ → Sheet
   -- after it
-  serving : Machine ℕ → List Step → Sheet
+  serving : Machine Packet → List Step → Sheet
 
 -- What a command is answered: nothing, the images of a map, the packets held after a push, the packet that departs, or a refusal.
 pub data Reply : Type 0 where
   silent : Reply
   mapped : List ℕ → Reply
   entered : ℕ → Reply
-  left : ℕ → Reply
+  left : Packet → Reply
   no-by : ℕ → Reply
 
 -- after 13 to 16 the script goes on, after any other refusal it stops
@@ -47,14 +48,14 @@ compiled zero source target limit =
 compiled (suc f) source target limit = (no-by (suc f), drawing source target (some limit))
 
 -- the answer of the machine as a reply
-abbrev pub replied : Answer ℕ → Machine ℕ → Reply
-replied accepted m = entered (held (m .tree))
-replied (departed p) m = left p
-replied (refused n) m = no-by n
-replied (full c) m = no-by 15
+abbrev pub replied : Answer Packet → Reply
+replied (accepted h) = entered h
+replied (departed p) = left p
+replied (refused n) = no-by n
+replied (full n c) = no-by n
 
-abbrev pub served : Answer ℕ × Machine ℕ → List Step → Reply × Sheet
-served (a, m) steps = (replied a m, serving m steps)
+abbrev pub served : Answer Packet × Machine Packet → List Step → Reply × Sheet
+served (a, m) steps = (replied a, serving m steps)
 
 -- the reply to a command, and the sheet after it
 unfoldable pub obey : Sheet → Command → Reply × Sheet

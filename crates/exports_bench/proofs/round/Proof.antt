@@ -11,7 +11,7 @@ push-requires : tie.Need-push-requires
 push-requires c κs = search needs
 
 returns : tie.Need-returns
-returns c = round-served _ _ _ _ _ _ _ (c .before .before .pop .ensures) (c .before .push .ensures)
+returns c = round-served _ _ _ _ _ _ _ (c .before .before .pop .ensures .0) (c .before .push .ensures)
 
 pub round-spec : {M : Type 1} → statement M
 round-spec = tie.close (tie.spec pop-requires push-requires returns)

@@ -1,5 +1,7 @@
 -- The queue tree's promise, of plain numbers.
+use mathlib.Core.Path.{ap, _∙_}
 use borrow.Author.Needs.{needs}
+use Rattle.queue_pop.specs.Ways.{wayOf}
 use Rattle.exports_queue_tree.proofs.Answering.{served-plain}
 use Rattle.exports_queue_tree.proofs.linduvar_pop.Statement.{statement}
 use Rattle.exports_queue_tree.proofs.linduvar_pop.Tie as tie
@@ -13,17 +15,21 @@ pop-requires c κs = search needs
 plain-requires : tie.Need-plain-requires
 plain-requires c κs = search needs
 
-pop-number-requires : tie.Need-pop-number-requires
-pop-number-requires c κs = search needs
+answer-number-requires : tie.Need-answer-number-requires
+answer-number-requires c κs = search needs
 
-pop-value-requires : tie.Need-pop-value-requires
-pop-value-requires c κs = search needs
+answer-value-requires : tie.Need-answer-value-requires
+answer-value-requires c κs = search needs
 
 returns : tie.Need-returns
 returns c =
-    let call = c .before .before .before in
-    served-plain _ _ _ _ _ _ (call .before .state-of .ensures) (call .pop .ensures) (c .before .before .plain .ensures)
-    (c .before .pop-number .ensures) (c .pop-value .ensures)
+    let call = c .before .before .before .before .before in
+    let same = call .before .state-of .ensures in
+    let promise = call .pop .ensures in (
+      served-plain _ _ _ _ _ _ same (promise .0) (c .before .before .plain .ensures) (c .before .answer-number .ensures)
+          (c .answer-value .ensures),
+      promise .1 ∙ ap wayOf same,
+    )
 
 pub linduvar-pop-spec : {M : Type 1} → statement M
 linduvar-pop-spec =
@@ -32,6 +38,6 @@ linduvar-pop-spec =
     state-of-requires
     pop-requires
     plain-requires
-    pop-number-requires
-    pop-value-requires
+    answer-number-requires
+    answer-value-requires
     returns)

@@ -13,17 +13,17 @@ push-requires c κs = search needs
 plain-requires : tie.Need-plain-requires
 plain-requires c κs = search needs
 
-push-number-requires : tie.Need-push-number-requires
-push-number-requires c κs = search needs
+answer-number-requires : tie.Need-answer-number-requires
+answer-number-requires c κs = search needs
 
-push-value-requires : tie.Need-push-value-requires
-push-value-requires c κs = search needs
+answer-value-requires : tie.Need-answer-value-requires
+answer-value-requires c κs = search needs
 
 returns : tie.Need-returns
 returns c =
     let call = c .before .before .before in
     served-plain _ _ _ _ _ _ (call .before .state-of .ensures) (call .push .ensures) (c .before .before .plain .ensures)
-    (c .before .push-number .ensures) (c .push-value .ensures)
+    (c .before .answer-number .ensures) (c .answer-value .ensures)
 
 pub linduvar-push-spec : {M : Type 1} → statement M
 linduvar-push-spec =
@@ -32,6 +32,6 @@ linduvar-push-spec =
     state-of-requires
     push-requires
     plain-requires
-    push-number-requires
-    push-value-requires
+    answer-number-requires
+    answer-value-requires
     returns)

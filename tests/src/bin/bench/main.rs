@@ -1,15 +1,22 @@
-//! Times the Rattle library beside Rust.
+//! Times the Rattle library beside Rust, and counts its copies and its stack.
 
+mod copies;
 mod embedding;
 mod queue_tree;
+mod stack;
 mod topology;
 mod translator;
 mod whole_scripts;
 
 use linduvar_tests::random::{self, Random};
+use std::env;
 use std::time::Instant;
 
 fn main() {
+    let arguments: Vec<String> = env::args().skip(1).collect();
+    if !arguments.is_empty() {
+        return copies::churn(&arguments);
+    }
     let seed = random::seed();
     let mut random = Random::new(seed);
     println!("seed {seed}; ns per call");
@@ -18,6 +25,8 @@ fn main() {
     embedding::run(&mut random);
     queue_tree::run(&mut random);
     translator::run(&mut random);
+    stack::run(&mut random);
+    copies::run();
     whole_scripts::run();
 }
 

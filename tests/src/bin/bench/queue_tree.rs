@@ -5,7 +5,7 @@
 //! alone. A state goes in and comes out by value, so that the time of one copy
 //! of a state stands first.
 
-use linduvar_tests::plain::{PlainPath, PlainState};
+use linduvar_tests::plain::{PlainAnswer, PlainPath, PlainPopped, PlainState};
 use linduvar_tests::queue_tree::{self, QueueTree, Step, MOST_PACKETS};
 use linduvar_tests::random::Random;
 use linduvar_tests::rattle_queue_tree;
@@ -16,13 +16,55 @@ const CHAINS: usize = 4;
 const CALLS: u32 = 100;
 const ROUNDS: usize = 400;
 const SINGLES: usize = 2_000;
-/// The bytes of a Rattle state.
-const STATE: usize = 30_048;
+/// The bytes of a Rattle state, which are as many as those of its plain form.
+pub const STATE: usize = size_of::<PlainState>();
 
 pub fn run(random: &mut Random) {
     println!("a copy of the {STATE} bytes of a state  {:.1}", copy());
     println!("the queue tree, a pop and a push, the best of {ROUNDS} rounds of {CALLS}:");
     for depth in [1, 4, 8] {
+        for packets in [1, 32, MOST_PACKETS] {
+            let filled = Filled::new(depth, packets, random);
+            let in_rust = |calls: u32| {
+                let mut tree = black_box(&filled.tree).clone();
+                let [first, second] = &filled.paths;
+                queue_tree::churn(&mut tree, [(first, 1), (second, 2)], calls);
+                tree
+            };
+            assert_eq!(filled.churn(CALLS).read(), Some(in_rust(CALLS).state()));
+            let rattle = time(|calls| _ = black_box(filled.churn(calls)));
+            let rust = time(|calls| _ = black_box(in_rust(calls)));
+            println!(
+                "depth {depth}, {packets:3} held        Rattle {rattle:11.1}   Rust {rust:11.1} ({:.2})",
+                rattle / rust
+            );
+            // One call each, less the crossing.
+            let crossing = single(|| _ = black_box(filled.churn(0)));
+            let pop = single(|| _ = black_box(filled.pop()));
+            let push = single(|| _ = black_box(filled.push()));
+            println!(
+                "{:25}push {:.1}, pop {:.1}, crossing {crossing:.1}",
+                "",
+                push - crossing,
+                pop - crossing
+            );
+        }
+    }
+}
+
+/// A tree of some chains that holds packets, two paths down it, and what
+/// crosses the boundary to Rattle.
+pub struct Filled {
+    tree: QueueTree,
+    paths: [Vec<Step>; 2],
+    pub state: PlainState,
+    /// The same with one packet less.
+    less: PlainState,
+    plain: [PlainPath; 2],
+}
+
+impl Filled {
+    pub fn new(depth: usize, packets: usize, random: &mut Random) -> Filled {
         let chain = [vec![1; depth - 1], vec![0]].concat();
         let topology = [vec![CHAINS as u8], chain.repeat(CHAINS)].concat();
         let path = |chain: usize, random: &mut Random| -> Vec<Step> {
@@ -33,47 +75,40 @@ pub fn run(random: &mut Random) {
                 })
                 .collect()
         };
-        let (first, second) = (path(0, random), path(CHAINS - 1, random));
-        let plain = [PlainPath::write(&first, 1), PlainPath::write(&second, 2)];
-        let paths = [(&first[..], 1), (&second[..], 2)];
-        for packets in [1, 32, MOST_PACKETS] {
-            let mut tree = QueueTree::open(&topology, MOST_PACKETS).expect("a valid tree");
-            for packet in 0..packets {
-                let (rank, packet) = (random.below(7) as u32, packet as u32);
-                let steps = path(packet as usize % CHAINS, random);
-                tree.push(&steps, rank, packet).expect("a right path");
-            }
-            let state = PlainState::write(&tree.state());
-            let in_rattle = |calls: u32| {
-                rattle_queue_tree::churn(black_box(&state), &plain[0], &plain[1], calls)
-            };
-            let in_rust = |calls: u32| {
-                let mut tree = black_box(&tree).clone();
-                queue_tree::churn(&mut tree, paths, calls);
-                tree
-            };
-            assert_eq!(in_rattle(CALLS).read(), Some(in_rust(CALLS).state()));
-            let rattle = time(|calls| _ = black_box(in_rattle(calls)));
-            let rust = time(|calls| _ = black_box(in_rust(calls)));
-            println!(
-                "depth {depth}, {packets:3} held        Rattle {rattle:11.1}   Rust {rust:11.1} ({:.2})",
-                rattle / rust
-            );
-            // One call each, less the crossing; the push finds one packet less.
-            let mut less = tree.clone();
-            less.pop().expect("a packet is held");
-            let less = PlainState::write(&less.state());
-            let crossing = single(|| _ = black_box(in_rattle(0)));
-            let pop = single(|| _ = black_box(rattle_queue_tree::pop(black_box(&state))));
-            let push =
-                single(|| _ = black_box(rattle_queue_tree::push(black_box(&less), &plain[0], 0)));
-            println!(
-                "{:25}push {:.1}, pop {:.1}, crossing {crossing:.1}",
-                "",
-                push - crossing,
-                pop - crossing
-            );
+        let paths = [path(0, random), path(CHAINS - 1, random)];
+        let mut tree = QueueTree::open(&topology, MOST_PACKETS).expect("a valid tree");
+        for packet in 0..packets {
+            let (rank, steps) = (random.below(7) as u32, path(packet % CHAINS, random));
+            tree.push(&steps, rank, packet as u32)
+                .expect("a right path");
         }
+        let mut less = tree.clone();
+        less.pop().expect("a packet is held");
+        Filled {
+            state: PlainState::write(&tree.state()),
+            less: PlainState::write(&less.state()),
+            plain: [
+                PlainPath::write(&paths[0], 1),
+                PlainPath::write(&paths[1], 2),
+            ],
+            tree,
+            paths,
+        }
+    }
+
+    pub fn churn(&self, rounds: u32) -> PlainState {
+        let [first, second] = &self.plain;
+        rattle_queue_tree::churn(black_box(&self.state), first, second, rounds)
+    }
+
+    /// A pop that departs.
+    pub fn pop(&self) -> PlainPopped {
+        rattle_queue_tree::pop(black_box(&self.state))
+    }
+
+    /// A push that is accepted.
+    pub fn push(&self) -> PlainAnswer {
+        rattle_queue_tree::push(black_box(&self.less), &self.plain[0], 0)
     }
 }
 
