@@ -11,7 +11,7 @@ use Rattle.queue_state.specs.State.{machine}
 use Rattle.queue_push.specs.Calls.{stepsOf}
 use Rattle.queue_push.specs.declared.Path.{Path}
 use Rattle.queue_state.specs.declared.State.{State}
-use Rattle.paired.proofs.Sides.{Holds}
+use Rattle.pair_state.specs.Step.{InStep}
 use Rattle.text.specs.Text.{Puts}
 use Rattle.lines.specs.Lines.{noLine}
 use Rattle.text.proofs.Writing.{puts-none, puts-length, puts-then}
@@ -39,11 +39,11 @@ pub record Going (source target images script before : List ℕ) (place : ℕ) (
   pub puts : Puts before place text after end
   pub rest : text ++ textAt script at (sheetOf s p) ≡ all
 
-pub start : (source target images script out : List ℕ) (place : ℕ) (s t : State) (p : Path) (first : ℕ) → Holds source target images s t → place ≤ length out
+pub start : (source target images script out : List ℕ) (place : ℕ) (s t : State) (p : Path) (first : ℕ) → InStep source target images s t → place ≤ length out
     → p .count ≡ 0 → length (p .steps) ≡ 9 → Going source target images script out place (whole script s first) out s t p first place
 start source target images script out place s t p first i h n l =
     record {
-      served = record { holds = i; few = omega arith; places = l };
+      served = record { in-step = i; few = omega arith; places = l };
       text = [];
       puts = puts-none out place place (omega arith);
       rest = ap (λ (ss : _). textAt script first (serving (machine s) ss)) (no-steps p n);

@@ -22,6 +22,7 @@ use Rattle.pifo.proofs.Order.{both}
 use Rattle.pifo.proofs.Runs.{served as serve-sound, opened-sound}
 use Rattle.pifo.proofs.Answers.{accepted-held, serve-number}
 use Rattle.embedding_laws.specs.Least.{Found, nothing, list, noneFault, leastMap, searchFault, searchMap}
+use Rattle.queue_state.specs.State.{Packet}
 use Rattle.queue_state.specs.Opening.{limitFault}
 use Rattle.pair_state.specs.Opening.{bothFault}
 use Rattle.pair_state.proofs.Start.{faultless, images-pass}

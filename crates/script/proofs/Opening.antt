@@ -1,6 +1,6 @@
 -- The text of an 04 in turn: the line of its refusal, or the map's line and the text from the next command on. The drawings as they are kept
 -- give the same text as the whole ones.
-use mathlib.Core.Path.{_≡_, refl, sym, _∙_}
+use mathlib.Core.Path.{_≡_, refl, sym, _∙_, subst}
 use mathlib.Core.Logic.{_≢_}
 use Prim.Native.Nat.{ℕ, zero, suc, _≤_}
 use native.Mathlib.Omega.{arith}
@@ -11,6 +11,7 @@ use Rattle.topology.specs.Reader.{tree}
 use Rattle.pifo.specs.Machine.{opened}
 use Rattle.embedding_laws.specs.Least.{searchMap}
 use Rattle.queue_state.specs.State.{machine}
+use Rattle.pair_state.specs.Step.{InStep}
 use Rattle.pair_state.specs.Opening.{bothFault, OpensBoth}
 use Rattle.pair_state.specs.declared.PairOpened.{PairOpened}
 use Rattle.text.specs.Text.{Puts}
@@ -51,6 +52,10 @@ module _ (a t : List ℕ) (i n : ℕ) (h : i ≤ length a) (r : PairOpened) (w :
   pub map-fits : i ≤ length (r .pair .map)
   map-fits =
       omega (arith, both-few (take i a) t n fault, length-take-le i a h, map-room (take i a) t (r .pair .map) (w .map))
+
+  -- both trees in step
+  pub opened-in-step : InStep (take i a) t (take i (r .pair .map)) (r .pair .source) (r .pair .chip)
+  opened-in-step = subst (λ (k : ℕ). InStep (take i a) t (take k (r .pair .map)) (r .pair .source) (r .pair .chip)) (length-take-le i a h) (w .in-step z)
 
   opened-text : (script : List ℕ) (at next : ℕ)
       → openingText script (take i a) t n at next

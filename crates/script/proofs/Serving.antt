@@ -1,6 +1,7 @@
 -- What the code has after 04, and what each command in turn does to it: the reply is the definition's, and the code then has what it should
 -- for the sheet after it.
 use mathlib.Core.Path.{_≡_, refl, sym, ap, _∙_}
+use mathlib.Core.Logic.{_≢_}
 use Prim.Native.Nat.{ℕ, _≤_, _<_}
 use native.Mathlib.Omega.{arith}
 use mathlib.Core.List.{List, [], _∷_, _++_}
@@ -12,17 +13,22 @@ use Rattle.topology.specs.Reader.{pick}
 use Rattle.pifo.specs.Tree.{Step, step}
 use Rattle.pifo.specs.Machine.{Machine, Call, pushing, Answer, serve}
 use Rattle.queue_state.specs.State.{Packet, machine, wellFormed}
-use Rattle.queue_state.specs.Calls.{Serves}
+use Rattle.queue_state.specs.Calls.{answerOf, Serves}
+use Rattle.queue_state.specs.declared.Answer.{Answer as CodeAnswer}
+use Rattle.queue_state.specs.declared.Answer.the-variants.{Refused}
 use Rattle.queue_state.specs.declared.State.{State}
 use Rattle.queue_push.specs.Calls.{stepsOf}
 use Rattle.queue_push.specs.declared.Path.{Path}
 use Rattle.paired.specs.Demand.{Request, push, pop, SourceCall, ChipCall, callOf}
-use Rattle.paired.proofs.Sides.{Holds, holds-formed, source-serves, next}
+use Rattle.pair_state.specs.Step.{InStep}
+use Rattle.paired.proofs.Sides.{source-serves, chip-pushed, chip-refused, next}
+use Rattle.translator.specs.Carry.{Carries}
+use Rattle.translator.specs.declared.Carried.{Carried}
 use Rattle.lines.specs.Lines.{noLine}
 use Rattle.commands.specs.declared.Command.{Command}
 use Rattle.commands.specs.declared.Command.the-variants.{Source, Target, Limit, Compile, Step as StepTo, Push, Pop}
 use Rattle.commands.specs.declared.Read.{Read}
-use Rattle.commands.specs.declared.Read.the-variants.{End, Next, Refused}
+use Rattle.commands.specs.declared.Read.the-variants.{End, Next, Refused as Unread}
 use Rattle.commands.specs.Reading.{readAt}
 use Rattle.script.specs.declared.turns.Turn.{Turn}
 use Rattle.script.specs.declared.turns.Turn.the-variants.{End as AtEnd, Refused as No, Step as ToStep, Push as ToPush, Pop as ToPop}
@@ -39,7 +45,7 @@ sheetOf s p = serving (machine s) (stepsOf p)
 
 -- both trees in step, for a drawing, a chip and the images of a map, and the steps gathered
 pub record Served (source target images : List ℕ) (s t : State) (p : Path) : Type 0 where
-  pub holds : Holds source target images s t
+  pub in-step : InStep source target images s t
   pub few : p .count ≤ 8
   pub places : length (p .steps) ≡ 9
 
@@ -60,7 +66,7 @@ module _ (script : List ℕ) (at k : ℕ) where
   says-by : (r : Read) → readAt script at ≡ r → Says (turnBy r at k)
   unfolding obey
   says-by End e = λ sheet. text-end script at sheet e
-  says-by (Refused n offset) e = λ m ss h. text-refused script at (serving m ss) n offset e
+  says-by (Unread n offset) e = λ m ss h. text-refused script at (serving m ss) n offset e
   says-by (Next (Source b) next) e = λ m ss h. out-of-turn script at (serving m ss) (Source b) next e refl
   says-by (Next (Target b) next) e = λ m ss h. out-of-turn script at (serving m ss) (Target b) next e refl
   says-by (Next (Limit n) next) e = λ m ss h. out-of-turn script at (serving m ss) (Limit n) next e refl
@@ -75,6 +81,15 @@ module _ (script : List ℕ) (at k : ℕ) where
 
   pub says : (t : Turn) → turnBy (readAt script at) at k ≡ t → Says t
   says t e = rw (← e) (says-by (readAt script at) refl)
+
+-- The chip's side of a push: with the path carried over, and where the carrying is refused.
+module _ (source target images : List ℕ) (t : State) (path : Path) (x : Packet) (c : Carried) (e : Carries source target images path c) (b : CodeAnswer) (y : State) where
+  pub sent : (d : CodeAnswer) (z : State) → c .refusal ≡ 0 → Serves t (pushing (stepsOf (c .path)) (c .path .«leaf_rank») x) (answerOf d) z → y ≡ z → b ≡ d
+      → ChipCall source target images t (push path x) (answerOf b) y
+  sent d z n v i j = rw (i, j) (chip-pushed source target images t path x c e (answerOf d) z n v)
+
+  pub unsent : c .refusal ≢ 0 → y ≡ t → b ≡ Refused (c .refusal) → ChipCall source target images t (push path x) (answerOf b) y
+  unsent n i j = rw (i, j) (chip-refused source target images t path x c e n)
 
 step-in : (m : Machine Packet) (ss : List Step) (i r : ℕ) → length ss < 8 → obey (serving m ss) (StepTo i r) ≡ (silent, serving m (ss ++ (step i r ∷ [])))
 unfolding obey
@@ -93,7 +108,7 @@ module _ (source target images : List ℕ) (s t : State) (p : Path) (h : Served 
             ∙ ap (λ (ss : List Step). (silent, serving (machine s) ss)) (sym (steps-added p i r (omega arith) (h .places)));
         served =
             record {
-              holds = h .holds;
+              in-step = h .in-step;
               few = omega arith;
               places = length-set (p .steps) (p .count) (record { child = i; rank = r }) ∙ h .places;
             };
@@ -101,14 +116,14 @@ module _ (source target images : List ℕ) (s t : State) (p : Path) (h : Served 
 
   -- a call on each side: the chip's answer is the source's machine's
   module _ (c : Request) (a b : Answer Packet) (s′ t′ : State) (v : SourceCall s c a s′) (u : ChipCall source target images t c b t′) where
-    abbrev both : (a ≡ b) × Holds source target images s′ t′
-    both = next source target images s t c a b s′ t′ (h .holds) v u
+    abbrev both : (a ≡ b) × InStep source target images s′ t′
+    both = next source target images s t (h .in-step) c a b s′ t′ v u
 
     own : Serves s (callOf c) a s′
     own = source-serves c s a s′ v
 
     formed : wellFormed s ≡ true
-    formed = holds-formed source target images s t (h .holds)
+    formed = h .in-step .source-formed
 
     answer : serve (machine s) (callOf c) .0 ≡ b
     answer = sym (own .answer formed) ∙ both .0
@@ -126,7 +141,7 @@ module _ (source target images : List ℕ) (s t : State) (p : Path) (h : Served 
       let then = ap (λ (z : Call Packet). serve (machine s) z .1) (sym call) ∙ after (push q x) a b s′ t′ v u in
       record {
         is = rw (answered, then, no-steps p′ n);
-        served = record { holds = both (push q x) a b s′ t′ v u .1; few = omega arith; places = g };
+        served = record { in-step = both (push q x) a b s′ t′ v u .1; few = omega arith; places = g };
       }
 
   pub pop-turned : (a b : Answer Packet) (s′ t′ : State) → SourceCall s pop a s′ → ChipCall source target images t pop b t′
@@ -135,5 +150,5 @@ module _ (source target images : List ℕ) (s t : State) (p : Path) (h : Served 
   pop-turned a b s′ t′ v u =
       record {
         is = rw (answer pop a b s′ t′ v u, after pop a b s′ t′ v u);
-        served = record { holds = both pop a b s′ t′ v u .1; few = h .few; places = h .places };
+        served = record { in-step = both pop a b s′ t′ v u .1; few = h .few; places = h .places };
       }

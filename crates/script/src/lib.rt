@@ -15,7 +15,7 @@ ghost use mathlib.Core.List.{[]};
 ghost use Prim.Native.Nat.{_≤_};
 ghost use lib.ListN.{length, take};
 ghost use Rattle.queue_state.specs.State.{machine};
-ghost use Rattle.paired.proofs.Sides.{Holds};
+ghost use Rattle.pair_state.specs.Step.{InStep};
 ghost use Rattle.text.specs.Text.{Puts};
 ghost use Rattle.script.specs.Sheet.{serving};
 ghost use Rattle.script.specs.Output.{output};
@@ -56,7 +56,17 @@ fn compile(script: &[u8], out: &mut [u8], drawing: Drawing, at: usize, next: usi
     let end = lines::put_map(out, 0, images);
     let drawn_tree = pair.source;
     let chip_tree = pair.chip;
-    serve(script, out, end, drawn, chip, images, drawn_tree, chip_tree, next)
+    serve(
+        script,
+        out,
+        end,
+        drawn,
+        chip,
+        images,
+        drawn_tree,
+        chip_tree,
+        next,
+    )
 }
 
 // The commands after 04, from an offset on, with both trees just opened, for a drawing, a chip and the map's images; the text so far ends at
@@ -72,7 +82,7 @@ fn serve(
     chip_opened: State,
     first: usize,
 ) -> usize
-    requires { ⌜ Holds (now drawing) (now target) (now images) opened «chip_opened» × (place ≤ length (now out)) ⌝ }
+    requires { ⌜ InStep (now drawing) (now target) (now images) opened «chip_opened» × (place ≤ length (now out)) ⌝ }
     ensures { λ r. ⌜ Puts (now (out .entry)) place (textAt (now (script .entry)) first (serving (machine opened) [])) (now (out .exit)) r ⌝ }
 {
     let mut source = opened;
@@ -98,7 +108,8 @@ fn serve(
                 if over.refusal == 0 {
                     let sent = queue_push::push(chip, over.path, packet);
                     chip = sent.state;
-                    answer = sent.answer;
+                    let given = sent.answer;
+                    answer = given;
                 }
                 end = replies::put_reply(out, end, answer, at);
                 if replies::stops(answer) {
@@ -109,9 +120,10 @@ fn serve(
             Turn::Pop(next) => {
                 let drawn = queue_pop::pop(source);
                 let taken = queue_pop::pop(chip);
+                let left = taken.served;
                 source = drawn.served.state;
-                chip = taken.served.state;
-                let answer = taken.served.answer;
+                chip = left.state;
+                let answer = left.answer;
                 end = replies::put_reply(out, end, answer, at);
                 if replies::stops(answer) {
                     return end;

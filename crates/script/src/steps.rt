@@ -1,6 +1,7 @@
 // The steps gathered for the next push.
 use queue_push::Path;
 use queue_push::Step;
+use queue_state::Rank;
 ghost use mathlib.Core.Path.{_≡_};
 ghost use Prim.Native.Nat.{_<_};
 ghost use lib.ListN.{length};
@@ -16,7 +17,7 @@ pub(crate) fn no_steps() -> Path
     }
 }
 
-pub(crate) fn add_step(path: Path, child: u8, rank: u32) -> Path
+pub(crate) fn add_step(path: Path, child: u8, rank: Rank) -> Path
     requires { ⌜ (path .count < 9) × (length (path .steps) ≡ 9) ⌝ }
     ensures { λ r. ⌜ r ≡ stepAdded path child rank ⌝ }
 {
@@ -28,7 +29,7 @@ pub(crate) fn add_step(path: Path, child: u8, rank: u32) -> Path
 }
 
 // The path with the rank at its leaf.
-pub(crate) fn ended(path: Path, leaf_rank: u32) -> Path
+pub(crate) fn ended(path: Path, leaf_rank: Rank) -> Path
     ensures { λ r. ⌜ r ≡ endedBy path «leaf_rank» ⌝ }
 {
     let mut next = path;

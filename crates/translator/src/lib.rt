@@ -17,6 +17,7 @@ ghost use Rattle.translator.specs.Ways.{Plain, Over, Toward};
 use embedding::Checked;
 use queue_push::Path;
 use queue_push::Step;
+use queue_state::Rank;
 use topology::Found;
 
 // The carried path and 0, or the path as it came and the refusal's number.
@@ -33,7 +34,7 @@ struct Turn {
 }
 
 // The path with one step more.
-fn extended(path: Path, child: u8, rank: u32) -> Path
+fn extended(path: Path, child: u8, rank: Rank) -> Path
     requires { ⌜ Plain path × (path .count < 9) ⌝ }
     ensures { λ r. ⌜ r ≡ pathOf (stepsOf path ++ (step child rank ∷ [])) (path .«leaf_rank») ⌝ }
 {
@@ -64,7 +65,7 @@ fn toward(bytes: &[u8], from: usize, to: usize) -> Turn
 }
 
 // The path with a step of the given rank at each node from `from` down to, but without, `to`.
-fn descend(bytes: &[u8], path: Path, from: usize, to: usize, rank: u32) -> Path
+fn descend(bytes: &[u8], path: Path, from: usize, to: usize, rank: Rank) -> Path
     requires { ⌜ Over (now bytes) from to × Plain path × (path .count ≡ depth (tree (now bytes)) from) ⌝ }
     ensures { λ r. ⌜ r ≡ pathOf (stepsOf path ++ steps rank (route (tree (now (bytes .entry))) from to)) (path .«leaf_rank») ⌝ }
 {
