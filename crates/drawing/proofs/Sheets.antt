@@ -1,88 +1,87 @@
--- Which drawing an 04 gets, by the number that refuses it; and that the trees that are drawn are small.
+-- Which drawing an 04 gets, by the number that refuses it and by how the search ends; and that the trees that are drawn are small.
 use mathlib.Core.Path.{_≡_, refl, sym, _∙_}
+use mathlib.Core.Logic.{_≢_}
 use Prim.Native.Nat.{ℕ, zero, suc, _≤_}
-use native.Mathlib.Decide.{ℕ-discrete}
 use native.Mathlib.Omega.{arith}
-use mathlib.Core.List.{List, [], _++_}
+use mathlib.Core.List.{List, _++_}
 use mathlib.Core.Bool.{Bool, true, false}
 use mathlib.Core.Option.{Option, none, some}
 use lib.ListN.{length, take}
 use borrow.Author.Tests.{eq-eqb, ne-eqb}
 use Rattle.topology.specs.Reader.{orElse, fault}
-use Rattle.topology.proofs.Refusals.{fault-most}
+use Rattle.topology.proofs.Cases.{clash}
 use Rattle.topology.proofs.Lookup.{valid-length}
-use Rattle.embedding_laws.specs.Least.{noneFault, leastMap, searchFault, searchMap}
-use Rattle.queue_state.specs.Opening.{limitFault}
+use Rattle.topology.proofs.Refusals.{orElse-none}
+use Rattle.embedding_laws.specs.Least.{Found, leastMap, searchMap}
+use Rattle.embedding_search.specs.Outcomes.{outcomeBy, outcome}
+use Rattle.embedding_search.specs.declared.Outcome.{Outcome}
+use Rattle.embedding_search.specs.declared.Outcome.the-variants.{Map, NoMap, Refused as AtFault}
 use Rattle.pair_state.specs.Opening.{bothFault}
-use Rattle.pair_state.proofs.Kept.{whole, both-kept}
+use Rattle.pair_state.proofs.Kept.{whole, outcome-kept, both-kept, both-trees, both-whole}
 use Rattle.gathering.specs.Gathering.{gathered, limitOf, Draws}
 use Rattle.gathering.specs.declared.Drawing.{Drawing}
 use Rattle.gathering.specs.declared.Ending.{Ending}
 use Rattle.gathering.specs.declared.Ending.the-variants.{End, Refused, Compile}
-use Rattle.topology.proofs.Cases.{clash}
 use Rattle.gathering.proofs.WithLimit.{limited}
-use Rattle.drawing.specs.Sheet.{pairOf, foot, refusedEnd, refusal, nothing, sheet, limitIn, sheetBy, scriptSheet}
+use Rattle.drawing.specs.Sheet.{pairOf, foot, refusal, refusedSheet, nothing, sheet, limitIn, sheetBy, scriptSheet}
 
 -- the lengths of trees that are drawn
 pub record Small (source target : List ℕ) : Type 0 where
   pub source-fits : length source ≤ 32
   pub target-fits : length target ≤ 64
 
--- by the faults of the trees, each at most 5
-module _ (source target : List ℕ) (limit number : ℕ) (e : number ≡ bothFault source target limit) where
-  valid : (number ≤ 5 → number ≡ 0) → (fault 32 source ≡ 0) × (fault 64 target ≡ 0)
-  unfolding bothFault searchFault
-  valid few = by-fault (fault 32 source) (fault 64 target) (fault-most 32 source) (fault-most 64 target) e
-    where
-      by-fault : (f g : ℕ) → f ≤ 5 → g ≤ 5
-          → number ≡ orElse (orElse f (orElse g (noneFault (leastMap source target)))) (limitFault limit) → (f ≡ 0) × (g ≡ 0)
-      by-fault zero zero i j q = (refl, refl)
-      by-fault zero (suc g) i j q = absurd (omega (arith, few (omega arith)))
-      by-fault (suc f) g i j q = absurd (omega (arith, few (omega arith)))
+-- where there is no map, both are trees
+unmapped-trees : (source target : List ℕ) → outcome source target ≡ NoMap → (fault 32 source ≡ 0) × (fault 64 target ≡ 0)
+unfolding outcome
+unmapped-trees source target e = orElse-none (fault 32 source) (fault 64 target) (by-fault (orElse (fault 32 source) (fault 64 target)) (leastMap source target) e)
+  where
+    by-fault : (f : ℕ) (a : Found) → outcomeBy f a ≡ NoMap → f ≡ 0
+    by-fault zero a q = refl
+    by-fault (suc f) a q = absurd (clash (cc))
 
-  pub small : (number ≤ 5 → number ≡ 0) → Small source target
-  small few =
-      let v = valid few in
-      record { source-fits = valid-length 32 source (v .0); target-fits = valid-length 64 target (v .1) }
+small : (source target : List ℕ) → (fault 32 source ≡ 0) × (fault 64 target ≡ 0) → Small source target
+small source target f = record { source-fits = valid-length 32 source (f .0); target-fits = valid-length 64 target (f .1) }
+
+pub unmapped-small : (source target : List ℕ) (o : Outcome) → o ≡ outcome source target → o ≡ NoMap → Small source target
+unmapped-small source target o e q = small source target (unmapped-trees source target (sym e ∙ q))
+
+module _ (source target : List ℕ) (limit number : ℕ) (e : number ≡ bothFault source target limit) where
+  pub mapped-small : number ≡ 0 → Small source target
+  mapped-small z = small source target (both-trees source target limit (sym e ∙ z))
 
   pub sheet-mapped : (offset : ℕ) → number ≡ 0 → (m : List ℕ) → m ≡ searchMap source target
       → pairOf source target (take (length source) m) ++ foot ≡ sheet source target limit offset
   unfolding sheet
   sheet-mapped offset z m f = rw (eq-eqb (bothFault source target limit) 0 (sym e ∙ z), f)
 
-  pub sheet-unmapped : (offset : ℕ) → number ≡ 12 → pairOf source target [] ++ refusedEnd 12 offset ≡ sheet source target limit offset
+  pub sheet-refused : (offset : ℕ) → number ≢ 0 → (o : Outcome) → outcome source target ≡ o
+      → refusedSheet o source target number offset ≡ sheet source target limit offset
   unfolding sheet
-  sheet-unmapped offset z =
-      let twelve : bothFault source target limit ≡ 12 = sym e ∙ z in
-      rw (ne-eqb (bothFault source target limit) 0 (λ n. omega arith), eq-eqb (bothFault source target limit) 12 twelve)
+  sheet-refused offset n o q = rw (ne-eqb (bothFault source target limit) 0 (λ z. n (e ∙ z)), q, e) refl
 
-  pub sheet-refused : (offset : ℕ) → (number ≡ 0 → ⊥) → (number ≡ 12 → ⊥) → refusal number offset ≡ sheet source target limit offset
-  unfolding sheet
-  sheet-refused offset n m =
-      rw (
-        ne-eqb (bothFault source target limit) 0 (λ z. n (e ∙ z)),
-        ne-eqb (bothFault source target limit) 12 (λ z. m (e ∙ z)),
-        e,
-      )
-
--- The drawings as they are kept give the same drawing as the whole ones.
+-- The drawings as they are kept give the same drawing as the whole ones: what is drawn is whole, and a refusal has the same number.
 pub sheet-kept : (s t : List ℕ) (limit offset : ℕ) → sheet (take 33 s) (take 65 t) limit offset ≡ sheet s t limit offset
-sheet-kept s t limit offset = by-zero (ℕ-discrete (bothFault s t limit) 0)
+sheet-kept s t limit offset = by-number (bothFault s t limit) refl
   where
-    same : (bothFault s t limit ≤ 5 → bothFault s t limit ≡ 0) → sheet (take 33 s) (take 65 t) limit offset ≡ sheet s t limit offset
-    same few =
-        let v = valid s t limit (bothFault s t limit) refl few in
-        rw (whole 32 s (v .0), whole 64 t (v .1)) refl
+    Same : Type 0
+    Same = sheet (take 33 s) (take 65 t) limit offset ≡ sheet s t limit offset
 
-    by-twelve : (bothFault s t limit ≡ 0 → ⊥) → Dec (bothFault s t limit ≡ 12) → sheet (take 33 s) (take 65 t) limit offset ≡ sheet s t limit offset
-    by-twelve n (yes z) = same (λ h. absurd (omega arith))
-    by-twelve n (no m) =
-        sym (sheet-refused (take 33 s) (take 65 t) limit (bothFault s t limit) (sym (both-kept s t limit)) offset n m)
-        ∙ sheet-refused s t limit (bothFault s t limit) refl offset n m
+    refused-kept : (n : ℕ) → bothFault s t limit ≡ suc n → (o : Outcome) → outcome s t ≡ o
+        → refusedSheet o (take 33 s) (take 65 t) (suc n) offset ≡ refusedSheet o s t (suc n) offset → Same
+    refused-kept n e o k q =
+        let some : suc n ≢ 0 = λ z. omega arith in
+        sym (sheet-refused (take 33 s) (take 65 t) limit (suc n) (sym (both-kept s t limit ∙ e)) offset some o (outcome-kept s t ∙ k))
+        ∙ q
+        ∙ sheet-refused s t limit (suc n) (sym e) offset some o k
 
-    by-zero : Dec (bothFault s t limit ≡ 0) → sheet (take 33 s) (take 65 t) limit offset ≡ sheet s t limit offset
-    by-zero (yes z) = same (λ _. z)
-    by-zero (no n) = by-twelve n (ℕ-discrete (bothFault s t limit) 12)
+    by-outcome : (n : ℕ) → bothFault s t limit ≡ suc n → (o : Outcome) → outcome s t ≡ o → Same
+    by-outcome n e Map k = refused-kept n e Map k refl
+    by-outcome n e NoMap k = let f = unmapped-trees s t k in rw (whole 32 s (f .0), whole 64 t (f .1)) refl
+    by-outcome n e (AtFault m) k = refused-kept n e (AtFault m) k refl
+
+    by-number : (n : ℕ) → bothFault s t limit ≡ n → Same
+    by-number zero e = let all = both-whole s t limit e in rw (all .0, all .1) refl
+    by-number (suc n) e = by-outcome n e (outcome s t) refl
 
 -- The drawing of a script by how the commands before 04 end.
 module _ (script : List ℕ) where

@@ -7,6 +7,9 @@ use lib.ListN.{length, getD, take}
 use lib.Dec.{eqb}
 use Rattle.topology.specs.Reader.{pick}
 use Rattle.embedding_laws.specs.Least.{searchMap}
+use Rattle.embedding_search.specs.Outcomes.{outcome}
+use Rattle.embedding_search.specs.declared.Outcome.{Outcome}
+use Rattle.embedding_search.specs.declared.Outcome.the-variants.{Map, NoMap, Refused as AtFault}
 use Rattle.pair_state.specs.Opening.{bothFault}
 use Rattle.places.specs.Places.{depth, parent, childNumber, roleOf}
 use Rattle.places.specs.declared.Role.{Role}
@@ -79,14 +82,19 @@ refusal number offset = head 64 ++ refusedEnd number offset
 unfoldable pub nothing : List ℕ
 nothing = head 64 ++ bytes "<text class=\"note\" x=\"200\" y=\"20\">nothing to draw</text>\n</svg>\n"
 
--- The drawing of what the 04 at `offset` compiles: both trees with the least map; without a map, with refusal 12; with another refusal, that
--- alone.
+-- refused, by how the search ends: without a map both trees and the refusal, else the refusal alone
+abbrev pub refusedSheet : Outcome → List ℕ → List ℕ → ℕ → ℕ → List ℕ
+refusedSheet Map source target number offset = refusal number offset
+refusedSheet NoMap source target number offset = pairOf source target [] ++ refusedEnd number offset
+refusedSheet (AtFault n) source target number offset = refusal number offset
+
+-- The drawing of what the 04 at `offset` compiles: both trees with the least map, or what is refused.
 unfoldable pub sheet : List ℕ → List ℕ → ℕ → ℕ → List ℕ
 sheet source target limit offset =
     let number = bothFault source target limit in
     let mapped = pairOf source target (take (length source) (searchMap source target)) ++ foot in
-    let unmapped = pairOf source target [] ++ refusedEnd 12 offset in
-    pick (eqb number 0) mapped (pick (eqb number 12) unmapped (refusal number offset))
+    let unserved = refusedSheet (outcome source target) source target number offset in
+    pick (eqb number 0) mapped unserved
 
 -- the limit that a script gave; 0 where it gave none
 abbrev pub limitIn : Option ℕ → ℕ

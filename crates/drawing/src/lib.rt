@@ -7,6 +7,7 @@ use elements::put_join;
 use elements::put_limb;
 use elements::put_mark;
 use elements::put_note;
+use embedding_search::Outcome;
 use gathering::Drawing;
 use gathering::Ending;
 use places::Role;
@@ -207,11 +208,15 @@ fn draw(
         let pair = put_pair(out, at, source, target, &map[..source.len()]);
         return put_word(out, pair, b"</svg>\n");
     }
-    if number == 12 {
-        let pair = put_pair(out, at, source, target, &source[..0]);
-        return put_refused(out, pair, 12, offset);
+    let outcome = both.outcome;
+    match outcome {
+        Outcome::Map => draw_refusal(number, offset, out, at),
+        Outcome::NoMap => {
+            let pair = put_pair(out, at, source, target, &source[..0]);
+            put_refused(out, pair, number, offset)
+        }
+        Outcome::Refused(_) => draw_refusal(number, offset, out, at),
     }
-    draw_refusal(number, offset, out, at)
 }
 
 // What the 04 at an offset compiles, for the drawings as a script's reader keeps them.

@@ -12,7 +12,8 @@
 // at the target's root alone. All k together are at most 31 and each is at most 8, so that the sum of (k + 2) * 2^(k - 1) stays below
 // 4500: about two and a half million steps in all, about 1 ms on the slowest pair that was found.
 //
-// The contract of `search` cites embedding_laws/specs/Least, which a reader has to believe; the other definitions are for private functions.
+// The contract of `search` cites embedding_laws/specs/Least and specs/Outcomes, which a reader has to believe; the other definitions are for
+// private functions.
 ghost use mathlib.Core.Path.{_≡_};
 ghost use Prim.Native.Nat.{_≤_, _<_, _*_, _+_, _-_, min};
 ghost use lib.ListN.{length};
@@ -20,14 +21,21 @@ ghost use Rattle.topology.specs.Reader.{tree};
 ghost use Rattle.embedding_laws.specs.Sets.{power, none};
 ghost use Rattle.embedding_laws.specs.Tables.{Ends, Frame, endBy, cell, Turns, RowTried, ChildTried, RowCopied, RowFilled, LastRow, Scanned, Started, BranchOf, PlacedBelow, Room, NodeFrame, Draws, Pair, bestBy};
 ghost use Rattle.embedding_laws.specs.Meaning.{KidsOf, EntryBy, reachBy, NodeTo, Truth, Different, Put, ReadTo};
-ghost use Rattle.embedding_laws.specs.Least.{noneFault, leastMap, padded, searchFault, searchMap};
+ghost use Rattle.embedding_laws.specs.Least.{leastMap, padded, searchMap};
+ghost use Rattle.embedding_search.specs.Outcomes.{outcomeBy, outcome, numberOf};
 use two_trees::branch_ends;
 use two_trees::trees_fault;
 
-// The search's answer: the least map in 32 places, those past the last source node 0, and the number 0; or a refusal's number of paper
-// 01, and 32 zeros.
+// How a search ends: with the least map; with none; or refused by a tree's fault, whose number paper 01 gives.
+pub enum Outcome {
+    Map,
+    NoMap,
+    Refused(u8),
+}
+
+// The search's answer: how it ends, and the least map in 32 places, those past the last source node 0; without a map 32 zeros.
 pub struct Searched {
-    pub number: u8,
+    pub outcome: Outcome,
     pub map: [u8; 32],
 }
 
@@ -356,7 +364,7 @@ fn read_off(source: &[u8], ends: &[usize; 64], best: &[u64]) -> [u8; 32]
 // The search between two trees that were read.
 fn solve(source: &[u8], target: &[u8]) -> Searched
     requires { ⌜ Draws 32 (now source) × Draws 64 (now target) ⌝ }
-    ensures { λ r. ⌜ (r .number ≡ noneFault (leastMap (now (source .entry)) (now (target .entry)))) × (r .map ≡ padded (leastMap (now (source .entry)) (now (target .entry)))) ⌝ }
+    ensures { λ r. ⌜ (r .outcome ≡ outcomeBy 0 (leastMap (now (source .entry)) (now (target .entry)))) × (r .map ≡ padded (leastMap (now (source .entry)) (now (target .entry)))) ⌝ }
 {
     let source_ends = branch_ends(source);
     let target_ends = branch_ends(target);
@@ -372,26 +380,37 @@ fn solve(source: &[u8], target: &[u8]) -> Searched
     );
     if NONE <= best[0] {
         return Searched {
-            number: 12,
+            outcome: Outcome::NoMap,
             map: [0u8; 32],
         };
     }
     Searched {
-        number: 0,
+        outcome: Outcome::Map,
         map: read_off(source, &source_ends, &best),
     }
 }
 
 // Searches the least map of a source into a target.
 pub fn search(source: &[u8], target: &[u8]) -> Searched
-    ensures { λ r. ⌜ (r .number ≡ searchFault (now (source .entry)) (now (target .entry))) × (r .map ≡ searchMap (now (source .entry)) (now (target .entry))) ⌝ }
+    ensures { λ r. ⌜ (r .outcome ≡ outcome (now (source .entry)) (now (target .entry))) × (r .map ≡ searchMap (now (source .entry)) (now (target .entry))) ⌝ }
 {
     let refusal = trees_fault(source, target);
     if refusal != 0 {
         return Searched {
-            number: refusal,
+            outcome: Outcome::Refused(refusal),
             map: [0u8; 32],
         };
     }
     solve(source, target)
+}
+
+// The number of paper 01 for an outcome, 0 for a map.
+pub fn number_of(outcome: Outcome) -> u8
+    ensures { λ r. ⌜ r ≡ numberOf outcome ⌝ }
+{
+    match outcome {
+        Outcome::Map => 0,
+        Outcome::NoMap => 12,
+        Outcome::Refused(number) => number,
+    }
 }

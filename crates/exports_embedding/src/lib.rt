@@ -42,5 +42,6 @@ pub extern "C" fn linduvar_search(source: &[u8], target: &[u8], out: &mut [u8]) 
     let found = embedding_search::search(source, target);
     let map = found.map;
     put_map(map, out);
-    found.number
+    let outcome = found.outcome;
+    embedding_search::number_of(outcome)
 }

@@ -1,6 +1,6 @@
 -- A drawing that is longer than a tree may be need not be kept whole: one byte more than the limit has the same fault, and where it has
--- none it is whole. And the map of an opening has a place for each node.
-use mathlib.Core.Path.{_≡_, refl}
+-- none it is whole. So the search ends alike. And the map of an opening has a place for each node.
+use mathlib.Core.Path.{_≡_, refl, sym, ap, _∙_}
 use Prim.Native.Nat.{ℕ, zero, suc, _+_, _-_, _≤_}
 use native.Mathlib.Omega.{arith}
 use mathlib.Core.List.{List, [], _∷_}
@@ -10,9 +10,12 @@ use Rattle.topology.specs.Reader.{orElse, faultAt, faultFrom, fault, after}
 use Rattle.topology.proofs.Reader.{sound}
 use Rattle.topology.proofs.Lookup.{valid-length}
 use Rattle.topology.proofs.Refusals.{orElse-none}
-use Rattle.embedding_laws.specs.Least.{Found, nothing, list, noneFault, leastMap, searchFault, padded, unlessRefused, searchMap}
+use Rattle.embedding_laws.specs.Least.{Found, nothing, list, leastMap, searchFault, padded, unlessRefused, searchMap}
+use Rattle.embedding_search.specs.Outcomes.{outcomeBy, outcome, numberOf}
+use Rattle.embedding_search.proofs.Answers.{outcome-number}
 use Rattle.queue_state.specs.Opening.{limitFault}
 use Rattle.pair_state.specs.Opening.{bothFault}
+use Rattle.pair_state.proofs.Start.{faultless}
 
 -- what comes after matters only where the first is 0
 orElse-same : (f r s : ℕ) → (f ≡ 0 → r ≡ s) → orElse f r ≡ orElse f s
@@ -33,32 +36,32 @@ fault-kept limit bytes = fault-part limit 0 (suc limit) (1 ∷ []) bytes (omega 
 pub whole : (limit : ℕ) (bytes : List ℕ) → fault limit bytes ≡ 0 → take (suc limit) bytes ≡ bytes
 whole limit bytes e = take-all (suc limit) bytes (omega (arith, valid-length limit bytes e))
 
-search-kept : (s t : List ℕ) → searchFault (take 33 s) (take 65 t) ≡ searchFault s t
-unfolding searchFault
-search-kept s t =
-    rw (fault-kept 32 s, fault-kept 64 t)
-    (orElse-same (fault 32 s) (orElse (fault 64 t) (noneFault (leastMap (take 33 s) (take 65 t)))) (orElse (fault 64 t) (noneFault (leastMap s t)))
-    (λ z. orElse-same (fault 64 t) (noneFault (leastMap (take 33 s) (take 65 t))) (noneFault (leastMap s t))
-    (λ y. rw (whole 32 s z, whole 64 t y))))
+pub outcome-kept : (s t : List ℕ) → outcome (take 33 s) (take 65 t) ≡ outcome s t
+unfolding outcome
+outcome-kept s t = rw (fault-kept 32 s, fault-kept 64 t) (by-fault (fault 32 s) (fault 64 t) refl refl)
+  where
+    by-fault : (f g : ℕ) → fault 32 s ≡ f → fault 64 t ≡ g
+        → outcomeBy (orElse f g) (leastMap (take 33 s) (take 65 t)) ≡ outcomeBy (orElse f g) (leastMap s t)
+    by-fault zero zero e d = rw (whole 32 s e, whole 64 t d) refl
+    by-fault zero (suc g) e d = refl
+    by-fault (suc f) g e d = refl
 
 module _ (s t : List ℕ) (limit : ℕ) where
   pub both-kept : bothFault (take 33 s) (take 65 t) limit ≡ bothFault s t limit
   unfolding bothFault
-  both-kept = rw (search-kept s t)
+  both-kept =
+      let same = sym (outcome-number (take 33 s) (take 65 t)) ∙ ap numberOf (outcome-kept s t) ∙ outcome-number s t in
+      ap (λ (f : ℕ). orElse f (limitFault limit)) same
+
+  pub both-trees : bothFault s t limit ≡ 0 → (fault 32 s ≡ 0) × (fault 64 t ≡ 0)
+  unfolding bothFault
+  both-trees e = faultless s t (orElse-none (searchFault s t) (limitFault limit) e .0)
 
   pub both-whole : bothFault s t limit ≡ 0 → (take 33 s ≡ s) × (take 65 t ≡ t)
-  unfolding bothFault searchFault
-  both-whole e =
-      let f = orElse-none (searchFault s t) (limitFault limit) e .0 in
-      let g = orElse-none (fault 32 s) (orElse (fault 64 t) (noneFault (leastMap s t))) f in
-      (whole 32 s (g .0), whole 64 t (orElse-none (fault 64 t) (noneFault (leastMap s t)) (g .1) .0))
+  both-whole e = let f = both-trees e in (whole 32 s (f .0), whole 64 t (f .1))
 
   pub both-few : bothFault s t limit ≡ 0 → length s ≤ 32
-  unfolding bothFault searchFault
-  both-few e =
-      let f = orElse-none (searchFault s t) (limitFault limit) e .0 in
-      let g = orElse-none (fault 32 s) (orElse (fault 64 t) (noneFault (leastMap s t))) f in
-      valid-length 32 s (g .0)
+  both-few e = valid-length 32 s (both-trees e .0)
 
 -- the map that comes back has a place for each of 32 nodes
 pub map-room : (s t m : List ℕ) → m ≡ searchMap s t → 32 ≤ length m

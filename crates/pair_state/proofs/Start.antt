@@ -14,26 +14,34 @@ use Rattle.embedding_laws.specs.Rules.{Passes}
 use Rattle.embedding_laws.specs.Least.{leastMap, noneFault, searchFault, searchMap}
 use Rattle.embedding_laws.proofs.Rules.{mapFault-none}
 use Rattle.embedding_laws.proofs.Searching.{search-map}
+use Rattle.embedding_search.specs.Outcomes.{outcome, numberOf}
+use Rattle.embedding_search.specs.declared.Outcome.{Outcome}
+use Rattle.embedding_search.proofs.Answers.{outcome-number}
 use Rattle.simulation.proofs.Simulation.{paired-opened}
 use Rattle.queue_state.specs.Opening.{limitFault, openFault, Opens}
 use Rattle.queue_state.specs.declared.Opened.{Opened}
 use Rattle.pair_state.specs.Step.{InStep}
 use Rattle.pair_state.specs.Opening.{bothFault, OpensBoth}
 
+-- the number of the search's outcome
+pub number-is : (source target : List ℕ) (o : Outcome) (number : ℕ) → o ≡ outcome source target → number ≡ numberOf o → number ≡ searchFault source target
+number-is source target o number e k = k ∙ ap numberOf e ∙ outcome-number source target
+
 -- refused by the search: no tree is opened
-pub search-refused : (source target : List ℕ) (limit number : ℕ) (map : List ℕ) (none : Opened) → number ≡ searchFault source target → number ≢ 0
-    → map ≡ searchMap source target → Opens [] limit none
-    → OpensBoth source target limit (record { pair = record { source = none .state; chip = none .state; map = map }; refusal = number })
+pub search-refused : (source target : List ℕ) (limit number : ℕ) (o : Outcome) (map : List ℕ) (none : Opened) → o ≡ outcome source target
+    → number ≡ searchFault source target → number ≢ 0 → map ≡ searchMap source target → Opens [] limit none
+    → OpensBoth source target limit (record { pair = record { source = none .state; chip = none .state; map = map }; outcome = o; refusal = number })
 unfolding bothFault openFault fault
-search-refused source target limit zero map none e z q o = absurd (z refl)
-search-refused source target limit (suc n) map none e z q o =
+search-refused source target limit zero o map none k e z q v = absurd (z refl)
+search-refused source target limit (suc n) o map none k e z q v =
     record {
       refusal = ap (λ (f : ℕ). orElse f (limitFault limit)) e;
+      outcome = k;
       drawn = λ r. absurd (omega arith);
       chip = λ r. absurd (omega arith);
       map = q;
       in-step = λ r. absurd (omega arith);
-      nothing = λ _. let ill = o .nothing (λ r. first-is-1 (sym (o .refusal) ∙ r)) in (ill, ill);
+      nothing = λ _. let ill = v .nothing (λ r. first-is-1 (sym (v .refusal) ∙ r)) in (ill, ill);
     }
   where
     first-is-1 : openFault [] limit ≡ 0 → ⊥
@@ -73,15 +81,17 @@ module _ (source target : List ℕ) (e : searchFault source target ≡ 0) where
       ap (take (length source)) (q ∙ s .2) ∙ ap (λ (k : ℕ). take k (m ++ replicate (32 - length m) 0)) (sym n) ∙ take-append-seam m (replicate (32 - length m) 0) in
       rw t (s .1 .passes)
 
-  pub both-opened : (limit : ℕ) (map : List ℕ) → map ≡ searchMap source target → (x y : Opened) → Opens source limit x → Opens target limit y
-      → OpensBoth source target limit (record { pair = record { source = x .state; chip = y .state; map = map }; refusal = x .refusal })
+  pub both-opened : (limit : ℕ) (k : Outcome) (map : List ℕ) → k ≡ outcome source target → map ≡ searchMap source target → (x y : Opened)
+      → Opens source limit x → Opens target limit y
+      → OpensBoth source target limit (record { pair = record { source = x .state; chip = y .state; map = map }; outcome = k; refusal = x .refusal })
   unfolding bothFault
-  both-opened limit map q x y o u =
+  both-opened limit k map p q x y o u =
       let a = open-number source limit x (fault-wider 32 64 source (omega arith) (faultless .0)) o in
       let b = open-number target limit y (faultless .1) u in
       let same : y .refusal ≡ x .refusal = b ∙ sym a in
       record {
         refusal = a ∙ ap (λ (f : ℕ). orElse f (limitFault limit)) (sym e);
+        outcome = p;
         drawn = λ z. o .machine z;
         chip = λ z. u .machine (same ∙ z);
         map = q;

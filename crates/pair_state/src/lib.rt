@@ -1,5 +1,7 @@
 // A pair of trees, the one that a park draws and the one of a gateway's chip, opened together with the map of the one into the other. The
 // crate `paired` has what calls on both of them keep.
+use embedding_search::Outcome;
+use embedding_search::number_of;
 use queue_state::State;
 ghost use Rattle.pair_state.specs.Opening.{OpensBoth};
 
@@ -10,9 +12,11 @@ pub struct Pair {
     pub map: [u8; 32],
 }
 
-// The answer to an opening: 0 and both trees, empty; or a refusal's number and two states that every call refuses by 18.
+// The answer to an opening: how the search for the map ends, and 0 and both trees, empty; or a refusal's number and two states that every
+// call refuses by 18.
 pub struct PairOpened {
     pub pair: Pair,
+    pub outcome: Outcome,
     pub refusal: u8,
 }
 
@@ -22,7 +26,8 @@ pub fn open(source: &[u8], target: &[u8], limit: usize) -> PairOpened
 {
     let found = embedding_search::search(source, target);
     let map = found.map;
-    let number = found.number;
+    let outcome = found.outcome;
+    let number = number_of(outcome);
     if number != 0 {
         let none = queue_state::open(&source[..0], limit);
         let state = none.state;
@@ -32,6 +37,7 @@ pub fn open(source: &[u8], target: &[u8], limit: usize) -> PairOpened
                 chip: state,
                 map,
             },
+            outcome,
             refusal: number,
         };
     }
@@ -45,6 +51,7 @@ pub fn open(source: &[u8], target: &[u8], limit: usize) -> PairOpened
             chip: chip_state,
             map,
         },
+        outcome,
         refusal: drawn.refusal,
     }
 }

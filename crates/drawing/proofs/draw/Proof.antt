@@ -1,12 +1,12 @@
--- `draw` meets its contract: the drawings of a pair with a map, of one without, and of a refusal.
-use mathlib.Core.Path.{sym}
+-- `draw` meets its contract: the drawing of a pair with a map, and of a refusal for each end of the search.
+use mathlib.Core.Path.{sym, _∙_}
 use lib.ListN.{length, length-take}
 use lib.Seq.{length-take-le}
 use denote.Ref.{now}
 use native.Mathlib.Omega.{arith}
 use Rattle.text.proofs.Writing.{puts-as, puts-then}
 use Rattle.pair_state.proofs.Kept.{map-room}
-use Rattle.drawing.proofs.Sheets.{small, sheet-mapped, sheet-unmapped, sheet-refused}
+use Rattle.drawing.proofs.Sheets.{unmapped-small, mapped-small, sheet-mapped, sheet-refused}
 use borrow.Author.Needs.{needs}
 use Rattle.drawing.proofs.draw.Statement.{statement}
 use Rattle.drawing.proofs.draw.Tie as tie
@@ -17,20 +17,20 @@ open-requires c κs = search needs
 array-share-prefix-map : tie.Need-array-share-prefix-map
 array-share-prefix-map c =
     let both = c .before .before .before .before in
-    let fits = small _ _ _ _ (both .«open» .ensures .refusal) (λ h. c .before .before .before .if1 .taken) in
+    let fits = mapped-small _ _ _ _ (both .«open» .ensures .refusal) (c .before .before .before .if1 .taken) in
     omega (arith, fits .source-fits, map-room _ _ _ (both .«open» .ensures .map))
 
 slice-aggregate-put-pair : tie.Need-slice-aggregate-put-pair
 slice-aggregate-put-pair c =
     let both = c .before .before .before .before .before in
-    let fits = small _ _ _ _ (both .«open» .ensures .refusal) (λ h. c .before .before .before .before .if1 .taken) in
+    let fits = mapped-small _ _ _ _ (both .«open» .ensures .refusal) (c .before .before .before .before .if1 .taken) in
     sym (length-take-le _ _ (omega (arith, fits .source-fits, map-room _ _ _ (both .«open» .ensures .map))))
 
 put-pair-requires : tie.Need-put-pair-requires
 put-pair-requires c κs =
     let both = c .before .before .before .before .before in
     let source = now (both .before .before .before .before .args .source) in
-    let fits = small _ _ _ _ (both .«open» .ensures .refusal) (λ h. c .before .before .before .before .if1 .taken) in
+    let fits = mapped-small _ _ _ _ (both .«open» .ensures .refusal) (c .before .before .before .before .if1 .taken) in
     (omega (arith, fits .source-fits), fits .target-fits, omega (arith, fits .source-fits, length-take (length source) (both .«open» .result .pair .map)))
 
 slice-aggregate-put-word : tie.Need-slice-aggregate-put-word
@@ -51,17 +51,33 @@ returns c =
     puts-as (sheet-mapped _ _ _ _ (both .«open» .ensures .refusal) _ (tested .if1 .taken) _ (both .«open» .ensures .map))
     (puts-then (pair .put-pair .ensures) (end .put-word .ensures))
 
+enum-told : tie.Need-enum-told
+enum-told c = search needs
+
+draw-refusal-requires : tie.Need-draw-refusal-requires
+draw-refusal-requires c κs = search needs
+
+enum-told-2 : tie.Need-enum-told-2
+enum-told-2 c = search needs
+
 slice-aggregate-put-pair-2 : tie.Need-slice-aggregate-put-pair-2
 slice-aggregate-put-pair-2 c = search needs
 
 put-pair-requires-2 : tie.Need-put-pair-requires-2
 put-pair-requires-2 c κs =
-    let both = c .before .before .before .before in
-    let fits = small _ _ _ _ (both .«open» .ensures .refusal) (λ h. absurd (omega (arith, c .before .before .if2 .taken))) in
+    let told = c .before .before in
+    let both = told .before .before .before in
+    let fits = unmapped-small _ _ _ (both .«open» .ensures .outcome) (told .enum-told2 .given .1) in
     (omega (arith, fits .source-fits), fits .target-fits, omega arith)
 
 put-refused-requires : tie.Need-put-refused-requires
 put-refused-requires c κs = search needs
+
+enum-told-3 : tie.Need-enum-told-3
+enum-told-3 c = search needs
+
+draw-refusal-requires-2 : tie.Need-draw-refusal-requires-2
+draw-refusal-requires-2 c κs = search needs
 
 same-length-2 : tie.Need-same-length-2
 same-length-2 c = search needs
@@ -69,13 +85,10 @@ same-length-2 c = search needs
 returns-2 : tie.Need-returns-2
 returns-2 c =
     let end = c .before .before in
-    let pair = end .before .before .before .before in
-    let twelve = pair .before .before .before in
-    let both = twelve .before .before in
-    puts-as (sheet-unmapped _ _ _ _ (both .«open» .ensures .refusal) _ (twelve .if2 .taken)) (puts-then (pair .put-pair2 .ensures) (end .put-refused .ensures))
-
-draw-refusal-requires : tie.Need-draw-refusal-requires
-draw-refusal-requires c κs = search needs
+    let told = end .before .before in
+    let tested = told .before .before in
+    let opened = tested .before .«open» .ensures in
+    puts-as (sheet-refused _ _ _ _ (opened .refusal) _ (tested .if1 .left) _ (sym (opened .outcome) ∙ told .enum-told .given .1)) (end .draw-refusal .ensures)
 
 same-length-3 : tie.Need-same-length-3
 same-length-3 c = search needs
@@ -83,9 +96,23 @@ same-length-3 c = search needs
 returns-3 : tie.Need-returns-3
 returns-3 c =
     let end = c .before .before in
-    let other = end .before .before in
-    let both = other .before .before in
-    puts-as (sheet-refused _ _ _ _ (both .«open» .ensures .refusal) _ (other .before .if1 .left) (other .if2 .left)) (end .draw-refusal .ensures)
+    let pair = end .before .before .before .before in
+    let told = pair .before .before .before in
+    let tested = told .before .before in
+    let opened = tested .before .«open» .ensures in
+    puts-as (sheet-refused _ _ _ _ (opened .refusal) _ (tested .if1 .left) _ (sym (opened .outcome) ∙ told .enum-told2 .given .1))
+    (puts-then (pair .put-pair2 .ensures) (end .put-refused .ensures))
+
+same-length-4 : tie.Need-same-length-4
+same-length-4 c = search needs
+
+returns-4 : tie.Need-returns-4
+returns-4 c =
+    let end = c .before .before in
+    let told = end .before .before in
+    let tested = told .before .before in
+    let opened = tested .before .«open» .ensures in
+    puts-as (sheet-refused _ _ _ _ (opened .refusal) _ (tested .if1 .left) _ (sym (opened .outcome) ∙ told .enum-told3 .given .1)) (end .draw-refusal2 .ensures)
 
 pub draw-spec : {M : Type 1} → statement M
 draw-spec =
@@ -99,11 +126,17 @@ draw-spec =
     put-word-requires
     same-length
     returns
+    enum-told
+    draw-refusal-requires
+    enum-told-2
     slice-aggregate-put-pair-2
     put-pair-requires-2
     put-refused-requires
+    enum-told-3
+    draw-refusal-requires-2
     same-length-2
     returns-2
-    draw-refusal-requires
     same-length-3
-    returns-3)
+    returns-3
+    same-length-4
+    returns-4)

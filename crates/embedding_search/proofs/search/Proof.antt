@@ -1,7 +1,7 @@
 -- `search` meets its contract: one law for each answer.
 use borrow.Author.Needs.{needs}
 use denote.Ref.{now}
-use Rattle.embedding_search.proofs.Outcome.{search-trees, both-draw, search-solved}
+use Rattle.embedding_search.proofs.Answers.{search-trees, both-draw, search-solved}
 use Rattle.embedding_search.proofs.search.Statement.{statement}
 use Rattle.embedding_search.proofs.search.Tie as tie
 

@@ -5,7 +5,7 @@ use native.Mathlib.Omega.{arith}
 use denote.Ref.{now}
 use Rattle.embedding_laws.proofs.Cells.{room-zeros}
 use Rattle.two_trees.proofs.EndTable.{is-table}
-use Rattle.embedding_search.proofs.Outcome.{solve-none, solve-found}
+use Rattle.embedding_search.proofs.Answers.{solve-none, solve-found}
 use Rattle.embedding_search.proofs.solve.Statement.{statement}
 use Rattle.embedding_search.proofs.solve.Tie as tie
 

@@ -1,5 +1,8 @@
 -- `linduvar_search` meets its contract: a law for each of its two answers.
+use mathlib.Core.Path.{ap, _∙_}
 use borrow.Author.Needs.{needs}
+use Rattle.embedding_search.specs.Outcomes.{numberOf}
+use Rattle.embedding_search.proofs.Answers.{outcome-number}
 use Rattle.exports_embedding.proofs.Maps.{search-no-room, search-room}
 use Rattle.exports_embedding.proofs.linduvar_search.Statement.{statement}
 use Rattle.exports_embedding.proofs.linduvar_search.Tie as tie
@@ -15,17 +18,22 @@ search-requires c κs = search needs
 put-map-requires : tie.Need-put-map-requires
 put-map-requires c κs = search needs
 
+number-of-requires : tie.Need-number-of-requires
+number-of-requires c κs = search needs
+
 same-length : tie.Need-same-length
 same-length c = search needs
 
 returns-2 : tie.Need-returns-2
 returns-2 c =
-    let search = c .before .before .before .before .before .search in
-    let if1 = c .before .before .before .before .before .before .if1 in
-    let args = c .before .before .before .before .before .before .before .before .before .before .args in
+    let put = c .before .before .before in
+    let search = put .before .before .before .search in
+    let if1 = put .before .before .before .before .if1 in
+    let args = put .before .before .before .before .before .before .before .before .args in
     search-room (args .source .now) (args .target .now) (args .out .now) (if1 .left) _ _ _
-    (search .ensures .0) (search .ensures .1) (c .before .before .put-map .ensures)
+    (c .number-of .ensures ∙ ap numberOf (search .ensures .0) ∙ outcome-number (args .source .now) (args .target .now))
+    (search .ensures .1) (put .put-map .ensures)
 
 pub linduvar-search-spec : {M : Type 1} → statement M
 linduvar-search-spec =
-    tie.close (tie.spec returns search-requires put-map-requires same-length returns-2)
+    tie.close (tie.spec returns search-requires put-map-requires number-of-requires same-length returns-2)

@@ -1,5 +1,5 @@
--- The search's answers: a tree that was read is drawn by its bytes within the limits; 12 and the map follow from what the table says;
--- a refusal of the reader comes first. One law for each answer.
+-- The search's answers: a tree that was read is drawn by its bytes within the limits; whether there is a map, and the map, follow from what the
+-- table says; a refusal of the reader comes first. One law for each answer.
 use mathlib.Core.Path.{_≡_, refl, sym, ap, _∙_}
 use Prim.Native.Nat.{ℕ, zero, suc, _≤_, _<_}
 use native.Mathlib.Decide.{decLt}
@@ -20,6 +20,9 @@ use Rattle.embedding_laws.specs.Meaning.{Truth, ReadTo}
 use Rattle.embedding_laws.proofs.Images.{found-none, found-list}
 use Rattle.two_trees.specs.Trees.{treesFault}
 use Rattle.two_trees.proofs.Trees.{orElse-both, tree-fits}
+use Rattle.embedding_search.specs.Outcomes.{outcomeBy, outcome, numberOf}
+use Rattle.embedding_search.specs.declared.Outcome.{Outcome}
+use Rattle.embedding_search.specs.declared.Outcome.the-variants.{Map, NoMap, Refused}
 
 draws : (limit : ℕ) (bytes : List ℕ) → fault limit bytes ≡ 0 → Draws limit bytes
 draws limit bytes z =
@@ -41,22 +44,22 @@ draws limit bytes z =
 
 module _ (source target : List ℕ) (d : Draws 32 source) (e : Draws 64 target) (best : List ℕ)
     (truth : Truth (tree source) (tree target) (bestBy best) 0) where
-  pub solve-none : none ≤ getD best 0 0 → (12 ≡ noneFault (leastMap source target)) × (replicate 32 0 ≡ padded (leastMap source target))
+  pub solve-none : none ≤ getD best 0 0 → (NoMap ≡ outcomeBy 0 (leastMap source target)) × (replicate 32 0 ≡ padded (leastMap source target))
   solve-none h = rw (found-none source target d e best truth h) (refl, refl)
 
   pub solve-found : getD best 0 0 < none → (m : List ℕ) → ReadTo (tree source) (bestBy best) (length source) m
-      → (0 ≡ noneFault (leastMap source target)) × (m ≡ padded (leastMap source target))
+      → (Map ≡ outcomeBy 0 (leastMap source target)) × (m ≡ padded (leastMap source target))
   solve-found h m r =
       let f = found-list source target d e best truth h m r in
-      (sym (ap noneFault (f .0)), f .1)
+      (sym (ap (outcomeBy 0) (f .0)), f .1)
 
 module _ (source target : List ℕ) (refusal : ℕ) (e : refusal ≡ treesFault source target) where
-  pub search-trees : (refusal ≡ 0 → ⊥) → (refusal ≡ searchFault source target) × (replicate 32 0 ≡ searchMap source target)
-  unfolding searchFault searchMap
+  pub search-trees : (refusal ≡ 0 → ⊥) → (Refused refusal ≡ outcome source target) × (replicate 32 0 ≡ searchMap source target)
+  unfolding outcome searchFault searchMap
   search-trees n = by-fault (fault 32 source) (fault 64 target) e
     where
       by-fault : (f g : ℕ) → refusal ≡ orElse f g
-          → (refusal ≡ orElse f (orElse g (noneFault (leastMap source target))))
+          → (Refused refusal ≡ outcomeBy (orElse f g) (leastMap source target))
           × (replicate 32 0 ≡ unlessRefused (orElse f (orElse g (noneFault (leastMap source target)))) (padded (leastMap source target)))
       by-fault zero zero q = absurd (n q)
       by-fault zero (suc g) q = (cc, refl)
@@ -69,11 +72,22 @@ module _ (source target : List ℕ) (refusal : ℕ) (e : refusal ≡ treesFault 
     pub both-draw : Draws 32 source × Draws 64 target
     both-draw = (draws 32 source (no-fault .0), draws 64 target (no-fault .1))
 
-    pub search-solved : (number : ℕ) (m : List ℕ) → (number ≡ noneFault (leastMap source target)) × (m ≡ padded (leastMap source target))
-        → (number ≡ searchFault source target) × (m ≡ searchMap source target)
-    unfolding searchFault searchMap
-    search-solved number m s = rw (no-fault .0, no-fault .1) (s .0, s .1 ∙ by-answer (leastMap source target))
+    pub search-solved : (o : Outcome) (m : List ℕ) → (o ≡ outcomeBy 0 (leastMap source target)) × (m ≡ padded (leastMap source target))
+        → (o ≡ outcome source target) × (m ≡ searchMap source target)
+    unfolding outcome searchFault searchMap
+    search-solved o m s = rw (no-fault .0, no-fault .1) (s .0, s .1 ∙ by-answer (leastMap source target))
       where
         by-answer : (f : Found) → padded f ≡ unlessRefused (noneFault f) (padded f)
         by-answer nothing = refl
         by-answer (list l) = refl
+
+-- the number of the outcome
+pub outcome-number : (source target : List ℕ) → numberOf (outcome source target) ≡ searchFault source target
+unfolding outcome searchFault
+outcome-number source target = by-case (fault 32 source) (fault 64 target) (leastMap source target)
+  where
+    by-case : (f g : ℕ) (a : Found) → numberOf (outcomeBy (orElse f g) a) ≡ orElse f (orElse g (noneFault a))
+    by-case zero zero nothing = refl
+    by-case zero zero (list m) = refl
+    by-case zero (suc g) a = refl
+    by-case (suc f) g a = refl

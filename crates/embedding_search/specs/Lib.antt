@@ -1,0 +1,2 @@
+-- To believe: Outcomes (how a search ends), with embedding_laws/specs/Least.
+pub mod Outcomes
