@@ -1,23 +1,22 @@
-// A pop: the way down from the root by the heads of the queues, and the heads on the way taken out.
+// A pop: the way down from the root by the heads of the queues.
 use super::Taken;
 use super::Way;
 use queue_state::Entry;
 use queue_state::Item;
 use queue_state::Packet;
 use queue_state::Rank;
-use queue_state::wide16;
 use topology::Found;
 ghost use mathlib.Core.Path.{_≡_};
 ghost use Prim.Native.Nat.{ℕ, _-_, _≤_, _<_};
 ghost use mathlib.Core.Bool.{false};
-ghost use lib.ListN.{length, getD, replicate};
+ghost use lib.ListN.{length, replicate};
 ghost use Rattle.topology.specs.Reader.{fault, tree};
 ghost use Rattle.topology.specs.Address.{subtree};
 ghost use Rattle.pifo.specs.Numbered.{Queues, descent};
-ghost use Rattle.queue_state.specs.State.{Packet, startOf};
+ghost use Rattle.queue_state.specs.State.{Packet};
 ghost use Rattle.queue_check.specs.Tests.{Heading};
 ghost use Rattle.queue_pop.specs.Ways.{noTaken};
-ghost use Rattle.queue_pop.specs.Departures.{Down, Shorter, Closed, ended as Departures·ended, taking as Departures·taking};
+ghost use Rattle.queue_pop.specs.Departures.{Down, ended as Departures·ended, taking as Departures·taking};
 
 // A pop from some node on: the packet that leaves, what is taken on its way down to the leaf, and the lengths of all queues after it.
 pub(crate) struct Trail {
@@ -129,31 +128,4 @@ pub(crate) fn pop_from(
             taking(below, 9 - left, node, index, head.rank, own - 1)
         }
     }
-}
-
-// Closes the gaps: the last entries of each queue stay, as many as its new length says, and move down behind those before them.
-pub(crate) fn closed(
-    nodes: usize,
-    old: [u16; 64],
-    new: [u16; 64],
-    entries: [Entry; 2304],
-) -> [Entry; 2304]
-    requires { ⌜ (nodes ≤ 64) × (startOf old nodes ≤ 2304) × Shorter old new ⌝ }
-    ensures { λ r. ⌜ Closed nodes old new entries r ⌝ }
-{
-    let mut moved = entries;
-    let mut kept = 0;
-    let mut end = 0;
-    let mut node = 0;
-    while node < nodes {
-        end += wide16(old[node]);
-        let mut i = end - wide16(new[node]);
-        while i < end {
-            moved[kept] = moved[i];
-            kept += 1;
-            i += 1;
-        }
-        node += 1;
-    }
-    moved
 }

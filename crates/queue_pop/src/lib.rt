@@ -7,6 +7,7 @@ use queue_state::Answer;
 use queue_state::Rank;
 use queue_state::Served;
 use queue_state::State;
+use queue_state::wide16;
 ghost use mathlib.Core.Path.{_≡_};
 ghost use Rattle.pifo.specs.Machine.{popping};
 ghost use Rattle.queue_state.specs.Calls.{answerOf, Serves};
@@ -33,14 +34,18 @@ pub struct Popped {
 }
 
 // Pops the packet at the head: 18 and 16 are tested in this order.
+//
+// One copy of the state serves the test and is then changed in place, since each function that takes a state copies it; hence the loops
+// here. They close the gaps: of each queue as many of the last entries stay as its new length says, and move down behind those before them.
 pub fn pop(state: State) -> Popped
     ensures { λ r. ⌜ Serves state popping (answerOf (r .served .answer)) (r .served .state) × (r .way ≡ wayOf state) ⌝ }
 {
-    let test = examine(state);
+    let mut after = state;
+    let test = examine(after);
     if !test.sound {
         return Popped {
             served: Served {
-                state,
+                state: after,
                 answer: Answer::Refused(18),
             },
             way: departures::no_way(0),
@@ -49,31 +54,39 @@ pub fn pop(state: State) -> Popped
     if test.held == 0 {
         return Popped {
             served: Served {
-                state,
+                state: after,
                 answer: Answer::Refused(16),
             },
             way: departures::no_way(0),
         };
     }
-    let frame = state.frame;
+    let frame = after.frame;
     let topology = frame.topology;
     let nodes = frame.nodes;
     let bytes = &topology[..nodes];
-    let old = state.lengths;
+    let old = after.lengths;
     let heads = test.heads;
     let trail = departures::pop_from(bytes, old, heads, 0, 9);
-    let lengths = trail.lengths;
-    let before = state.entries;
-    let entries = departures::closed(nodes, old, lengths, before);
+    let new = trail.lengths;
+    let mut kept = 0;
+    let mut end = 0;
+    let mut node = 0;
+    while node < nodes {
+        end += wide16(old[node]);
+        let mut i = end - wide16(new[node]);
+        while i < end {
+            let entry = after.entries[i];
+            after.entries[kept] = entry;
+            kept += 1;
+            i += 1;
+        }
+        node += 1;
+    }
+    after.lengths = new;
     let way = trail.way;
     Popped {
         served: Served {
-            state: State {
-                frame,
-                refused: state.refused,
-                lengths,
-                entries,
-            },
+            state: after,
             answer: Answer::Departed(trail.packet),
         },
         way,
