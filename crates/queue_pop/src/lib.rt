@@ -36,7 +36,7 @@ pub struct Popped {
 // Pops the packet at the head: 18 and 16 are tested in this order.
 //
 // One copy of the state serves the test and is then changed in place, since each function that takes a state copies it; hence the loops
-// here. They close the gaps: of each queue as many of the last entries stay as its new length says, and move down behind those before them.
+// here. What the call leaves is read from the state as it came: the compiler then makes no second copy. They close the gaps: of each queue as many of the last entries stay as its new length says, and move down behind those before them.
 pub fn pop(state: State) -> Popped
     ensures { λ r. ⌜ Serves state popping (answerOf (r .served .answer)) (r .served .state) × (r .way ≡ wayOf state) ⌝ }
 {
@@ -60,11 +60,11 @@ pub fn pop(state: State) -> Popped
             way: departures::no_way(0),
         };
     }
-    let frame = after.frame;
+    let frame = state.frame;
     let topology = frame.topology;
     let nodes = frame.nodes;
     let bytes = &topology[..nodes];
-    let old = after.lengths;
+    let old = state.lengths;
     let heads = test.heads;
     let trail = departures::pop_from(bytes, old, heads, 0, 9);
     let new = trail.lengths;

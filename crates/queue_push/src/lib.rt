@@ -8,6 +8,7 @@ use queue_state::Packet;
 use queue_state::Rank;
 use queue_state::Served;
 use queue_state::State;
+use queue_state::wide16;
 ghost use mathlib.Core.Path.{_≡_};
 ghost use Prim.Native.Nat.{suc, min};
 ghost use Rattle.pifo.specs.Machine.{pushing, most, room as Machine·room};
@@ -52,13 +53,18 @@ fn room(limit: usize, held: usize) -> u8
 }
 
 // Pushes a packet along a path: 18, 13, 14, 15 are tested in this order.
+//
+// One copy of the state serves the test and is then changed in place, since each function that takes a state copies it; hence the loop
+// here. What the call leaves is read from the state as it came: the compiler then makes no second copy. It makes room: each new entry goes behind the last entry of its queue that has no greater rank, or before all of them where there is
+// none. From the last entry to the first, each moves up once, by as many places as new entries are still to come.
 pub fn push(state: State, path: Path, packet: Packet) -> Served
     ensures { λ r. ⌜ Serves state (pushing (stepsOf path) (path .«leaf_rank») packet) (answerOf (r .answer)) (r .state) ⌝ }
 {
-    let test = examine(state);
+    let mut after = state;
+    let test = examine(after);
     if !test.sound {
         return Served {
-            state,
+            state: after,
             answer: Answer::Refused(18),
         };
     }
@@ -70,36 +76,53 @@ pub fn push(state: State, path: Path, packet: Packet) -> Served
     let fault = added.fault;
     if fault != 0 {
         return Served {
-            state,
+            state: after,
             answer: Answer::Refused(fault),
         };
     }
-    let old = state.lengths;
-    let before = state.entries;
     let number = room(frame.limit, test.held);
     if number != 0 {
         let count = counted(state.refused);
+        after.refused = count;
         return Served {
-            state: State {
-                frame,
-                refused: count,
-                lengths: old,
-                entries: before,
-            },
+            state: after,
             answer: Answer::Full(number, count),
         };
     }
-    let pending = added.pending;
-    let lengths = arrivals::raised(nodes, old, pending);
+    let lengths = state.lengths;
     let new = added.entries;
-    let entries = arrivals::opened(nodes, test.used, old, pending, added.count, new, before);
+    let mut pending = added.pending;
+    let raised = arrivals::raised(nodes, lengths, pending);
+    let mut left = added.count;
+    let mut node = nodes - 1;
+    let mut i = test.used;
+    let mut begin = i - wide16(lengths[node]);
+    while 0 < left {
+        let fresh = new[node];
+        if begin < i {
+            let entry = after.entries[i - 1];
+            if arrivals::goes_behind(pending[node], entry.rank, fresh.rank) {
+                left -= 1;
+                pending[node] = 0;
+                after.entries[i + left] = fresh;
+            } else {
+                i -= 1;
+                after.entries[i + left] = entry;
+            }
+        } else {
+            if pending[node] != 0 {
+                left -= 1;
+                pending[node] = 0;
+                after.entries[i + left] = fresh;
+            } else {
+                node -= 1;
+                begin -= wide16(lengths[node]);
+            }
+        }
+    }
+    after.lengths = raised;
     Served {
-        state: State {
-            frame,
-            refused: state.refused,
-            lengths,
-            entries,
-        },
+        state: after,
         answer: Answer::Accepted((test.held + 1) as u32),
     }
 }

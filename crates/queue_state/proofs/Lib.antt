@@ -4,3 +4,4 @@ pub mod Fresh
 pub mod Serving
 pub mod Parts
 pub mod Canon
+pub mod InPlace

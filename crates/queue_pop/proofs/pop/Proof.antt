@@ -1,5 +1,5 @@
 -- The cases of a pop in the order of the tests: 18, 16, and the packet that leaves. Between two queues `Between` holds of the entries, within
--- one `Moving`, and the state's other parts stay (`Beside`, proofs/Closing).
+-- one `Moving`, and the state's other parts stay (`Beside`).
 use borrow.Author.Needs.{needs}
 use native.Mathlib.Omega.{arith}
 use native.Mathlib.Numerals.{add-one}
@@ -19,7 +19,8 @@ use Rattle.queue_state.proofs.Formed.{formed}
 use Rattle.queue_state.proofs.Arrays.{the-arrays}
 use Rattle.queue_state.proofs.Parts.{start-next, start-order}
 use Rattle.queue_state.proofs.Serving.{ill-served}
-use Rattle.queue_pop.proofs.Closing.{Between, Moving, begin, enter, move, leave, closed-all, Beside, beside}
+use Rattle.queue_state.proofs.InPlace.{Beside, beside}
+use Rattle.queue_pop.proofs.Closing.{Between, Moving, begin, enter, move, leave, closed-all}
 use Rattle.queue_pop.proofs.Popping.{ill-way, none-served, none-way-of, down, shorter, departed-served, departed-way}
 use Rattle.queue_pop.proofs.pop.Statement.{statement}
 use Rattle.queue_pop.proofs.pop.Tie as tie
