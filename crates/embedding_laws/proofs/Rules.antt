@@ -2,7 +2,7 @@
 -- Then the check's number is 0 exactly where the list passes.
 use mathlib.Core.Path.{_≡_, refl, sym, ap, _∙_}
 use mathlib.Core.Logic.{_↔_}
-use Prim.Native.Nat.{ℕ, suc, _≤_, _<_}
+use Prim.Native.Nat.{ℕ, suc, _<_}
 use native.Mathlib.Decide.{decLt}
 use native.Mathlib.Omega.{arith}
 use mathlib.Core.List.{List}
@@ -17,7 +17,7 @@ use Rattle.topology.specs.Branch.{isAbove}
 use Rattle.topology.proofs.Decoding.{length-code, byte-width}
 use Rattle.topology.proofs.Lookup.{above-code, code-above}
 use Rattle.topology.proofs.Reader.{drawn}
-use Rattle.topology.proofs.Refusals.{orElse-none, orElse-most, pick-most, fault-most}
+use Rattle.topology.proofs.Refusals.{orElse-none}
 use Rattle.embedding_laws.specs.Rules.{image, Passes}
 use Rattle.embedding_laws.specs.Check.{all, same, areNodes, rule1, rule2, rule3, rule4, listFault, mapFault}
 use Rattle.topology.proofs.Cases.{clash}
@@ -201,18 +201,3 @@ mapFault-none source target m = (there, back)
     back (e, f, p) =
         let l = passes-list (tree source) (tree target) m p in
         rw (e, f) (rw (drawn 32 source e, drawn 64 target f) at l)
-
--- the numbers of the check are at most 11
-pub mapFault-most : (source target m : List ℕ) → mapFault source target m ≤ 11
-unfolding mapFault listFault
-mapFault-most source target m =
-    let n = length source in
-    let f11 = pick-most 11 (rule4 source target n m) 0 11 (omega arith) (omega arith) in
-    let f10 = pick-most 11 (rule3 source target n m) _ 10 f11 (omega arith) in
-    let f9 = pick-most 11 (rule2 m) _ 9 f10 (omega arith) in
-    let f8 = pick-most 11 (rule1 n m) _ 8 f9 (omega arith) in
-    let f7 = pick-most 11 (areNodes target n m) _ 7 f8 (omega arith) in
-    let f6 = pick-most 11 (eqb (length m) n) _ 6 f7 (omega arith) in
-    let s = fault-most 32 source in
-    let t = fault-most 64 target in
-    orElse-most 11 (fault 32 source) _ (omega arith) (orElse-most 11 (fault 64 target) _ (omega arith) f6)

@@ -12,7 +12,7 @@ use borrow.Author.Tests.{le-leb, lt-leb, leb-false}
 use Rattle.topology.specs.Reader.{pick}
 use Rattle.topology.proofs.Cases.{clash}
 use Rattle.pifo.specs.Tree.{Step, pathFault, PTree, push, pop, held, well}
-use Rattle.pifo.specs.Machine.{Machine, Call, pushing, popping, Answer, accepted, departed, refused, full, most, holding, counting, room, serveRoom, servePath, servePop, serve, numberOf}
+use Rattle.pifo.specs.Machine.{Machine, Call, pushing, popping, accepted, departed, refused, full, most, holding, counting, room, serveRoom, servePath, servePop, serve, numberOf}
 use Rattle.pifo.proofs.Paths.{fault-number}
 use Rattle.pifo.proofs.Pop.{pop-none, none-pop}
 
@@ -57,23 +57,6 @@ module _ {P : Type 0} (m : Machine P) where
           → (p : P) × (u : PTree P) × (pop (m .tree) ≡ some (p, u)) × (serve m popping ≡ (departed p, holding m u))
       by-pop none e = absurd (omega (arith, pop-none (m .tree) w e))
       by-pop (some (p, u)) e = (p, u, e, ap (servePop m) e)
-
-  -- A call leaves the topology.
-  pub serve-topology : (c : Call P) → serve m c .1 .topology ≡ m .topology
-  serve-topology (pushing ss l p) = by-fault (pathFault (m .topology) ss)
-    where
-      in-room : (n : ℕ) → serveRoom n m ss l p .1 .topology ≡ m .topology
-      in-room zero = refl
-      in-room (suc n) = refl
-
-      by-fault : (f : ℕ) → servePath f m ss l p .1 .topology ≡ m .topology
-      by-fault (suc f) = refl
-      by-fault zero = in-room (room (m .limit) (held (m .tree)))
-  serve-topology popping = by-pop (pop (m .tree))
-    where
-      by-pop : (o : Option (P × PTree P)) → servePop m o .1 .topology ≡ m .topology
-      by-pop none = refl
-      by-pop (some (p, u)) = refl
 
   -- An accepted push is answered with the packets that the machine then holds.
   pub accepted-held : (c : Call P) (h : ℕ) → serve m c .0 ≡ accepted h → h ≡ held (serve m c .1 .tree)

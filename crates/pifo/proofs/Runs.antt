@@ -13,8 +13,8 @@ use borrow.Author.Tests.{leb-false}
 use Rattle.lists.proofs.Permutation.{length-perm, perm-same, perm-past}
 use Rattle.topology.specs.Tree.{Topo}
 use Rattle.topology.specs.Reader.{pick}
-use Rattle.pifo.specs.Tree.{Step, pathFault, PTree, shape, push, pop, packets, held}
-use Rattle.pifo.specs.Machine.{Machine, Call, pushing, popping, Answer, accepted, departed, refused, full, most, holding, counting, opened, room, serveRoom, servePath, servePop, serve, Server, afterBy, answersBy, after, answers}
+use Rattle.pifo.specs.Tree.{Step, pathFault, PTree, shape, pop, packets, held}
+use Rattle.pifo.specs.Machine.{Machine, Call, pushing, popping, Answer, accepted, departed, refused, full, most, counting, opened, room, serveRoom, servePath, servePop, serve, Server, afterBy, answersBy, after, answers}
 use Rattle.pifo.specs.Runs.{Sound, takenBy, departedBy, fullBy, acceptedBy, taken, departures, fulls, accepts, Run}
 use Rattle.pifo.proofs.Wellness.{shape-empty, packets-empty, well-empty}
 use Rattle.pifo.proofs.Push.{push-shape, push-packets, push-held, push-well}

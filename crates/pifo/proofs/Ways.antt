@@ -1,22 +1,18 @@
 -- The way of a pop: it is empty where no packet is held; by node number it is the head of each queue on the way down (`way-assemble`); and
 -- at each node it has the entry that a pop takes at that node's address (`way-takes`).
-use mathlib.Core.Path.{_≡_, refl, sym, ap, _∙_, subst}
-use mathlib.Core.Logic.{_≢_}
+use mathlib.Core.Path.{_≡_, refl, sym, ap, _∙_}
 use Prim.Native.Nat.{ℕ, zero, suc, _+_, _≤_, _<_}
 use native.Mathlib.Nat.{zero-add, add-zero, not-suc-le-zero, le-of-suc-le-suc}
-use native.Mathlib.Decide.{ℕ-discrete}
 use native.Mathlib.Omega.{arith}
 use mathlib.Core.List.{List, [], _∷_, map}
 use mathlib.Core.Bool.{Bool, true, false}
 use mathlib.Core.Option.{Option, none, some}
 use lib.Dec.{eqb, ltb, eqb·suc-suc}
 use borrow.Author.Tests.{ltb-true, eq-eqb, ne-eqb}
-use Rattle.topology.specs.Tree.{Topo, Forest, node, fnil, fcons, count, kids, width, size, sizes, height}
+use Rattle.topology.specs.Tree.{Topo, Forest, node, fnil, fcons, count, size, sizes}
 use Rattle.topology.specs.Address.{Addr, nth, ahead, addr}
 use Rattle.topology.specs.Reader.{pick}
-use Rattle.topology.proofs.Numbering.{Place, place, ahead-lt, addr-child, addr-root}
-use Rattle.topology.proofs.Ancestry.{size-pos, nth-height}
-use Rattle.topology.proofs.Cases.{clash}
+use Rattle.topology.proofs.Numbering.{place, addr-child, addr-root}
 use Rattle.pifo.specs.Queue.{Entry, child, packet, entry}
 use Rattle.pifo.specs.Tree.{PTree, PForest, pnode, pnil, pcons, shape, shapes, held, well}
 use Rattle.pifo.specs.Numbered.{Queues, kidAt, assemble, assembleAll, through, descentBy, descent}

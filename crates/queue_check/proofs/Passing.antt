@@ -6,7 +6,7 @@ use native.Mathlib.Nat.{not-suc-le-zero}
 use native.Mathlib.Decide.{ℕ-discrete}
 use native.Mathlib.Omega.{arith}
 use mathlib.Core.List.{List, [], _∷_, _++_}
-use mathlib.Core.Bool.{Bool, true, false, _&&_}
+use mathlib.Core.Bool.{Bool, true, false}
 use mathlib.Core.Option.{Option, none, some}
 use lib.ListN.{length, getD, set, replicate, length-set}
 use lib.Seq.{getD-set-same, getD-set-other}
@@ -24,7 +24,7 @@ use Rattle.queue_state.specs.declared.Entry.{Entry as CodeEntry}
 use Rattle.queue_state.proofs.Formed.{off}
 use Rattle.queue_state.proofs.Parts.{start-next, start-order, stretch, stretch-none, stretch-first, stretch-last, stretch-join}
 use Rattle.queue_check.specs.Tests.{headOf, Heading, noTest}
-use Rattle.queue_check.specs.Sound.{Slot, Placed, AllMatch, Mismatch, Fine, AllFine, Tallied}
+use Rattle.queue_check.specs.Sound.{Placed, AllMatch, Mismatch, Fine, AllFine, Tallied}
 use Rattle.queue_check.specs.declared.Test.{Test}
 
 module _ (bytes ls : List ℕ) (es : List CodeEntry) where

@@ -21,7 +21,7 @@ use Rattle.pifo.proofs.Local.{LocalAt, AllLocal, all-well, well-all}
 use Rattle.queue_state.specs.State.{startOf, queueIn, queues, bytes, treeOf, wellFormed}
 use Rattle.queue_state.specs.declared.Entry.{Entry as CodeEntry}
 use Rattle.queue_state.specs.declared.State.{State}
-use Rattle.queue_state.proofs.Formed.{off, Formed, formed, form}
+use Rattle.queue_state.proofs.Formed.{off, Formed, formed, form, unformed}
 use Rattle.queue_state.proofs.Arrays.{Arrays}
 use Rattle.queue_state.proofs.Parts.{start-order, queue-length}
 use Rattle.queue_check.specs.Sound.{Fine, AllFine, Tallied}
@@ -37,16 +37,12 @@ pub says-no : (s : State) (r : Test) → r ≡ noTest → (Formed s → ⊥) →
 says-no s r z f =
     let e : r .sound ≡ false = ap (λ (x : Test). x .sound) z in
     record {
-      sound = e ∙ sym (never (wellFormed s) refl);
+      sound = e ∙ sym (unformed s f);
       count = λ t. absurd (off (sym e ∙ t));
       none = λ _. z;
       used = λ t. absurd (off (sym e ∙ t));
       heads = λ t. absurd (off (sym e ∙ t));
     }
-  where
-    never : (b : Bool) → wellFormed s ≡ b → wellFormed s ≡ false
-    never true t = absurd (f (formed s t))
-    never false t = t
 
 module _ (bs ls : List ℕ) (es : List CodeEntry) (v : fault 64 bs ≡ 0) (len : length es ≡ 2304) (fits : startOf ls (length bs) ≤ 2304) where
   long : (n : ℕ) → n < length bs → length (queueIn ls es n) ≡ getD ls n 0

@@ -1,6 +1,6 @@
 -- A pop's answers case by case: what the code found, and the machine's answer.
 use mathlib.Core.Path.{_≡_, refl, sym, ap, _∙_, subst}
-use Prim.Native.Nat.{ℕ, suc, _-_, _≤_, _<_}
+use Prim.Native.Nat.{ℕ, suc, _-_, _<_}
 use native.Mathlib.Omega.{arith}
 use mathlib.Core.List.{List, [], _∷_}
 use mathlib.Core.Bool.{Bool, true, false}
@@ -24,7 +24,8 @@ use Rattle.pifo.specs.Way.{way}
 use Rattle.pifo.proofs.Ways.{none-way, Heads, way-assemble}
 use Rattle.queue_pop.specs.Ways.{wayFrom, wayOf}
 use Rattle.queue_state.specs.State.{Packet, queueIn, queues, bytes, treeOf, machine, wellFormed}
-use Rattle.queue_pop.specs.Departures.{Down, Shorter, Closed}
+use Rattle.queue_pop.specs.Departures.{Down}
+use Rattle.queue_pop.proofs.Closing.{Shorter, Closed}
 use Rattle.queue_check.specs.Tests.{Heading}
 use Rattle.queue_state.specs.Calls.{Serves, withQueues}
 use Rattle.queue_state.specs.declared.State.{State}

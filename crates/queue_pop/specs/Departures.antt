@@ -1,15 +1,14 @@
 -- What the private functions of a pop promise.
 use mathlib.Core.Path.{_≡_}
-use Prim.Native.Nat.{ℕ, _-_, _≤_, _<_}
+use Prim.Native.Nat.{ℕ, _-_}
 use mathlib.Core.List.{List, map}
 use mathlib.Core.Bool.{true, false}
 use mathlib.Core.Option.{Option, none, some}
-use lib.ListN.{length, drop, getD, set, replicate}
+use lib.ListN.{length, getD, set, replicate}
 use Rattle.topology.specs.Reader.{pick}
 use Rattle.pifo.specs.Numbered.{Queues, isIn}
 use Rattle.pifo.proofs.Ways.{headAt}
-use Rattle.queue_state.specs.State.{Packet, startOf, queueIn}
-use Rattle.queue_state.specs.declared.Entry.{Entry as CodeEntry}
+use Rattle.queue_state.specs.State.{Packet}
 use Rattle.queue_pop.specs.Ways.{noTaken, wayFrom}
 use Rattle.queue_pop.specs.declared.departures.Trail.{Trail}
 
@@ -39,12 +38,3 @@ pub record Leads (lengths : List ℕ) (depth : ℕ) (q : Queues Packet) (p : Pac
 abbrev pub Down : List ℕ → ℕ → Queues Packet → Option (Packet × List ℕ) → Trail → Type 0
 Down lengths depth q none r = r .found ≡ false
 Down lengths depth q (some (p, ns)) r = Leads lengths depth q p ns r
-
--- no queue is longer than before
-abbrev pub Shorter : List ℕ → List ℕ → Type 0
-Shorter old new = (n : ℕ) → getD new n 0 ≤ getD old n 0
-
--- the entries that stay: each queue has lost its first ones
-pub record Closed (nodes : ℕ) (old new : List ℕ) (es r : List CodeEntry) : Type 0 where
-  pub fewer : startOf new nodes ≤ startOf old nodes
-  pub queues : (n : ℕ) → n < nodes → queueIn new r n ≡ drop (getD old n 0 - getD new n 0) (queueIn old es n)

@@ -36,7 +36,9 @@ pub struct Popped {
 // Pops the packet at the head: 18 and 16 are tested in this order.
 //
 // One copy of the state serves the test and is then changed in place, since each function that takes a state copies it; hence the loops
-// here. What the call leaves is read from the state as it came: the compiler then makes no second copy. They close the gaps: of each queue as many of the last entries stay as its new length says, and move down behind those before them.
+// here. What a pop leaves is read from the state as it came, so that the compiler makes no second copy.
+//
+// The loops close the gaps: of each queue as many of the last entries stay as its new length says, and move down behind those before them.
 pub fn pop(state: State) -> Popped
     ensures { λ r. ⌜ Serves state popping (answerOf (r .served .answer)) (r .served .state) × (r .way ≡ wayOf state) ⌝ }
 {

@@ -1,7 +1,7 @@
 -- A push's answers case by case: what the code found, and the machine's answer.
 use mathlib.Core.Path.{_≡_, refl, sym, ap, _∙_, subst}
 use mathlib.Core.Logic.{_≢_}
-use Prim.Native.Nat.{ℕ, zero, suc, _+_, _≤_, _<_, min}
+use Prim.Native.Nat.{ℕ, zero, suc, min}
 use native.Mathlib.Omega.{arith}
 use mathlib.Core.List.{List}
 use mathlib.Core.Bool.{true}
@@ -21,7 +21,7 @@ use Rattle.pifo.proofs.Numbered.{shape-assemble, assemble-same, push-assemble}
 use Rattle.pifo.proofs.Push.{push-well, push-held}
 use Rattle.pifo.proofs.Answers.{has-room, push-fault, push-full, push-accepted}
 use Rattle.queue_state.specs.State.{Packet, startOf, queueIn, queues, bytes, treeOf, machine, inBounds, wellFormed}
-use Rattle.queue_push.specs.Arrivals.{Walked, Raised, Ready, Opened}
+use Rattle.queue_push.specs.Arrivals.{Walked, Raised}
 use Rattle.queue_state.specs.Calls.{Serves, counting, withQueues}
 use Rattle.queue_state.specs.declared.State.{State}
 use Rattle.queue_push.specs.declared.arrivals.Added.{Added}
@@ -30,7 +30,7 @@ use Rattle.queue_state.proofs.Formed.{Formed, formed, form}
 use Rattle.queue_state.proofs.Arrays.{Arrays}
 use Rattle.queue_state.proofs.Serving.{apart, served}
 use Rattle.queue_push.proofs.Rooms.{fits}
-use Rattle.queue_push.proofs.Opening.{sum-front, raised-start}
+use Rattle.queue_push.proofs.Opening.{Ready, Entered, sum-front, raised-start}
 use Rattle.topology.proofs.Ancestry.{size-pos}
 
 full-same : {m n a b : ℕ} → _≡_ {A = Answer Packet} (full m a) (full n b) → a ≡ b
@@ -82,7 +82,7 @@ module _ (s : State) (t : wellFormed s ≡ true) (ss : List Step) (l p : ℕ) wh
               (well-all (tree (take (s .frame .nodes) (s .frame .topology))) (queueIn (s .lengths) (s .entries)) 0 (f .tree) m (omega arith) .rises);
         }
 
-    module _ (ls : List ℕ) (es : List CodeEntry) (r : Raised (s .frame .nodes) (s .lengths) (a .pending) ls) (o : Opened (s .frame .nodes) (s .lengths) (a .pending) (a .entries) (s .entries) es) where
+    module _ (ls : List ℕ) (es : List CodeEntry) (r : Raised (s .frame .nodes) (s .lengths) (a .pending) ls) (o : Entered (s .frame .nodes) (s .lengths) (a .pending) (a .entries) (s .entries) es) where
       abbrev next : State
       next = withQueues s ls es
 

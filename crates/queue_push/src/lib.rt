@@ -55,7 +55,9 @@ fn room(limit: usize, held: usize) -> u8
 // Pushes a packet along a path: 18, 13, 14, 15 are tested in this order.
 //
 // One copy of the state serves the test and is then changed in place, since each function that takes a state copies it; hence the loop
-// here. What the call leaves is read from the state as it came: the compiler then makes no second copy. It makes room: each new entry goes behind the last entry of its queue that has no greater rank, or before all of them where there is
+// here. What a push leaves is read from the state as it came, so that the compiler makes no second copy.
+//
+// The loop makes room: each new entry goes behind the last entry of its queue that has no greater rank, or before all of them where there is
 // none. From the last entry to the first, each moves up once, by as many places as new entries are still to come.
 pub fn push(state: State, path: Path, packet: Packet) -> Served
     ensures { λ r. ⌜ Serves state (pushing (stepsOf path) (path .«leaf_rank») packet) (answerOf (r .answer)) (r .state) ⌝ }

@@ -1,23 +1,20 @@
 -- A state is the code of its machine: the lengths and the entries that count are determined by it.
-use mathlib.Core.Path.{_≡_, refl, sym, ap, _∙_, subst}
-use Prim.Native.Nat.{ℕ, zero, suc, _+_, _≤_, _<_}
-use native.Mathlib.Nat.{not-suc-le-zero, zero-add}
+use mathlib.Core.Path.{_≡_, sym, ap, _∙_, subst}
+use Prim.Native.Nat.{ℕ, suc, _+_, _≤_, _<_}
 use native.Mathlib.Decide.{ℕ-discrete, decLt}
 use native.Mathlib.Omega.{arith}
-use mathlib.Core.List.{List, map}
+use mathlib.Core.List.{map}
 use mathlib.Core.Bool.{true}
 use lib.ListN.{length, take, getD}
 use lib.Seq.{length-take-le}
 use Rattle.topology.specs.Tree.{Topo, Forest, node, fnil, fcons, size, sizes}
 use Rattle.topology.specs.Reader.{tree}
 use Rattle.topology.proofs.Lookup.{valid-size}
-use Rattle.pifo.specs.Tree.{PTree}
 use Rattle.pifo.specs.Numbered.{Queues, assemble, assembleAll}
 use Rattle.pifo.specs.Machine.{Machine}
 use Rattle.queue_state.specs.State.{Packet, entryOf, startOf, queueIn, queues, bytes, treeOf, machine, wellFormed}
-use Rattle.queue_state.specs.declared.Entry.{Entry as CodeEntry}
 use Rattle.queue_state.specs.declared.State.{State}
-use Rattle.queue_state.proofs.Formed.{Formed, formed}
+use Rattle.queue_state.proofs.Formed.{formed}
 use Rattle.queue_state.proofs.Arrays.{Arrays}
 use Rattle.queue_state.proofs.Parts.{start-order, queue-length, joined, joined-same, joined-front}
 

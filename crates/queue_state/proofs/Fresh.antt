@@ -23,12 +23,12 @@ use Rattle.pifo.specs.Machine.{Machine, opened}
 use Rattle.pifo.proofs.Order.{both, join}
 use Rattle.pifo.proofs.Numbered.{empty-assemble, assemble-same}
 use Rattle.pifo.proofs.Runs.{opened-sound}
-use Rattle.queue_state.specs.State.{Packet, entryOf, startOf, queueIn, queues, bytes, treeOf, machine, wellFormed}
+use Rattle.queue_state.specs.State.{Packet, entryOf, startOf, queueIn, queues, bytes, treeOf, machine}
 use Rattle.queue_state.specs.Opening.{limitFault, openFault, Opens}
 use Rattle.queue_state.specs.Entries.{Empty}
 use Rattle.queue_state.specs.declared.Opened.{Opened}
 use Rattle.queue_state.specs.declared.Entry.{Entry as CodeEntry}
-use Rattle.queue_state.proofs.Formed.{formed, form}
+use Rattle.queue_state.proofs.Formed.{form, unformed}
 
 -- ---- the refusal
 
@@ -111,12 +111,8 @@ module _ (bs : List ℕ) (limit : ℕ) (r : Opened) (z : r .refusal ≡ openFaul
         refusal = z;
         machine = λ y. absurd (n y);
         formed = λ y. absurd (n y);
-        nothing = λ _. never (wellFormed (r .state)) refl;
+        nothing = λ _. unformed (r .state) (λ y. omega (arith, y .least, e .limit));
       }
-    where
-      never : (b : Bool) → wellFormed (r .state) ≡ b → wellFormed (r .state) ≡ false
-      never true y = absurd (omega (arith, formed (r .state) y .least, e .limit))
-      never false y = y
 
   -- accepted
   module _ (o : r .refusal ≡ 0) (t : List ℕ) (c : take (length bs) t ≡ bs) (e : Empty t (length bs) limit (r .state)) where

@@ -1,16 +1,16 @@
 -- Queues one behind the other: where each begins, how a stretch of entries grows, and queues joined and cut again.
-use mathlib.Core.Path.{_≡_, refl, sym, ap, _∙_, subst}
+use mathlib.Core.Path.{_≡_, refl, sym, ap, _∙_}
 use Prim.Native.Nat.{ℕ, zero, suc, _+_, _-_, _≤_, _<_}
-use native.Mathlib.Nat.{add-zero, zero-add, not-suc-le-zero}
+use native.Mathlib.Nat.{add-zero, zero-add}
 use native.Mathlib.Omega.{arith}
 use mathlib.Core.List.{List, [], _∷_, _++_, map, append-assoc, append-nil}
-use lib.ListN.{length, take, drop, getD, length-append, length-take, length-drop, take-append-drop}
-use lib.Seq.{slice, slice-empty, slice-cons, take-suc, take-take, take-at, drop-at, drop-append-le, length-take-le, take-append-add}
+use lib.ListN.{length, take, drop, getD, length-append, length-drop}
+use lib.Seq.{slice, slice-empty, slice-cons, take-suc, take-at, drop-at, drop-append-le, length-take-le}
 use Rattle.lists.proofs.Map.{length-map}
 use Rattle.lists.proofs.Slice.{take-slice}
 use Rattle.pifo.specs.Queue.{Entry}
 use Rattle.pifo.specs.Numbered.{Queues}
-use Rattle.queue_state.specs.State.{Packet, entryOf, sum, startOf, queueIn}
+use Rattle.queue_state.specs.State.{Packet, entryOf, startOf, queueIn}
 use Rattle.queue_state.specs.Entries.{noEntry}
 use Rattle.queue_state.specs.declared.Entry.{Entry as CodeEntry}
 

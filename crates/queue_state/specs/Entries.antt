@@ -1,4 +1,4 @@
--- Words of private functions, here and in the crates above: no entry, a marked entry, no entries.
+-- Words for the test of a state (crate `queue_check`) and for private functions: no entry, a marked entry, no entries.
 use mathlib.Core.Path.{_≡_}
 use Prim.Native.Nat.{ℕ, zero, suc}
 use mathlib.Core.List.{List}

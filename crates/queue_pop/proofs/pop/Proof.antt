@@ -13,7 +13,7 @@ use Rattle.topology.proofs.Ancestry.{size-pos}
 use Rattle.pifo.specs.Tree.{held}
 use Rattle.pifo.specs.Machine.{popping}
 use Rattle.queue_state.specs.State.{bytes, treeOf}
-use Rattle.queue_state.specs.Calls.{answerOf, withQueues, Serves}
+use Rattle.queue_state.specs.Calls.{withQueues, Serves}
 use Rattle.queue_state.specs.declared.State.{State}
 use Rattle.queue_state.proofs.Formed.{formed}
 use Rattle.queue_state.proofs.Arrays.{the-arrays}

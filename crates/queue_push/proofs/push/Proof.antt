@@ -8,7 +8,7 @@ use lib.Seq.{length-take-le}
 use borrow.Author.Tests.{not-true, not-false}
 use Rattle.pifo.specs.Machine.{pushing}
 use Rattle.queue_state.specs.State.{bytes}
-use Rattle.queue_state.specs.Calls.{answerOf, withQueues, Serves}
+use Rattle.queue_state.specs.Calls.{withQueues, Serves}
 use Rattle.queue_state.specs.declared.State.{State}
 use Rattle.queue_state.proofs.Formed.{formed}
 use Rattle.queue_state.proofs.Arrays.{the-arrays}

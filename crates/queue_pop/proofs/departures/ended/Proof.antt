@@ -1,7 +1,6 @@
 -- Nothing is taken on a way that is made new.
 use mathlib.Core.Path.{ap}
 use Rattle.queue_pop.specs.declared.Way.{Way}
-use Rattle.queue_pop.specs.declared.departures.Trail.{Trail}
 use mathlib.Core.Bool.{true}
 use borrow.Author.Needs.{needs}
 use Rattle.queue_pop.proofs.departures.ended.Statement.{statement}
