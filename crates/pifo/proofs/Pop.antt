@@ -5,13 +5,12 @@ use Prim.Native.Nat.{ℕ, zero, suc, _+_, _≤_, _<_, zero-le}
 use native.Mathlib.Nat.{not-suc-le-zero, le-of-suc-le-suc}
 use native.Mathlib.Numerals.{one-add}
 use native.Mathlib.Omega.{arith}
-use mathlib.Core.List.{List, [], _∷_, List·Permᴰ, List·Permᴰ·cons, List·Permᴰ·trans, Permᴰ·refl, Permᴰ·append-right}
+use mathlib.Core.List.{List, [], _∷_, List·Permᴰ, Permᴰ·refl, Permᴰ·append-right}
 use mathlib.Core.Bool.{true, _&&_}
 use mathlib.Core.Option.{Option, none, some}
-use lib.ListN.{length}
 use lib.Dec.{leb}
 use borrow.Author.Tests.{leb-true}
-use Rattle.lists.proofs.Permutation.{length-perm, perm-front, perm-same}
+use Rattle.lists.proofs.Permutation.{length-perm, perm-front}
 use Rattle.topology.specs.Tree.{node, count}
 use Rattle.pifo.specs.Queue.{Entry, child, packet, entry, allowed, every, occurs}
 use Rattle.pifo.specs.Tree.{PTree, PForest, pnode, pnil, pcons, shape, shapes, pop, popAt, with-queue, with-later, with-elder, packets, packetsIn, held, counted, well, wells}

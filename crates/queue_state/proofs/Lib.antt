@@ -5,3 +5,5 @@ pub mod Serving
 pub mod Parts
 pub mod Canon
 pub mod InPlace
+pub mod Following
+pub mod Runs
