@@ -6,4 +6,7 @@ pub mod Parts
 pub mod Canon
 pub mod InPlace
 pub mod Following
+pub mod Listed
+pub mod Realized
+pub mod Existing
 pub mod Runs

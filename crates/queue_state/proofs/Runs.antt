@@ -1,14 +1,14 @@
 -- The proof of demand 2. From an opening on an execution goes as the machine does, of which the laws of whole runs hold (`run`, `drained` in
 -- the crate `pifo`); the numbers of the refusals and the counts in the answers come from the machine's answer to one call.
 use mathlib.Core.Path.{_≡_, refl, sym, ap, _∙_, subst}
-use Prim.Native.Nat.{ℕ, _+_, min}
+use Prim.Native.Nat.{ℕ}
 use native.Mathlib.Omega.{arith}
 use mathlib.Core.List.{List, [], _∷_, map}
 use mathlib.Core.Bool.{true}
 use lib.ListN.{replicate}
 use Rattle.topology.specs.Reader.{tree}
 use Rattle.pifo.specs.Tree.{packets, held}
-use Rattle.pifo.specs.Machine.{Machine, Call, popping, Answer, accepted, departed, refused, full, numberOf, most, opened, serve, answers, after}
+use Rattle.pifo.specs.Machine.{Machine, Call, popping, Answer, accepted, departed, refused, full, numberOf, opened, serve, answers, after}
 use Rattle.pifo.specs.Runs.{departures, fulls, times, Run, Drained}
 use Rattle.pifo.proofs.Wellness.{is-other}
 use Rattle.pifo.proofs.Answers.{pop-refused, accepted-held, never-18, full-15}
@@ -22,6 +22,7 @@ use Rattle.queue_state.specs.Runs.{Execution, answersIn, lastState, Tell
 use Rattle.queue_state.specs.declared.State.{State}
 use Rattle.queue_state.specs.declared.Opened.{Opened}
 use Rattle.queue_state.proofs.Formed.{formed}
+use Rattle.queue_state.proofs.Existing.{opens-some, serves-some, execution-some}
 use Rattle.queue_state.proofs.Following.{Follows, serves-follows, answers-follow, last-follows}
 
 -- ---- the numbers of the machine's refusals
@@ -98,3 +99,6 @@ drains s t vs v =
           w .answer (last .0)
           ∙ ap (λ (x : Answer Packet × Machine Packet). x .0) (pop-refused (machine (lastState s vs)) (formed (lastState s vs) (last .0) .tree) (d .empty));
     }
+
+pub demand-2 : Demand2
+demand-2 = record { conserves = conserves; drains = drains; opens = opens-some; executes = execution-some Serves serves-some }
