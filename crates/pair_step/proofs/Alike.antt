@@ -1,0 +1,77 @@
+-- Both trees over whole lists of calls. Of an execution from a well-formed state on is seen what its machine gives (`seen-follow`); so the two
+-- trees are seen alike as their machines are (`machines-alike` of the crate `simulation`).
+use mathlib.Core.Path.{_≡_, refl, sym, ap, _∙_}
+use Prim.Native.Nat.{ℕ}
+use native.Mathlib.Omega.{arith}
+use mathlib.Core.List.{List, [], _∷_}
+use mathlib.Core.Bool.{true}
+use Rattle.topology.specs.Tree.{Topo}
+use Rattle.topology.specs.Reader.{orElse, fault, tree}
+use Rattle.topology.proofs.Reader.{fault-wider}
+use Rattle.pifo.specs.Machine.{Machine, Call, Answer, opened, serve, Server, counts, seenBy}
+use Rattle.embedding_laws.specs.Rules.{Passes}
+use Rattle.simulation.specs.Sheet.{serveCarried}
+use Rattle.simulation.proofs.Simulation.{machines-alike}
+use Rattle.queue_state.specs.State.{Packet, machine, wellFormed}
+use Rattle.queue_state.specs.Opening.{limitFault, openFault, Opens}
+use Rattle.queue_state.specs.Calls.{Serves}
+use Rattle.queue_state.specs.Runs.{Transition, Execution}
+use Rattle.queue_state.specs.declared.State.{State}
+use Rattle.queue_state.specs.declared.Opened.{Opened}
+use Rattle.queue_state.proofs.Following.{Follows, serves-follows}
+use Rattle.pair_step.specs.Step.{ServesCarried}
+use Rattle.pair_step.specs.Alike.{countsOf, seenIn, RunsAlike}
+use Rattle.pair_step.proofs.Step.{carried-follows}
+
+counts-machine : (s : State) → countsOf s ≡ counts (machine s)
+unfolding machine
+counts-machine s = refl
+
+module _ (server : Server Packet) (step : Transition (Call Packet))
+    (follows : (s : State) (call : Call Packet) (a : Answer Packet) (r : State) → wellFormed s ≡ true → step s call a r → Follows server s call a r) where
+  seen-follow : (calls : List (Call Packet)) (s : State) (vs : List (Answer Packet × State)) → wellFormed s ≡ true → Execution step s calls vs
+      → seenIn vs ≡ seenBy server (machine s) calls
+  seen-follow [] s [] t run = refl
+  seen-follow [] s (v ∷ vs) t run = absurd run
+  seen-follow (c ∷ cs) s [] t run = absurd run
+  seen-follow (c ∷ cs) s ((a, r) ∷ vs) t (call, rest) =
+      let f = follows s c a r t call in
+      let answer = f .answer in
+      let seen = counts-machine r ∙ ap counts (f .machine) in
+      let others = seen-follow cs r vs (f .formed) rest ∙ ap (λ (q : Machine Packet). seenBy server q cs) (f .machine) in
+      λ k. (answer k, seen k) ∷ others k
+
+-- the number by which a tree with no fault is refused
+pub open-number : (bytes : List ℕ) (limit : ℕ) (x : Opened) → fault 64 bytes ≡ 0 → Opens bytes limit x → x .refusal ≡ limitFault limit
+unfolding openFault
+open-number bytes limit x e o = o .refusal ∙ ap (λ (f : ℕ). orElse f (limitFault limit)) e
+
+pub runs-alike : (source target m : List ℕ) → fault 32 source ≡ 0 → fault 64 target ≡ 0 → Passes (tree source) (tree target) m → RunsAlike source target m
+runs-alike source target m f g E =
+    record {
+      opens = λ limit x y o u. (source-number limit x o, open-number target limit y g u);
+      alike = λ limit fits x y o u calls vs ws v w.
+          let S : Topo = tree source in
+          let T : Topo = tree target in
+          let z : x .refusal ≡ 0 = source-number limit x o ∙ fits in
+          let n : y .refusal ≡ 0 = open-number target limit y g u ∙ fits in
+          let both = machines-alike Packet S T m E limit calls in
+          let source : seenIn vs ≡ seenBy serve (opened S limit) calls =
+          seen-follow serve Serves serves-follows calls (x .state) vs (o .formed z) v
+          ∙ ap (λ (q : Machine Packet). seenBy serve q calls) (o .machine z) in
+          let chip : seenIn ws ≡ seenBy (serveCarried S T m) (opened T limit) calls =
+          seen-follow (serveCarried S T m) (ServesCarried S T m) (carried-follows S T m) calls (y .state) ws (u .formed n) w
+          ∙ ap (λ (q : Machine Packet). seenBy (serveCarried S T m) q calls) (u .machine n) in
+          record {
+            before =
+                counts-machine (x .state) ∙ ap counts (o .machine z)
+                ∙ both .before
+                ∙ sym (counts-machine (y .state) ∙ ap counts (u .machine n));
+            every = source ∙ both .every ∙ sym chip;
+            source = source;
+            chip = chip;
+          };
+    }
+  where
+    source-number : (limit : ℕ) (x : Opened) → Opens source limit x → x .refusal ≡ limitFault limit
+    source-number limit x o = open-number source limit x (fault-wider 32 64 source (omega arith) f) o
