@@ -11,7 +11,7 @@ use Rattle.embedding_laws.specs.Least.{searchFault, searchMap}
 use Rattle.embedding_search.specs.Outcomes.{outcome}
 use Rattle.queue_state.specs.State.{machine, wellFormed}
 use Rattle.queue_state.specs.Opening.{limitFault}
-use Rattle.pair_state.specs.Step.{InStep}
+use Rattle.pair_step.specs.Step.{InStep}
 use Rattle.pair_state.specs.declared.PairOpened.{PairOpened}
 
 -- The number by which an opening of both is refused: the search's, then the limit's.

@@ -1,5 +1,5 @@
 -- Both trees over whole lists of calls. Of an execution from a well-formed state on is seen what its machine gives (`seen-follow`); so the two
--- trees are seen alike as their machines are (`machines-alike` of the crate `simulation`).
+-- trees are seen alike as their machines are (`machines-alike` of the crate `simulation`): `both-alike`.
 use mathlib.Core.Path.{_≡_, refl, sym, ap, _∙_}
 use Prim.Native.Nat.{ℕ}
 use native.Mathlib.Omega.{arith}
@@ -20,7 +20,7 @@ use Rattle.queue_state.specs.declared.State.{State}
 use Rattle.queue_state.specs.declared.Opened.{Opened}
 use Rattle.queue_state.proofs.Following.{Follows, serves-follows}
 use Rattle.pair_step.specs.Step.{ServesCarried}
-use Rattle.pair_step.specs.Alike.{countsOf, seenIn, RunsAlike}
+use Rattle.pair_step.specs.Alike.{countsOf, seenIn, SeenAlike}
 use Rattle.pair_step.proofs.Step.{carried-follows}
 
 counts-machine : (s : State) → countsOf s ≡ counts (machine s)
@@ -46,32 +46,37 @@ pub open-number : (bytes : List ℕ) (limit : ℕ) (x : Opened) → fault 64 byt
 unfolding openFault
 open-number bytes limit x e o = o .refusal ∙ ap (λ (f : ℕ). orElse f (limitFault limit)) e
 
-pub runs-alike : (source target m : List ℕ) → fault 32 source ≡ 0 → fault 64 target ≡ 0 → Passes (tree source) (tree target) m → RunsAlike source target m
-runs-alike source target m f g E =
-    record {
-      opens = λ limit x y o u. (source-number limit x o, open-number target limit y g u);
-      alike = λ limit fits x y o u calls vs ws v w.
-          let S : Topo = tree source in
-          let T : Topo = tree target in
-          let z : x .refusal ≡ 0 = source-number limit x o ∙ fits in
-          let n : y .refusal ≡ 0 = open-number target limit y g u ∙ fits in
-          let both = machines-alike Packet S T m E limit calls in
-          let source : seenIn vs ≡ seenBy serve (opened S limit) calls =
-          seen-follow serve Serves serves-follows calls (x .state) vs (o .formed z) v
-          ∙ ap (λ (q : Machine Packet). seenBy serve q calls) (o .machine z) in
-          let chip : seenIn ws ≡ seenBy (serveCarried S T m) (opened T limit) calls =
-          seen-follow (serveCarried S T m) (ServesCarried S T m) (carried-follows S T m) calls (y .state) ws (u .formed n) w
-          ∙ ap (λ (q : Machine Packet). seenBy (serveCarried S T m) q calls) (u .machine n) in
-          record {
-            before =
-                counts-machine (x .state) ∙ ap counts (o .machine z)
-                ∙ both .before
-                ∙ sym (counts-machine (y .state) ∙ ap counts (u .machine n));
-            every = source ∙ both .every ∙ sym chip;
-            source = source;
-            chip = chip;
-          };
-    }
-  where
-    source-number : (limit : ℕ) (x : Opened) → Opens source limit x → x .refusal ≡ limitFault limit
-    source-number limit x o = open-number source limit x (fault-wider 32 64 source (omega arith) f) o
+-- Both trees opened with one limit, for a map that meets the rules, and a list of calls on each.
+module _ (source target : List ℕ) (f : fault 32 source ≡ 0) (g : fault 64 target ≡ 0) where
+  -- only the limit can be refused
+  pub both-numbers : (limit : ℕ) (x y : Opened) → Opens source limit x → Opens target limit y
+      → (x .refusal ≡ limitFault limit) × (y .refusal ≡ limitFault limit)
+  both-numbers limit x y o u =
+      (open-number source limit x (fault-wider 32 64 source (omega arith) f) o, open-number target limit y g u)
+
+  pub both-alike : (m : List ℕ) → Passes (tree source) (tree target) m → (limit : ℕ) → limitFault limit ≡ 0 → (x y : Opened) → Opens source limit x → Opens target limit y
+      → (calls : List (Call Packet)) (vs ws : List (Answer Packet × State)) → Execution Serves (x .state) calls vs
+      → Execution (ServesCarried (tree source) (tree target) m) (y .state) calls ws
+      → SeenAlike (tree source) (tree target) m limit calls (x .state) (y .state) vs ws
+  both-alike m E limit fits x y o u calls vs ws v w =
+      let S : Topo = tree source in
+      let T : Topo = tree target in
+      let numbers = both-numbers limit x y o u in
+      let z : x .refusal ≡ 0 = numbers .0 ∙ fits in
+      let n : y .refusal ≡ 0 = numbers .1 ∙ fits in
+      let both = machines-alike Packet S T m E limit calls in
+      let source : seenIn vs ≡ seenBy serve (opened S limit) calls =
+      seen-follow serve Serves serves-follows calls (x .state) vs (o .formed z) v
+      ∙ ap (λ (q : Machine Packet). seenBy serve q calls) (o .machine z) in
+      let chip : seenIn ws ≡ seenBy (serveCarried S T m) (opened T limit) calls =
+      seen-follow (serveCarried S T m) (ServesCarried S T m) (carried-follows S T m) calls (y .state) ws (u .formed n) w
+      ∙ ap (λ (q : Machine Packet). seenBy (serveCarried S T m) q calls) (u .machine n) in
+      record {
+        before =
+            counts-machine (x .state) ∙ ap counts (o .machine z)
+            ∙ both .before
+            ∙ sym (counts-machine (y .state) ∙ ap counts (u .machine n));
+        every = source ∙ both .every ∙ sym chip;
+        source = source;
+        chip = chip;
+      }

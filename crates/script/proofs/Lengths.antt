@@ -25,7 +25,7 @@ use Rattle.embedding_laws.specs.Least.{Found, nothing, list, noneFault, leastMa
 use Rattle.queue_state.specs.State.{Packet}
 use Rattle.queue_state.specs.Opening.{limitFault}
 use Rattle.pair_state.specs.Opening.{bothFault}
-use Rattle.pair_state.proofs.Start.{faultless, images-pass}
+use Rattle.embedding_search.proofs.Found.{faultless, images-pass}
 use Rattle.text.specs.Text.{decimal, hex8}
 use Rattle.lines.specs.Lines.{allSpaced, inLine, outLine, noLine, mapLine}
 use Rattle.text.proofs.Digits.{length-decimal, length-hex8}

@@ -2,7 +2,7 @@
 use mathlib.Core.Path.{ap, _∙_}
 use borrow.Author.Needs.{needs}
 use Rattle.embedding_search.specs.Outcomes.{numberOf}
-use Rattle.embedding_search.proofs.Answers.{outcome-number}
+use Rattle.embedding_search.proofs.Found.{outcome-number}
 use Rattle.exports_embedding.proofs.Maps.{search-no-room, search-room}
 use Rattle.exports_embedding.proofs.linduvar_search.Statement.{statement}
 use Rattle.exports_embedding.proofs.linduvar_search.Tie as tie
@@ -31,8 +31,8 @@ returns-2 c =
     let if1 = put .before .before .before .before .if1 in
     let args = put .before .before .before .before .before .before .before .before .args in
     search-room (args .source .now) (args .target .now) (args .out .now) (if1 .left) _ _ _
-    (c .number-of .ensures ∙ ap numberOf (search .ensures .0) ∙ outcome-number (args .source .now) (args .target .now))
-    (search .ensures .1) (put .put-map .ensures)
+    (c .number-of .ensures ∙ ap numberOf (search .ensures .outcome) ∙ outcome-number (args .source .now) (args .target .now))
+    (search .ensures .map) (put .put-map .ensures)
 
 pub linduvar-search-spec : {M : Type 1} → statement M
 linduvar-search-spec =
