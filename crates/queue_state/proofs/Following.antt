@@ -1,7 +1,7 @@
 -- An execution goes as a machine does: where each call from a well-formed state answers as a server does on the state's machine, and leaves the
 -- machine that it leaves, so do the calls of a whole list.
 use mathlib.Core.Path.{_≡_, refl, ap, _∙_}
-use mathlib.Core.List.{List, [], _∷_}
+use mathlib.Core.List.{List, [], _∷_, map}
 use mathlib.Core.Bool.{true}
 use Rattle.pifo.specs.Machine.{Machine, Call, Answer, serve, Server, afterBy, answersBy}
 use Rattle.queue_state.specs.State.{Packet, machine, wellFormed}
@@ -39,3 +39,12 @@ module _ (server : Server Packet) (step : Transition (Call Packet))
       let f = follows s c a r t call in
       let last = last-follows cs r vs (f .formed) rest in
       (last .0, last .1 ∙ ap (λ (q : Machine Packet). afterBy server q cs) (f .machine))
+
+-- the execution of the same calls under other names
+module _ {C D : Type 0} (name : C → D) (step : Transition C) (other : Transition D)
+    (same : (s : State) (c : C) (a : Answer Packet) (r : State) → step s c a r → other s (name c) a r) where
+  pub execution-as : (calls : List C) (s : State) (vs : List (Answer Packet × State)) → Execution step s calls vs → Execution other s (map name calls) vs
+  execution-as [] s [] run = tt
+  execution-as [] s (v ∷ vs) run = absurd run
+  execution-as (c ∷ cs) s [] run = absurd run
+  execution-as (c ∷ cs) s ((a, r) ∷ vs) (call, rest) = (same s c a r call, execution-as cs r vs rest)
