@@ -45,7 +45,9 @@ module _ (source target : List ℕ) (e : searchFault source target ≡ 0) where
       let m = s .0 in
       let n : length m ≡ length source = s .1 .passes .long ∙ valid-size 32 source (faultless .0) in
       let t : take (length source) map ≡ m =
-      ap (take (length source)) (q ∙ s .2) ∙ ap (λ (k : ℕ). take k (m ++ replicate (32 - length m) 0)) (sym n) ∙ take-append-seam m (replicate (32 - length m) 0) in
+      ap (take (length source)) (q ∙ s .2)
+      ∙ ap (λ (k : ℕ). take k (m ++ replicate (32 - length m) 0)) (sym n)
+      ∙ take-append-seam m (replicate (32 - length m) 0) in
       rw t (s .1 .passes)
 
 pub found-runs : FoundRuns

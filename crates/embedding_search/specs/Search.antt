@@ -10,7 +10,7 @@ use Rattle.embedding_laws.specs.Least.{searchMap}
 use Rattle.queue_state.specs.State.{Packet}
 use Rattle.queue_state.specs.Opening.{limitFault, Opens}
 use Rattle.queue_state.specs.Calls.{Serves}
-use Rattle.queue_state.specs.Runs.{Execution}
+use Rattle.queue_state.specs.Runs.{History, Execution}
 use Rattle.queue_state.specs.declared.State.{State}
 use Rattle.queue_state.specs.declared.Opened.{Opened}
 use Rattle.pair_step.specs.Step.{ServesCarried}
@@ -34,7 +34,7 @@ pub record Runs (source target : List ℕ) (r : Searched) : Type 0 where
       → (x .refusal ≡ limitFault limit) × (y .refusal ≡ limitFault limit)
   -- opened, they are seen alike over every list of calls, where the paths of the chip's pushes are carried over by the map of r
   pub alike : (limit : ℕ) → limitFault limit ≡ 0 → (x y : Opened) → Opens source limit x → Opens target limit y
-      → (calls : List (Call Packet)) (vs ws : List (Answer Packet × State)) → Execution Serves (x .state) calls vs
+      → (calls : List (Call Packet)) (vs ws : History) → Execution Serves (x .state) calls vs
       → Execution (ServesCarried (tree source) (tree target) (images source r)) (y .state) calls ws
       → SeenAlike (tree source) (tree target) (images source r) limit calls (x .state) (y .state) vs ws
 

@@ -15,10 +15,10 @@ use Rattle.simulation.proofs.Simulation.{machines-alike}
 use Rattle.queue_state.specs.State.{Packet, machine, wellFormed}
 use Rattle.queue_state.specs.Opening.{limitFault, openFault, Opens}
 use Rattle.queue_state.specs.Calls.{Serves}
-use Rattle.queue_state.specs.Runs.{Transition, Execution}
+use Rattle.queue_state.specs.Runs.{Transition, History, Execution}
 use Rattle.queue_state.specs.declared.State.{State}
 use Rattle.queue_state.specs.declared.Opened.{Opened}
-use Rattle.queue_state.proofs.Following.{Follows, serves-follows}
+use Rattle.queue_state.proofs.Following.{AllFollow, serves-follows}
 use Rattle.pair_step.specs.Step.{ServesCarried}
 use Rattle.pair_step.specs.Alike.{countsOf, seenIn, SeenAlike}
 use Rattle.pair_step.proofs.Step.{carried-follows}
@@ -27,9 +27,8 @@ counts-machine : (s : State) → countsOf s ≡ counts (machine s)
 unfolding machine
 counts-machine s = refl
 
-module _ (server : Server Packet) (step : Transition (Call Packet))
-    (follows : (s : State) (call : Call Packet) (a : Answer Packet) (r : State) → wellFormed s ≡ true → step s call a r → Follows server s call a r) where
-  seen-follow : (calls : List (Call Packet)) (s : State) (vs : List (Answer Packet × State)) → wellFormed s ≡ true → Execution step s calls vs
+module _ (server : Server Packet) (step : Transition (Call Packet)) (follows : AllFollow server step) where
+  seen-follow : (calls : List (Call Packet)) (s : State) (vs : History) → wellFormed s ≡ true → Execution step s calls vs
       → seenIn vs ≡ seenBy server (machine s) calls
   seen-follow [] s [] t run = refl
   seen-follow [] s (v ∷ vs) t run = absurd run
@@ -54,8 +53,9 @@ module _ (source target : List ℕ) (f : fault 32 source ≡ 0) (g : fault 64 ta
   both-numbers limit x y o u =
       (open-number source limit x (fault-wider 32 64 source (omega arith) f) o, open-number target limit y g u)
 
-  pub both-alike : (m : List ℕ) → Passes (tree source) (tree target) m → (limit : ℕ) → limitFault limit ≡ 0 → (x y : Opened) → Opens source limit x → Opens target limit y
-      → (calls : List (Call Packet)) (vs ws : List (Answer Packet × State)) → Execution Serves (x .state) calls vs
+  pub both-alike : (m : List ℕ) → Passes (tree source) (tree target) m → (limit : ℕ) → limitFault limit ≡ 0
+      → (x y : Opened) → Opens source limit x → Opens target limit y
+      → (calls : List (Call Packet)) (vs ws : History) → Execution Serves (x .state) calls vs
       → Execution (ServesCarried (tree source) (tree target) m) (y .state) calls ws
       → SeenAlike (tree source) (tree target) m limit calls (x .state) (y .state) vs ws
   both-alike m E limit fits x y o u calls vs ws v w =

@@ -18,7 +18,7 @@ use Rattle.queue_state.specs.Opening.{Opens}
 use Rattle.queue_state.specs.Calls.{Serves}
 use Rattle.queue_state.specs.declared.State.{State}
 use Rattle.queue_state.specs.declared.Opened.{Opened}
-use Rattle.queue_state.proofs.Following.{Follows, serves-follows}
+use Rattle.queue_state.proofs.Following.{AllFollow, serves-follows}
 use Rattle.pair_step.specs.Step.{PushesCarried, ServesCarried, InStep}
 
 pushes-follow : (t : State) (call : Call Packet) (b : Answer Packet) (y : State) → wellFormed t ≡ true → (f : ℕ) → PushesCarried f t call b y
@@ -26,8 +26,7 @@ pushes-follow : (t : State) (call : Call Packet) (b : Answer Packet) (y : State)
 pushes-follow t call b y w zero v = (v .answer w, v .machine w, v .formed w)
 pushes-follow t call b y w (suc f) (answered, stays) = (answered, ap machine stays, ap wellFormed stays ∙ w)
 
-pub carried-follows : (S T : Topo) (m : List ℕ) (t : State) (call : Call Packet) (b : Answer Packet) (y : State) → wellFormed t ≡ true
-    → ServesCarried S T m t call b y → Follows (serveCarried S T m) t call b y
+pub carried-follows : (S T : Topo) (m : List ℕ) → AllFollow (serveCarried S T m) (ServesCarried S T m)
 carried-follows S T m t (pushing ss l p) b y w v =
     let o = pushes-follow t (pushing (carry S T m ss) l p) b y w (pathFault S ss) v in
     record { answer = o .0; machine = o .1; formed = o .2 }

@@ -7,17 +7,18 @@ use Rattle.pifo.specs.Tree.{held}
 use Rattle.pifo.specs.Machine.{Call, Answer, opened, serve, seenBy}
 use Rattle.simulation.specs.Sheet.{serveCarried}
 use Rattle.queue_state.specs.State.{Packet, treeOf}
+use Rattle.queue_state.specs.Runs.{History}
 use Rattle.queue_state.specs.declared.State.{State}
 
 -- what is seen of a state, packets held and refusals counted; and of an execution, each answer and what is seen of the state after it
 abbrev pub countsOf : State → ℕ × ℕ
 countsOf s = (held (treeOf s), s .refused)
 
-abbrev pub seenIn : List (Answer Packet × State) → List (Answer Packet × (ℕ × ℕ))
+abbrev pub seenIn : History → List (Answer Packet × (ℕ × ℕ))
 seenIn vs = map (λ (v : Answer Packet × State). (v .0, countsOf (v .1))) vs
 
 -- Both trees were opened with one limit, as x and y, and a list of calls went to both, with the executions vs and ws.
-pub record SeenAlike (S T : Topo) (m : List ℕ) (limit : ℕ) (calls : List (Call Packet)) (x y : State) (vs ws : List (Answer Packet × State)) : Type 0 where
+pub record SeenAlike (S T : Topo) (m : List ℕ) (limit : ℕ) (calls : List (Call Packet)) (x y : State) (vs ws : History) : Type 0 where
   -- the same is seen of both before the first call, and at every call and after it
   pub before : countsOf x ≡ countsOf y
   pub every : seenIn vs ≡ seenIn ws

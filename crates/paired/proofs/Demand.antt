@@ -27,11 +27,11 @@ use Rattle.embedding_search.proofs.Found.{searched-number, images-pass}
 use Rattle.queue_state.specs.State.{Packet, machine, wellFormed}
 use Rattle.queue_state.specs.Opening.{limitFault, Opens}
 use Rattle.queue_state.specs.Calls.{Serves}
-use Rattle.queue_state.specs.Runs.{Transition, Execution}
+use Rattle.queue_state.specs.Runs.{Transition, History, Execution}
 use Rattle.queue_state.specs.declared.State.{State}
 use Rattle.queue_state.specs.declared.Opened.{Opened}
 use Rattle.queue_state.proofs.Existing.{opens-some, serves-some, execution-some}
-use Rattle.queue_state.proofs.Following.{Follows, serves-follows, execution-as}
+use Rattle.queue_state.proofs.Following.{AllFollow, serves-follows, execution-as}
 use Rattle.queue_push.specs.Calls.{stepsOf}
 use Rattle.queue_push.specs.declared.Path.{Path}
 use Rattle.queue_counts.specs.declared.Amount.the-variants.{Count}
@@ -50,9 +50,8 @@ use Rattle.paired.proofs.Sides.{chip-pushed, chip-refused, chip-serves}
 look-formed : (s : State) → wellFormed s ≡ true → look s ≡ lookOf (countsOf s)
 look-formed s t = rw t
 
-module _ (server : Server Packet) (step : Transition (Call Packet))
-    (follows : (s : State) (call : Call Packet) (a : Answer Packet) (r : State) → wellFormed s ≡ true → step s call a r → Follows server s call a r) where
-  shown-seen : (calls : List (Call Packet)) (s : State) (vs : List (Answer Packet × State)) → wellFormed s ≡ true → Execution step s calls vs
+module _ (server : Server Packet) (step : Transition (Call Packet)) (follows : AllFollow server step) where
+  shown-seen : (calls : List (Call Packet)) (s : State) (vs : History) → wellFormed s ≡ true → Execution step s calls vs
       → shown vs ≡ shownBy (seenIn vs)
   shown-seen [] s [] t run = refl
   shown-seen [] s (v ∷ vs) t run = absurd run
@@ -98,10 +97,11 @@ opened-counts bytes limit x o z =
 
 module _ (source target m : List ℕ) (f : fault 32 source ≡ 0) (g : fault 64 target ≡ 0) (E : Passes (tree source) (tree target) m)
     (limit : ℕ) (fits : limitFault limit ≡ 0) (x y : Opened) (o : Opens source limit x) (u : Opens target limit y) where
-  alike : (calls : List Request) (vs ws : List (Answer Packet × State)) → Execution SourceCall (x .state) calls vs
+  alike : (calls : List Request) (vs ws : History) → Execution SourceCall (x .state) calls vs
       → Execution (ChipCall source target m) (y .state) calls ws → Alike (tree source) (tree target) m limit calls (x .state) (y .state) vs ws
   alike requests vs ws v w =
       let S = tree source in
+      let T = tree target in
       let calls : List (Call Packet) = map callOf requests in
       let passes = mapFault-none source target m .1 (f, g, E) in
       let numbers = both-numbers source target f g limit x y o u in
@@ -109,11 +109,11 @@ module _ (source target m : List ℕ) (f : fault 32 source ≡ 0) (g : fault 64 
       let y-formed = u .formed (numbers .1 ∙ fits) in
       let source-run = execution-as callOf SourceCall Serves (λ s c a r call. call) requests (x .state) vs v in
       let chip-run =
-      execution-as callOf (ChipCall source target m) (ServesCarried S (tree target) m) (chip-serves source target m passes) requests (y .state) ws w in
+      execution-as callOf (ChipCall source target m) (ServesCarried S T m) (chip-serves source target m passes) requests (y .state) ws w in
       let both = both-alike source target f g m E limit fits x y o u calls vs ws source-run chip-run in
       let shown-source : shown vs ≡ shownBy (seenIn vs) = shown-seen serve Serves serves-follows calls (x .state) vs x-formed source-run in
       let shown-chip : shown ws ≡ shownBy (seenIn ws) =
-      shown-seen (serveCarried S (tree target) m) (ServesCarried S (tree target) m) (carried-follows S (tree target) m) calls (y .state) ws y-formed chip-run in
+      shown-seen (serveCarried S T m) (ServesCarried S T m) (carried-follows S T m) calls (y .state) ws y-formed chip-run in
       let first : countsOf (x .state) ≡ (0, 0) = opened-counts source limit x o (numbers .0 ∙ fits) in
       let source : shown vs ≡ shownBy (seenBy serve (opened S limit) calls) = shown-source ∙ ap shownBy (both .source) in
       record {

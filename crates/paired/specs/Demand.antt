@@ -21,7 +21,7 @@ use Rattle.queue_state.specs.State.{Packet, treeOf, wellFormed}
 use Rattle.queue_counts.specs.Amounts.{amount}
 use Rattle.queue_state.specs.Opening.{Opens}
 use Rattle.queue_state.specs.Calls.{Serves}
-use Rattle.queue_state.specs.Runs.{Transition, Execution}
+use Rattle.queue_state.specs.Runs.{Transition, History, Execution}
 use Rattle.queue_state.specs.declared.State.{State}
 use Rattle.queue_push.specs.declared.Path.{Path}
 use Rattle.queue_state.specs.declared.Opened.{Opened}
@@ -63,7 +63,7 @@ ChipCall source target m s (push path packet) a r = (c : Carried) × Carries sou
 ChipCall source target m s pop a r = Serves s popping a r
 
 -- what is shown of an execution: each answer, and the look at the state after it
-abbrev pub shown : List (Answer Packet × State) → List (Answer Packet × Look)
+abbrev pub shown : History → List (Answer Packet × Look)
 shown vs = map (λ (v : Answer Packet × State). (v .0, look (v .1))) vs
 
 -- What a look says, where i packets were accepted so far, o departed and f pushes were refused by 15: packets held are those accepted less
@@ -87,7 +87,7 @@ abbrev pub shownBy : List (Answer Packet × (ℕ × ℕ)) → List (Answer Packe
 shownBy ls = map (λ (l : Answer Packet × (ℕ × ℕ)). (l .0, lookOf (l .1))) ls
 
 -- Both trees were opened empty with one limit, as x and y, and a list of calls went to both, with the executions vs and ws.
-pub record Alike (S T : Topo) (m : List ℕ) (limit : ℕ) (calls : List Request) (x y : State) (vs ws : List (Answer Packet × State)) : Type 0 where
+pub record Alike (S T : Topo) (m : List ℕ) (limit : ℕ) (calls : List Request) (x y : State) (vs ws : History) : Type 0 where
   -- alike before the first call, in packets held and refusals counted
   pub before : look x ≡ look y
   -- alike at every call, in the answer (accepted, departed with its packet, refused with its number, full with the new count), and after it
@@ -103,14 +103,14 @@ pub record Demand3 : Type 0 where
   -- Any source and target with none of the faults, any map that meets the rules, any limit, and any list of calls: the two trees are alike.
   pub alike : (source target m : List ℕ) (limit : ℕ) → fault 32 source ≡ 0 → fault 64 target ≡ 0 → Passes (tree source) (tree target) m
       → 1 ≤ limit → limit ≤ 256 → (x y : Opened) → Opens source limit x → Opens target limit y
-      → (calls : List Request) (vs ws : List (Answer Packet × State)) → Execution SourceCall (x .state) calls vs
+      → (calls : List Request) (vs ws : History) → Execution SourceCall (x .state) calls vs
       → Execution (ChipCall source target m) (y .state) calls ws
       → Alike (tree source) (tree target) m limit calls (x .state) (y .state) vs ws
   -- There are such openings, and from every state on such executions of every list of calls; and there is an answer of the search.
   pub opens : (bytes : List ℕ) (limit : ℕ) → (x : Opened) × Opens bytes limit x
-  pub source-executes : (s : State) (calls : List Request) → (vs : List (Answer Packet × State)) × Execution SourceCall s calls vs
+  pub source-executes : (s : State) (calls : List Request) → (vs : History) × Execution SourceCall s calls vs
   pub chip-executes : (source target m : List ℕ) (t : State) (calls : List Request)
-      → (ws : List (Answer Packet × State)) × Execution (ChipCall source target m) t calls ws
+      → (ws : History) × Execution (ChipCall source target m) t calls ws
   pub searches : (source target : List ℕ) → (r : Searched) × Searches source target r
   -- The search's half: whatever it answers, that is 12 exactly when every list of numbers fails as the map of the pair.
   pub twelve : (source target : List ℕ) → fault 32 source ≡ 0 → fault 64 target ≡ 0 → (r : Searched) → Searches source target r

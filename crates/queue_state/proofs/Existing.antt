@@ -20,7 +20,7 @@ use Rattle.pifo.proofs.Runs.{opened-sound}
 use Rattle.queue_state.specs.State.{Packet, queues, bytes, treeOf, machine, inBounds, wellFormed}
 use Rattle.queue_state.specs.Opening.{openFault, Opens}
 use Rattle.queue_state.specs.Calls.{Serves, counting}
-use Rattle.queue_state.specs.Runs.{Transition, Execution}
+use Rattle.queue_state.specs.Runs.{Transition, History, Execution}
 use Rattle.queue_state.specs.Entries.{Empty}
 use Rattle.queue_state.specs.declared.State.{State}
 use Rattle.queue_state.specs.declared.Opened.{Opened}
@@ -146,7 +146,7 @@ serves-some s call = by-form (wellFormed s) refl call
 -- ---- lists of calls
 
 module _ {C : Type 0} (step : Transition C) (step-some : (s : State) (c : C) → (a : Answer Packet) × (r : State) × step s c a r) where
-  pub execution-some : (s : State) (calls : List C) → (vs : List (Answer Packet × State)) × Execution step s calls vs
+  pub execution-some : (s : State) (calls : List C) → (vs : History) × Execution step s calls vs
   execution-some s [] = ([], tt)
   execution-some s (c ∷ cs) =
       let first = step-some s c in

@@ -18,7 +18,7 @@ use Rattle.pifo.proofs.Drained.{drained}
 use Rattle.queue_state.specs.State.{Packet, treeOf, machine, wellFormed}
 use Rattle.queue_state.specs.Opening.{Opens}
 use Rattle.queue_state.specs.Calls.{Serves}
-use Rattle.queue_state.specs.Runs.{Execution, answersIn, lastState, Tells, EachSound, Conserves, Drains, Demand2}
+use Rattle.queue_state.specs.Runs.{History, Execution, answersIn, lastState, Tells, EachSound, Conserves, Drains, Demand2}
 use Rattle.queue_state.specs.declared.State.{State}
 use Rattle.queue_state.specs.declared.Opened.{Opened}
 use Rattle.queue_state.proofs.Formed.{formed}
@@ -48,7 +48,7 @@ tells s call (full n c) r f =
     let u = subst (λ (a : Answer Packet). Unmoved (machine s) a (serve (machine s) call .1)) (sym (f .answer)) (unmoved (machine s) call) in
     sym (ap (λ (q : Machine Packet). q .refusals) (f .machine ∙ u .1))
 
-each-sound : (calls : List (Call Packet)) (s : State) (vs : List (Answer Packet × State)) → wellFormed s ≡ true → Execution Serves s calls vs → EachSound vs
+each-sound : (calls : List (Call Packet)) (s : State) (vs : History) → wellFormed s ≡ true → Execution Serves s calls vs → EachSound vs
 each-sound [] s [] t run = tt
 each-sound [] s (v ∷ vs) t run = absurd run
 each-sound (c ∷ cs) s [] t run = absurd run
@@ -59,7 +59,7 @@ each-sound (c ∷ cs) s ((a, r) ∷ vs) t (call, rest) =
 -- ---- from an opening on
 
 conserves : (bytes : List ℕ) (limit : ℕ) (x : Opened) → Opens bytes limit x → x .refusal ≡ 0
-    → (calls : List (Call Packet)) (vs : List (Answer Packet × State)) → Execution Serves (x .state) calls vs → Conserves (x .state) calls vs
+    → (calls : List (Call Packet)) (vs : History) → Execution Serves (x .state) calls vs → Conserves (x .state) calls vs
 unfolding machine
 conserves bytes limit x o z calls vs v =
     let s = x .state in
@@ -83,7 +83,7 @@ conserves bytes limit x o z calls vs v =
 
 -- ---- as many pops as packets
 
-drains : (s : State) → wellFormed s ≡ true → (vs : List (Answer Packet × State))
+drains : (s : State) → wellFormed s ≡ true → (vs : History)
     → Execution Serves s (replicate (held (treeOf s)) popping) vs → Drains s vs
 unfolding machine
 drains s t vs v =
@@ -97,7 +97,8 @@ drains s t vs v =
       empty = d .empty;
       next = λ a r w.
           w .answer (last .0)
-          ∙ ap (λ (x : Answer Packet × Machine Packet). x .0) (pop-refused (machine (lastState s vs)) (formed (lastState s vs) (last .0) .tree) (d .empty));
+          ∙ ap (λ (x : Answer Packet × Machine Packet). x .0)
+          (pop-refused (machine (lastState s vs)) (formed (lastState s vs) (last .0) .tree) (d .empty));
     }
 
 pub demand-2 : Demand2

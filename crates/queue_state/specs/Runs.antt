@@ -18,19 +18,23 @@ use Rattle.queue_state.specs.declared.Opened.{Opened}
 abbrev pub Transition : Type 0 → Type 1
 Transition C = State → C → Answer Packet → State → Type 0
 
--- An execution of a list of calls from a state on, each on the state that the call before it left: to each call its answer and the state after it.
-abbrev pub Execution : {C : Type 0} → Transition C → State → List C → List (Answer Packet × State) → Type 0
+-- to each call of a list its answer and the state after it
+abbrev pub History : Type 0
+History = List (Answer Packet × State)
+
+-- An execution of a list of calls from a state on, each on the state that the call before it left.
+abbrev pub Execution : {C : Type 0} → Transition C → State → List C → History → Type 0
 Execution step s [] [] = Unit
 Execution step s [] (v ∷ vs) = ⊥
 Execution step s (c ∷ cs) [] = ⊥
 Execution step s (c ∷ cs) ((a, r) ∷ vs) = step s c a r × Execution step r cs vs
 
 -- its answers, and the state after its last call
-abbrev pub answersIn : List (Answer Packet × State) → List (Answer Packet)
+abbrev pub answersIn : History → List (Answer Packet)
 answersIn [] = []
 answersIn ((a, r) ∷ vs) = a ∷ answersIn vs
 
-abbrev pub lastState : State → List (Answer Packet × State) → State
+abbrev pub lastState : State → History → State
 lastState s [] = s
 lastState s ((a, r) ∷ vs) = lastState r vs
 
@@ -42,12 +46,12 @@ Tells (refused n) r = Unit
 Tells (full n c) r = c ≡ r .refused
 
 -- Each state after a call is well formed, and what the answer says of it is so.
-abbrev pub EachSound : List (Answer Packet × State) → Type 0
+abbrev pub EachSound : History → Type 0
 EachSound [] = Unit
 EachSound ((a, r) ∷ vs) = (wellFormed r ≡ true) × Tells a r × EachSound vs
 
 -- What holds of a list of calls from an opening on, as the state s, for their answers and the states after them.
-pub record Conserves (s : State) (calls : List (Call Packet)) (vs : List (Answer Packet × State)) : Type 0 where
+pub record Conserves (s : State) (calls : List (Call Packet)) (vs : History) : Type 0 where
   -- the state opened and each after it is well formed, no call is refused by 18, and no count in an answer is invented
   pub opened : wellFormed s ≡ true
   pub each : EachSound vs
@@ -61,7 +65,7 @@ pub record Conserves (s : State) (calls : List (Call Packet)) (vs : List (Answer
   pub refusals : lastState s vs .refused ≡ min (times 15 (map numberOf (answersIn vs))) most
 
 -- What holds of as many pops as a state s holds packets.
-pub record Drains (s : State) (vs : List (Answer Packet × State)) : Type 0 where
+pub record Drains (s : State) (vs : History) : Type 0 where
   -- every pop hands out a packet, and together these are the packets that s held
   pub each : answersIn vs ≡ map departed (departures (answersIn vs))
   pub contents : List·Permᴰ (departures (answersIn vs)) (packets (treeOf s))
@@ -73,10 +77,10 @@ pub record Drains (s : State) (vs : List (Answer Packet × State)) : Type 0 wher
 pub record Demand2 : Type 0 where
   -- from every opening that is not refused, over every list of calls
   pub conserves : (bytes : List ℕ) (limit : ℕ) (x : Opened) → Opens bytes limit x → x .refusal ≡ 0
-      → (calls : List (Call Packet)) (vs : List (Answer Packet × State)) → Execution Serves (x .state) calls vs → Conserves (x .state) calls vs
+      → (calls : List (Call Packet)) (vs : History) → Execution Serves (x .state) calls vs → Conserves (x .state) calls vs
   -- from every well-formed state, with as many pops as it holds packets
-  pub drains : (s : State) → wellFormed s ≡ true → (vs : List (Answer Packet × State))
+  pub drains : (s : State) → wellFormed s ≡ true → (vs : History)
       → Execution Serves s (replicate (held (treeOf s)) popping) vs → Drains s vs
   -- and there is an opening for all bytes and limits, and an execution of every list of calls from every state on
   pub opens : (bytes : List ℕ) (limit : ℕ) → (x : Opened) × Opens bytes limit x
-  pub executes : (s : State) (calls : List (Call Packet)) → (vs : List (Answer Packet × State)) × Execution Serves s calls vs
+  pub executes : (s : State) (calls : List (Call Packet)) → (vs : History) × Execution Serves s calls vs

@@ -41,7 +41,8 @@ module _ (source target m : List ℕ) (path : Path) (c : Carried) (e : Carries s
       by-number : (n : ℕ) → c .refusal ≡ n → Chip t packet (refused n) t
       by-number zero z = absurd (some z)
       by-number (suc n) z =
-          let number : pathFault (tree source) (stepsOf path) ≡ suc n = sym (carry-path source target m (stepsOf path) passes) ∙ sym (e .refusal) ∙ z in
+          let number : pathFault (tree source) (stepsOf path) ≡ suc n =
+          sym (carry-path source target m (stepsOf path) passes) ∙ sym (e .refusal) ∙ z in
           rw number (refl, refl)
 
 -- a push whose path has no fault is refused by 15 if at all
@@ -56,9 +57,11 @@ room-number q ss l p e = rw e (by-test (leb (q .limit) (held (q .tree))))
 pub pushes-land : PushesLand
 unfolding machine
 pushes-land source target m path c e z t w same packet b y v =
-    let f = carried-follows (tree source) (tree target) m t (pushAlong path packet) b y w (carried-serves source target m path c e z t packet b y v) in
+    let call = carried-serves source target m path c e z t packet b y v in
+    let f = carried-follows (tree source) (tree target) m t (pushAlong path packet) b y w call in
     let over = carried-steps source target m path c e z in
-    let none : pathFault (tree (bytes t)) (stepsOf (c .path)) ≡ 0 = ap (λ (bs : List ℕ). pathFault (tree bs) (stepsOf (c .path))) same ∙ over .fault in
+    let none : pathFault (tree (bytes t)) (stepsOf (c .path)) ≡ 0 =
+    ap (λ (bs : List ℕ). pathFault (tree bs) (stepsOf (c .path))) same ∙ over .fault in
     let number = room-number (machine t) (stepsOf (c .path)) (c .path .«leaf_rank») packet none in
     let is = ap numberOf (v .answer w) in
     record {

@@ -21,7 +21,8 @@ returns : tie.Need-returns
 returns c =
     let tested = c .before .before .before in
     let found = tested .before .before .before .search .ensures in
-    search-refused _ _ _ _ _ _ _ (found .outcome) (number-is _ _ _ _ (found .outcome) (tested .before .number-of .ensures)) (tested .if1 .taken) (found .map) (c .before .«open» .ensures)
+    let number = number-is _ _ _ _ (found .outcome) (tested .before .number-of .ensures) in
+    search-refused _ _ _ _ _ _ _ (found .outcome) number (tested .if1 .taken) (found .map) (c .before .«open» .ensures)
 
 open-requires-2 : tie.Need-open-requires-2
 open-requires-2 c κs = search needs
@@ -33,7 +34,8 @@ returns-2 : tie.Need-returns-2
 returns-2 c =
     let tested = c .before .before .before .before in
     let found = tested .before .before .before .search .ensures in
-    both-opened _ _ (sym (number-is _ _ _ _ (found .outcome) (tested .before .number-of .ensures)) ∙ tested .if1 .left) _ _ _ (found .outcome) (found .map) _ _
+    let number = number-is _ _ _ _ (found .outcome) (tested .before .number-of .ensures) in
+    both-opened _ _ (sym number ∙ tested .if1 .left) _ _ _ (found .outcome) (found .map) _ _
     (c .before .before .before .open2 .ensures) (c .before .open3 .ensures)
 
 pub open-spec : {M : Type 1} → statement M
