@@ -65,7 +65,7 @@ pub struct PlainCarried {
     pub refusal: u8,
 }
 
-/// 0 and the empty tree, or the refusal and a state that is not well formed.
+/// 0 and the empty tree, or the refusal and zeros throughout.
 #[repr(C)]
 #[derive(Clone, Copy)]
 pub struct PlainOpened {

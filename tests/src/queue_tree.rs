@@ -248,6 +248,14 @@ pub struct State {
 }
 
 impl State {
+    /// No tree: what a refused opening gives.
+    pub const NONE: State = State {
+        topology: Vec::new(),
+        limit: 0,
+        refused: 0,
+        queues: Vec::new(),
+    };
+
     /// The topology if the state is well formed, clause by clause.
     fn well_formed(&self) -> Option<Topology> {
         let topology = Topology::read(&self.topology, TARGET_NODES).ok()?;

@@ -10,9 +10,6 @@ mod boundary {
             refusal: *mut u8,
         ) -> usize;
         pub fn linduvar_branch_byte(bytes: *const u8, len: usize, node: usize, at: usize) -> u8;
-        pub fn linduvar_branch_end(bytes: *const u8, len: usize, node: usize) -> usize;
-        pub fn linduvar_child(bytes: *const u8, len: usize, node: usize, i: usize) -> usize;
-        pub fn linduvar_above(bytes: *const u8, len: usize, a: usize, b: usize) -> u8;
     }
 }
 
@@ -36,19 +33,4 @@ pub fn branch(bytes: &[u8], node: usize) -> (u8, usize) {
 /// Byte `at` of the branch under `node`; 255 if there is none.
 pub fn branch_byte(bytes: &[u8], node: usize, at: usize) -> u8 {
     unsafe { boundary::linduvar_branch_byte(bytes.as_ptr(), bytes.len(), node, at) }
-}
-
-/// One past the last byte of the branch under `node`.
-pub fn branch_end(bytes: &[u8], node: usize) -> usize {
-    unsafe { boundary::linduvar_branch_end(bytes.as_ptr(), bytes.len(), node) }
-}
-
-/// The number of child `i` of `node`, counted from 1; 0 if there is none.
-pub fn child(bytes: &[u8], node: usize, i: usize) -> usize {
-    unsafe { boundary::linduvar_child(bytes.as_ptr(), bytes.len(), node, i) }
-}
-
-/// 1 if `a` is `b` or lies above it, else 0.
-pub fn above(bytes: &[u8], a: usize, b: usize) -> u8 {
-    unsafe { boundary::linduvar_above(bytes.as_ptr(), bytes.len(), a, b) }
 }

@@ -40,8 +40,8 @@ pub fn check(source: &[u8], target: &[u8], map: &[u8]) -> u8 {
     }
 }
 
-/// 0 and the least map in the first 32 bytes of `map`, or the refusal and
-/// zeros there. 255 if `map` is shorter, and then nothing is written.
+/// 0 and the least map in the first 32 bytes of `map`, or the refusal; 255 where
+/// there is a map and `map` is shorter. Nothing is written unless it is 0.
 pub fn search(source: &[u8], target: &[u8], map: &mut [u8]) -> u8 {
     unsafe {
         boundary::linduvar_search(

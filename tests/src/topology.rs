@@ -92,11 +92,6 @@ impl Topology {
         }
     }
 
-    /// Child `i` of `node`, counted from 1.
-    fn child(&self, node: usize, i: usize) -> Option<usize> {
-        self.nodes[node].children.get(i.checked_sub(1)?).copied()
-    }
-
     /// One past the last node of the branch: that is the last child of the
     /// last child, and so on down.
     pub fn branch_end(&self, node: usize) -> usize {
@@ -121,82 +116,14 @@ impl Topology {
     }
 }
 
-/// A byte string and what a reader with the target's limits makes of it.
-///
-/// Where the bytes are a topology the tree answers; where they are not, the
-/// answers follow the words of the boundary.
-pub struct Reading<'a> {
-    bytes: &'a [u8],
-    pub topology: Result<Topology, Refusal>,
-}
-
-impl<'a> Reading<'a> {
-    pub fn new(bytes: &'a [u8]) -> Reading<'a> {
-        let topology = Topology::read(bytes, TARGET_NODES);
-        Reading { bytes, topology }
+/// The branch under `node` of a topology with the target's limits, written out
+/// anew from the tree.
+pub fn branch(bytes: &[u8], node: usize) -> Result<Vec<u8>, Refusal> {
+    let topology = Topology::read(bytes, TARGET_NODES)?;
+    if node >= topology.node_count() {
+        return Err(Refusal::NoSuchNode);
     }
-
-    /// The branch under `node`, written out anew from the tree.
-    pub fn branch(&self, node: usize) -> Result<Vec<u8>, Refusal> {
-        let topology = self.topology.as_ref().map_err(|&refusal| refusal)?;
-        if node >= topology.node_count() {
-            return Err(Refusal::NoSuchNode);
-        }
-        let mut branch = Vec::new();
-        topology.write_branch(node, &mut branch);
-        Ok(branch)
-    }
-
-    pub fn branch_end(&self, node: usize) -> usize {
-        if node >= self.bytes.len() {
-            return node;
-        }
-        match &self.topology {
-            Ok(topology) => topology.branch_end(node),
-            Err(_) => branch_end_in_bytes(self.bytes, node),
-        }
-    }
-
-    pub fn child(&self, node: usize, i: usize) -> usize {
-        if node >= self.bytes.len() {
-            return 0;
-        }
-        match &self.topology {
-            Ok(topology) => topology.child(node, i).unwrap_or(0),
-            Err(_) => child_in_bytes(self.bytes, node, i),
-        }
-    }
-
-    pub fn above(&self, a: usize, b: usize) -> bool {
-        match &self.topology {
-            Ok(topology) => b < topology.node_count() && topology.is_above(a, b),
-            Err(_) => a <= b && b < self.branch_end(a),
-        }
-    }
-}
-
-/// The end of the branch that starts at `node` in bytes that may be no
-/// topology: the branches of the children follow the node one by one, and
-/// those that are missing take no bytes.
-fn branch_end_in_bytes(bytes: &[u8], node: usize) -> usize {
-    if node >= bytes.len() {
-        return node;
-    }
-    let mut end = node + 1;
-    for _ in 0..bytes[node] {
-        end = branch_end_in_bytes(bytes, end);
-    }
-    end
-}
-
-/// Child `i` of a `node` within bytes that may be no topology.
-fn child_in_bytes(bytes: &[u8], node: usize, i: usize) -> usize {
-    if i == 0 || i > usize::from(bytes[node]) {
-        return 0;
-    }
-    let mut child = node + 1;
-    for _ in 1..i {
-        child = branch_end_in_bytes(bytes, child);
-    }
-    child
+    let mut branch = Vec::new();
+    topology.write_branch(node, &mut branch);
+    Ok(branch)
 }

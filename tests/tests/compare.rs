@@ -3,7 +3,7 @@
 
 use linduvar_tests::random::{seeded, Random};
 use linduvar_tests::topology::{
-    Reading, Topology, MOST_CHILDREN, MOST_STEPS_DOWN, SOURCE_NODES, TARGET_NODES,
+    branch, Topology, MOST_CHILDREN, MOST_STEPS_DOWN, SOURCE_NODES, TARGET_NODES,
 };
 use linduvar_tests::{generate, rattle};
 use std::fmt;
@@ -62,14 +62,6 @@ fn examples(seed: u64) {
     assert_eq!(rattle::branch_byte(bytes, 1, 0), 1);
     assert_eq!(rattle::branch_byte(bytes, 1, 1), 0);
     assert_eq!(rattle::branch_byte(bytes, 1, 2), 255);
-    assert_eq!(rattle::branch_end(bytes, 1), 3);
-    assert_eq!(rattle::branch_end(bytes, 9), 9);
-    assert_eq!(rattle::child(bytes, 0, 0), 0);
-    assert_eq!(rattle::child(bytes, 0, 1), 1);
-    assert_eq!(rattle::child(bytes, 0, 2), 3);
-    assert_eq!(rattle::child(bytes, 0, 3), 0);
-    assert_eq!(rattle::above(bytes, 1, 2), 1);
-    assert_eq!(rattle::above(bytes, 1, 3), 0);
     println!("examples: as the paper has them");
 }
 
@@ -78,15 +70,9 @@ fn long_strings() {
     const LENGTH: usize = 1_000_000;
     let chain = vec![1; LENGTH];
     assert_eq!(rattle::read(&chain, TARGET_NODES), 5);
-    assert_eq!(rattle::branch_end(&chain, 0), LENGTH);
-    assert_eq!(rattle::child(&chain, 0, 1), 1);
-    assert_eq!(rattle::above(&chain, 0, LENGTH - 1), 1);
 
     let crowd = vec![255; LENGTH];
     assert_eq!(rattle::read(&crowd, TARGET_NODES), 4);
-    assert_eq!(rattle::branch_end(&crowd, 0), LENGTH);
-    assert_eq!(rattle::child(&crowd, 0, 255), LENGTH);
-    assert_eq!(rattle::above(&crowd, LENGTH - 1, 0), 0);
     println!("long strings: answered");
 }
 
@@ -143,9 +129,9 @@ fn random_strings(seed: u64) {
     at_limits.require_every_kind();
 }
 
-/// A number that may stand for a node or a child: mostly up to just past
-/// `last`, now and then far beyond.
-fn number_near(last: usize, random: &mut Random) -> usize {
+/// A number that may stand for a node: mostly up to just past `last`, now and
+/// then far beyond.
+fn node_near(last: usize, random: &mut Random) -> usize {
     if random.one_in(50) {
         usize::MAX - random.below(2)
     } else {
@@ -203,9 +189,9 @@ impl Comparison {
         self.read_answers.meet(rust);
     }
 
-    /// The branch under `node`: its length, its bytes and its end.
-    fn branch(&mut self, bytes: &[u8], reading: &Reading, node: usize) {
-        let (refusal, branch) = match reading.branch(node) {
+    /// The branch under `node`: its refusal, its length and its bytes.
+    fn branch(&mut self, bytes: &[u8], node: usize) {
+        let (refusal, branch) = match branch(bytes, node) {
             Ok(branch) => (0, branch),
             Err(refusal) => (refusal as u8, Vec::new()),
         };
@@ -220,50 +206,19 @@ impl Comparison {
             let rust = branch.get(at).copied().unwrap_or(255);
             self.agree(question, bytes, rattle, rust);
         }
-
-        let question = format_args!("end of branch {node}");
-        let rattle = rattle::branch_end(bytes, node);
-        self.agree(question, bytes, rattle, reading.branch_end(node));
     }
 
-    fn child(&self, bytes: &[u8], reading: &Reading, node: usize, i: usize) {
-        let question = format_args!("child {i} of node {node}");
-        let rattle = rattle::child(bytes, node, i);
-        self.agree(question, bytes, rattle, reading.child(node, i));
-    }
-
-    fn above(&self, bytes: &[u8], reading: &Reading, a: usize, b: usize) {
-        let question = format_args!("is {a} above {b}");
-        let rattle = rattle::above(bytes, a, b);
-        self.agree(question, bytes, rattle, u8::from(reading.above(a, b)));
-    }
-
-    /// Every node, two that are not there, and every pair of these.
+    /// Every node, and two that are not there.
     fn every_node(&mut self, bytes: &[u8]) {
-        let reading = Reading::new(bytes);
         for node in 0..bytes.len() + 2 {
-            self.branch(bytes, &reading, node);
-            let children = bytes.get(node).copied().map_or(0, usize::from);
-            for i in 0..children + 2 {
-                self.child(bytes, &reading, node, i);
-            }
-            for other in 0..bytes.len() + 2 {
-                self.above(bytes, &reading, node, other);
-            }
+            self.branch(bytes, node);
         }
     }
 
     /// A few nodes, there or not.
     fn some_nodes(&mut self, bytes: &[u8], random: &mut Random) {
-        let reading = Reading::new(bytes);
         for _ in 0..4 {
-            let node = number_near(bytes.len(), random);
-            let other = number_near(bytes.len(), random);
-            let children = bytes.get(node).copied().map_or(0, usize::from);
-            let i = number_near(children, random);
-            self.branch(bytes, &reading, node);
-            self.child(bytes, &reading, node, i);
-            self.above(bytes, &reading, node, other);
+            self.branch(bytes, node_near(bytes.len(), random));
         }
     }
 

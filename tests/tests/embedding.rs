@@ -34,7 +34,8 @@ fn examples(seed: u64) {
         let rattle = rattle_embedding::search(source, target, &mut map);
         assert_eq!(rattle, answer, "{source:?} in {target:?}");
         assert_eq!(map[..least.len()], *least, "{source:?} in {target:?}");
-        assert!(map[least.len()..].iter().all(|&byte| byte == 0));
+        let rest = if answer == 0 { 0 } else { 238 };
+        assert!(map[least.len()..].iter().all(|&byte| byte == rest));
     };
 
     // The paper's list.
@@ -129,11 +130,13 @@ fn examples(seed: u64) {
     check(&[2, 0], &[0, 0], &[], 1);
     check(&[0], &[0, 0], &[], 2);
 
-    // A buffer for the map that is too short, and one that is too long.
+    // A buffer for the map that is too short, and one that is too long; the
+    // trees are read first.
     let mut map = [238; SOURCE_NODES + 8];
     let short = &mut map[..SOURCE_NODES - 1];
     assert_eq!(rattle_embedding::search(&[0], &[0], short), 255);
-    assert_eq!(rattle_embedding::search(&[0], &[], &mut []), 255);
+    assert_eq!(rattle_embedding::search(&[0], &[], &mut []), 1);
+    assert_eq!(rattle_embedding::search(&[0], &[1, 0], &mut []), 12);
     assert_eq!(map, [238; SOURCE_NODES + 8]);
     assert_eq!(rattle_embedding::search(&[0], &[0], &mut map), 0);
     assert_eq!(map[..SOURCE_NODES], [0; SOURCE_NODES]);
@@ -333,12 +336,13 @@ impl Comparison {
 
     /// The search's answer and its map, which is not checked.
     fn search(&mut self, source: &[u8], target: &[u8]) -> (u8, [u8; SOURCE_NODES]) {
-        // No image has this number: it shows if the library writes none.
+        // No image has this number: it stays where a search is refused.
         let mut map = [238; SOURCE_NODES];
         let rattle = rattle_embedding::search(source, target, &mut map);
         let (rust, least) = embedding::search(source, target);
+        let written = if rust == 0 { least } else { [238; SOURCE_NODES] };
         self.agree(format_args!("search"), source, target, rattle, rust);
-        self.agree(format_args!("least map"), source, target, map, least);
+        self.agree(format_args!("least map"), source, target, map, written);
         self.search_answers[usize::from(rust)] += 1;
         self.pairs += 1;
         (rust, least)

@@ -482,6 +482,12 @@ impl Comparison {
         self.agree(question, None, rattle.refusal, rust);
         self.meet(rust);
         let plain = rattle.state;
+        let state = match &opened {
+            Ok(tree) => tree.state(),
+            Err(_) => queue_tree::State::NONE,
+        };
+        let question = format_args!("state, {question}");
+        self.agree(question, None, plain, PlainState::write(&state));
         match opened {
             Ok(tree) => {
                 let sides = Sides { plain, tree };

@@ -39,23 +39,28 @@ module _ (source target : List ℕ) (e : searchFault source target ≡ 0) where
       let a = orElse-none (fault 32 source) (orElse (fault 64 target) rest) e in
       (a .0, orElse-none (fault 64 target) rest (a .1) .0)
 
-  pub images-pass : (map : List ℕ) → map ≡ searchMap source target → Passes (tree source) (tree target) (take (length source) map)
-  images-pass map q =
+  pub images-pass : Passes (tree source) (tree target) (take (length source) (searchMap source target))
+  images-pass =
       let s = search-map source target (faultless .0) (faultless .1) e in
       let m = s .0 in
       let n : length m ≡ length source = s .1 .passes .long ∙ valid-size 32 source (faultless .0) in
-      let t : take (length source) map ≡ m =
-      ap (take (length source)) (q ∙ s .2)
+      let t : take (length source) (searchMap source target) ≡ m =
+      ap (take (length source)) (s .2)
       ∙ ap (λ (k : ℕ). take k (m ++ replicate (32 - length m) 0)) (sym n)
       ∙ take-append-seam m (replicate (32 - length m) 0) in
       rw t (s .1 .passes)
 
+module _ (source target : List ℕ) (r : Searched) (s : Searches source target r) (z : numberOf (r .outcome) ≡ 0) where
+  none : searchFault source target ≡ 0
+  none = sym (searched-number source target r s) ∙ z
+
+  pub found-passes : Passes (tree source) (tree target) (images source r)
+  found-passes = rw (s .map) (images-pass source target none)
+
 pub found-runs : FoundRuns
 found-runs source target r s z =
-    let none = sym (searched-number source target r s) ∙ z in
-    let f = faultless source target none in
-    let passes = images-pass source target none (r .map) (s .map) in
+    let f = faultless source target (none source target r s z) in
     record {
       opens = both-numbers source target (f .0) (f .1);
-      alike = both-alike source target (f .0) (f .1) (images source r) passes;
+      alike = λ limit. both-alike source target (f .0) (f .1) limit (images source r) (found-passes source target r s z);
     }

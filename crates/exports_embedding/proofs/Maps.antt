@@ -1,5 +1,7 @@
--- The calls about maps: a check's answer as a number, 32 bytes that are copied one by one, and the search's answer with and without room.
-use mathlib.Core.Path.{_≡_, refl, ap, _∙_}
+-- The calls about maps: a check's answer as a number, 32 bytes that are copied one by one, and the search's
+-- answers: refused, without room, and with a map.
+use mathlib.Core.Path.{_≡_, refl, sym, ap, _∙_}
+use mathlib.Core.Logic.{_≢_}
 use Prim.Native.Nat.{ℕ, zero, suc, _+_, _≤_, _<_}
 use native.Mathlib.Omega.{arith}
 use native.Mathlib.Nat.{not-suc-le-zero, le-of-suc-le-suc}
@@ -44,11 +46,17 @@ module _ (m b out : List ℕ) (i : ℕ) (e : out ≡ take i m ++ drop i b) where
       ∙ ap (λ (l : List ℕ). l ++ drop 32 b) (take-all 32 m (omega (arith, k)))
 
 module _ (source target out : List ℕ) where
-  pub search-no-room : length out < 32 → (255 ≡ searchNumber source target out) × (out ≡ searchOut source target out)
+  pub search-refused : (n : ℕ) → n ≡ searchFault source target → n ≢ 0 → (n ≡ searchNumber source target out) × (out ≡ searchOut source target out)
   unfolding searchNumber searchOut
-  search-no-room h = rw (lt-ltb (length out) 32 h) (refl, refl)
+  search-refused zero e z = absurd (z refl)
+  search-refused (suc n) e z = rw (sym e) (refl, refl)
 
-  pub search-room : 32 ≤ length out → (n : ℕ) (m after : List ℕ) → n ≡ searchFault source target → m ≡ searchMap source target
-      → after ≡ m ++ drop 32 out → (n ≡ searchNumber source target out) × (after ≡ searchOut source target out)
-  unfolding searchNumber searchOut
-  search-room h n m after e f g = rw (le-ltb (length out) 32 h) (e, g ∙ ap (λ (l : List ℕ). l ++ drop 32 out) f)
+  module _ (e : searchFault source target ≡ 0) where
+    pub search-no-room : length out < 32 → (255 ≡ searchNumber source target out) × (out ≡ searchOut source target out)
+    unfolding searchNumber searchOut
+    search-no-room h = rw (e, lt-ltb (length out) 32 h) (refl, refl)
+
+    pub search-room : 32 ≤ length out → (m after : List ℕ) → m ≡ searchMap source target → after ≡ m ++ drop 32 out
+        → (0 ≡ searchNumber source target out) × (after ≡ searchOut source target out)
+    unfolding searchNumber searchOut
+    search-room h m after f g = rw (e, le-ltb (length out) 32 h) (refl, g ∙ ap (λ (l : List ℕ). l ++ drop 32 out) f)

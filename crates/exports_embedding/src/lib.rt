@@ -30,18 +30,22 @@ fn put_map(map: [u8; 32], out: &mut [u8])
     }
 }
 
-// The refusal of a search, or 0; the least map, or zeros, goes to the first 32 bytes of `out`. Where `out` is shorter nothing is written,
-// and the answer is 255.
+// The refusal of a search, or 0, and then the least map in the first 32 bytes of `out`. Where `out` has no room for a map that was found, the
+// answer is 255. Nothing is written unless the answer is 0.
 #[no_mangle]
 pub extern "C" fn linduvar_search(source: &[u8], target: &[u8], out: &mut [u8]) -> u8
     ensures { λ r. ⌜ (r ≡ searchNumber (now (source .entry)) (now (target .entry)) (now (out .entry))) × (now (out .exit) ≡ searchOut (now (source .entry)) (now (target .entry)) (now (out .entry))) ⌝ }
 {
+    let found = embedding_search::search(source, target);
+    let outcome = found.outcome;
+    let number = embedding_search::number_of(outcome);
+    if number != 0 {
+        return number;
+    }
     if out.len() < 32 {
         return 255;
     }
-    let found = embedding_search::search(source, target);
     let map = found.map;
     put_map(map, out);
-    let outcome = found.outcome;
-    embedding_search::number_of(outcome)
+    0
 }

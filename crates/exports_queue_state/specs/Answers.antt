@@ -2,12 +2,12 @@
 use Rattle.queue_state.specs.declared.Opened.{Opened}
 use Rattle.queue_counts.specs.declared.Amount.{Amount}
 use Rattle.queue_counts.specs.declared.Amount.the-variants.{Count, Refused}
-use Rattle.plain_state.specs.Plain.{stateOf}
+use Rattle.plain_state.specs.Plain.{plainOf}
 use Rattle.exports_queue_state.specs.declared.PlainOpened.{PlainOpened}
 use Rattle.exports_queue_state.specs.declared.PlainAmount.{PlainAmount}
 
-abbrev pub opening : PlainOpened → Opened
-opening r = record { state = stateOf (r .state); refusal = r .refusal }
+abbrev pub plainOpened : Opened → PlainOpened
+plainOpened o = record { state = plainOf (o .state); refusal = o .refusal }
 
 abbrev pub plainAmount : Amount → PlainAmount
 plainAmount (Count n) = record { number = 0; value = n }

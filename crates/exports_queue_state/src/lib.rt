@@ -4,13 +4,13 @@ use plain_state::PlainState;
 use queue_counts::Amount;
 ghost use mathlib.Core.Path.{_≡_};
 ghost use Rattle.pifo.specs.Tree.{held};
-ghost use Rattle.queue_state.specs.Opening.{Opens};
+ghost use Rattle.queue_state.specs.Opening.{openedState};
 ghost use Rattle.queue_counts.specs.Amounts.{amount};
 ghost use Rattle.queue_state.specs.State.{wellFormed, treeOf};
-ghost use Rattle.plain_state.specs.Plain.{stateOf, Written};
-ghost use Rattle.exports_queue_state.specs.Answers.{opening, plainAmount};
+ghost use Rattle.plain_state.specs.Plain.{stateOf};
+ghost use Rattle.exports_queue_state.specs.Answers.{plainOpened, plainAmount};
 
-// The answer to an opening: 0 and the empty tree, or a refusal's number and a state that every call refuses by 18.
+// The answer to an opening: 0 and the empty tree, or a refusal's number and zeros throughout, which every call refuses by 18.
 #[repr(C)]
 pub struct PlainOpened {
     pub state: PlainState,
@@ -36,7 +36,7 @@ fn amount_of(amount: Amount) -> PlainAmount
 // Opens an empty tree with a packet limit.
 #[no_mangle]
 pub extern "C" fn linduvar_open(bytes: &[u8], limit: usize) -> PlainOpened
-    ensures { λ r. ⌜ Opens (now (bytes .entry)) limit (opening r) × Written (r .state) ⌝ }
+    ensures { λ r. ⌜ r ≡ plainOpened (openedState (now (bytes .entry)) limit) ⌝ }
 {
     let opened = queue_state::open(bytes, limit);
     PlainOpened {

@@ -1,30 +1,55 @@
--- What the opening of both trees promises.
+-- What the opening of both trees answers: `openedPair`, for every source, target and limit.
 use mathlib.Core.Path.{_≡_}
 use mathlib.Core.Logic.{_≢_}
-use Prim.Native.Nat.{ℕ}
+use Prim.Native.Nat.{ℕ, zero, suc}
 use mathlib.Core.List.{List}
 use mathlib.Core.Bool.{false}
-use lib.ListN.{length, take}
+use lib.ListN.{length, take, replicate}
 use Rattle.topology.specs.Reader.{orElse, tree}
 use Rattle.pifo.specs.Machine.{opened}
 use Rattle.embedding_laws.specs.Least.{searchFault, searchMap}
 use Rattle.embedding_search.specs.Outcomes.{outcome}
+use Rattle.embedding_search.specs.declared.Outcome.{Outcome}
 use Rattle.queue_state.specs.State.{machine, wellFormed}
-use Rattle.queue_state.specs.Opening.{limitFault}
+use Rattle.queue_state.specs.Opening.{limitFault, noTree, openedState}
 use Rattle.pair_step.specs.Step.{InStep}
+use Rattle.pair_state.specs.declared.Pair.{Pair}
 use Rattle.pair_state.specs.declared.PairOpened.{PairOpened}
 
 -- The number by which an opening of both is refused: the search's, then the limit's.
 unfoldable pub bothFault : List ℕ → List ℕ → ℕ → ℕ
 bothFault source target limit = orElse (searchFault source target) (limitFault limit)
 
--- An opening: how the search ends; both machines empty, with the least map, and in step; where it is refused, two states that are not well
--- formed.
+-- zeros throughout: no trees, and no map
+abbrev pub noPair : Pair
+noPair = record { source = noTree; chip = noTree; map = replicate 32 0 }
+
+-- the two trees and the least map, by the number of the refusal
+abbrev pub pairBy : ℕ → List ℕ → List ℕ → ℕ → Pair
+pairBy zero source target limit =
+    record {
+      source = openedState source limit .state;
+      chip = openedState target limit .state;
+      map = searchMap source target;
+    }
+pairBy (suc n) source target limit = noPair
+
+-- An opening of both: the pair, how the search for its map ends, and the number.
+abbrev pub pairOpened : Pair → Outcome → ℕ → PairOpened
+pairOpened pair outcome number = record { pair = pair; outcome = outcome; refusal = number }
+
+unfoldable pub openedPair : List ℕ → List ℕ → ℕ → PairOpened
+openedPair source target limit =
+    let number = bothFault source target limit in
+    pairOpened (pairBy number source target limit) (outcome source target) number
+
+-- What an opening amounts to (`opens-both` in proofs/Start): both machines empty, with the least map, and in step; where it is refused, two
+-- states that every call refuses by 18.
 pub record OpensBoth (source target : List ℕ) (limit : ℕ) (r : PairOpened) : Type 0 where
   pub refusal : r .refusal ≡ bothFault source target limit
   pub outcome : r .outcome ≡ outcome source target
   pub drawn : r .refusal ≡ 0 → machine (r .pair .source) ≡ opened (tree source) limit
   pub chip : r .refusal ≡ 0 → machine (r .pair .chip) ≡ opened (tree target) limit
-  pub map : r .pair .map ≡ searchMap source target
+  pub map : r .refusal ≡ 0 → r .pair .map ≡ searchMap source target
   pub in-step : r .refusal ≡ 0 → InStep source target (take (length source) (r .pair .map)) (r .pair .source) (r .pair .chip)
   pub nothing : r .refusal ≢ 0 → (wellFormed (r .pair .source) ≡ false) × (wellFormed (r .pair .chip) ≡ false)

@@ -8,16 +8,16 @@ use mathlib.Core.Bool.{true}
 use Rattle.topology.specs.Tree.{Topo}
 use Rattle.topology.specs.Reader.{orElse, fault, tree}
 use Rattle.topology.proofs.Reader.{fault-wider}
-use Rattle.pifo.specs.Machine.{Machine, Call, Answer, opened, serve, Server, counts, seenBy}
+use Rattle.pifo.specs.Machine.{Machine, Call, opened, serve, Server, counts, seenBy}
 use Rattle.embedding_laws.specs.Rules.{Passes}
 use Rattle.simulation.specs.Sheet.{serveCarried}
 use Rattle.simulation.proofs.Simulation.{machines-alike}
 use Rattle.queue_state.specs.State.{Packet, machine, wellFormed}
-use Rattle.queue_state.specs.Opening.{limitFault, openFault, Opens}
+use Rattle.queue_state.specs.Opening.{limitFault, openFault, openedState}
 use Rattle.queue_state.specs.Calls.{Serves}
 use Rattle.queue_state.specs.Runs.{Transition, History, Execution}
 use Rattle.queue_state.specs.declared.State.{State}
-use Rattle.queue_state.specs.declared.Opened.{Opened}
+use Rattle.queue_state.proofs.Fresh.{opens}
 use Rattle.queue_state.proofs.Following.{AllFollow, serves-follows}
 use Rattle.pair_step.specs.Step.{ServesCarried}
 use Rattle.pair_step.specs.Alike.{countsOf, seenIn, SeenAlike}
@@ -41,42 +41,40 @@ module _ (server : Server Packet) (step : Transition (Call Packet)) (follows : A
       λ k. (answer k, seen k) ∷ others k
 
 -- the number by which a tree with no fault is refused
-pub open-number : (bytes : List ℕ) (limit : ℕ) (x : Opened) → fault 64 bytes ≡ 0 → Opens bytes limit x → x .refusal ≡ limitFault limit
+open-number : (bytes : List ℕ) (limit : ℕ) → fault 64 bytes ≡ 0 → openedState bytes limit .refusal ≡ limitFault limit
 unfolding openFault
-open-number bytes limit x e o = o .refusal ∙ ap (λ (f : ℕ). orElse f (limitFault limit)) e
+open-number bytes limit e = opens bytes limit .refusal ∙ ap (λ (f : ℕ). orElse f (limitFault limit)) e
 
 -- Both trees opened with one limit, for a map that meets the rules, and a list of calls on each.
-module _ (source target : List ℕ) (f : fault 32 source ≡ 0) (g : fault 64 target ≡ 0) where
+module _ (source target : List ℕ) (f : fault 32 source ≡ 0) (g : fault 64 target ≡ 0) (limit : ℕ) where
   -- only the limit can be refused
-  pub both-numbers : (limit : ℕ) (x y : Opened) → Opens source limit x → Opens target limit y
-      → (x .refusal ≡ limitFault limit) × (y .refusal ≡ limitFault limit)
-  both-numbers limit x y o u =
-      (open-number source limit x (fault-wider 32 64 source (omega arith) f) o, open-number target limit y g u)
+  pub both-numbers : (openedState source limit .refusal ≡ limitFault limit) × (openedState target limit .refusal ≡ limitFault limit)
+  both-numbers = (open-number source limit (fault-wider 32 64 source (omega arith) f), open-number target limit g)
 
-  pub both-alike : (m : List ℕ) → Passes (tree source) (tree target) m → (limit : ℕ) → limitFault limit ≡ 0
-      → (x y : Opened) → Opens source limit x → Opens target limit y
-      → (calls : List (Call Packet)) (vs ws : History) → Execution Serves (x .state) calls vs
-      → Execution (ServesCarried (tree source) (tree target) m) (y .state) calls ws
-      → SeenAlike (tree source) (tree target) m limit calls (x .state) (y .state) vs ws
-  both-alike m E limit fits x y o u calls vs ws v w =
+  pub both-alike : (m : List ℕ) → Passes (tree source) (tree target) m → limitFault limit ≡ 0
+      → let x = openedState source limit .state in
+      let y = openedState target limit .state in
+      (calls : List (Call Packet)) (vs ws : History) → Execution Serves x calls vs → Execution (ServesCarried (tree source) (tree target) m) y calls ws
+      → SeenAlike (tree source) (tree target) m limit calls x y vs ws
+  both-alike m E fits calls vs ws v w =
       let S : Topo = tree source in
       let T : Topo = tree target in
-      let numbers = both-numbers limit x y o u in
-      let z : x .refusal ≡ 0 = numbers .0 ∙ fits in
-      let n : y .refusal ≡ 0 = numbers .1 ∙ fits in
+      let x = openedState source limit .state in
+      let y = openedState target limit .state in
+      let o = opens source limit in
+      let u = opens target limit in
+      let z = both-numbers .0 ∙ fits in
+      let n = both-numbers .1 ∙ fits in
       let both = machines-alike Packet S T m E limit calls in
-      let source : seenIn vs ≡ seenBy serve (opened S limit) calls =
-      seen-follow serve Serves serves-follows calls (x .state) vs (o .formed z) v
+      let drawn : seenIn vs ≡ seenBy serve (opened S limit) calls =
+      seen-follow serve Serves serves-follows calls x vs (o .formed z) v
       ∙ ap (λ (q : Machine Packet). seenBy serve q calls) (o .machine z) in
       let chip : seenIn ws ≡ seenBy (serveCarried S T m) (opened T limit) calls =
-      seen-follow (serveCarried S T m) (ServesCarried S T m) (carried-follows S T m) calls (y .state) ws (u .formed n) w
+      seen-follow (serveCarried S T m) (ServesCarried S T m) (carried-follows S T m) calls y ws (u .formed n) w
       ∙ ap (λ (q : Machine Packet). seenBy (serveCarried S T m) q calls) (u .machine n) in
       record {
-        before =
-            counts-machine (x .state) ∙ ap counts (o .machine z)
-            ∙ both .before
-            ∙ sym (counts-machine (y .state) ∙ ap counts (u .machine n));
-        every = source ∙ both .every ∙ sym chip;
-        source = source;
+        before = counts-machine x ∙ ap counts (o .machine z) ∙ both .before ∙ sym (counts-machine y ∙ ap counts (u .machine n));
+        every = drawn ∙ both .every ∙ sym chip;
+        source = drawn;
         chip = chip;
       }

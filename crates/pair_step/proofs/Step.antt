@@ -14,10 +14,10 @@ use Rattle.simulation.specs.Carrying.{carry}
 use Rattle.simulation.specs.Sheet.{pushCarried, serveCarried}
 use Rattle.simulation.proofs.Simulation.{paired-opened, paired-next, answers-alike}
 use Rattle.queue_state.specs.State.{Packet, machine, wellFormed}
-use Rattle.queue_state.specs.Opening.{Opens}
+use Rattle.queue_state.specs.Opening.{openedState}
 use Rattle.queue_state.specs.Calls.{Serves}
 use Rattle.queue_state.specs.declared.State.{State}
-use Rattle.queue_state.specs.declared.Opened.{Opened}
+use Rattle.queue_state.proofs.Fresh.{opens}
 use Rattle.queue_state.proofs.Following.{AllFollow, serves-follows}
 use Rattle.pair_step.specs.Step.{PushesCarried, ServesCarried, InStep}
 
@@ -52,10 +52,13 @@ module _ (source target m : List ℕ) where
           },
         )
 
-  -- two trees with none of the faults, opened, are in step for a map that meets the rules
-  pub opened-in-step : fault 32 source ≡ 0 → fault 64 target ≡ 0 → Passes (tree source) (tree target) m → (limit : ℕ) (x y : Opened)
-      → Opens source limit x → Opens target limit y → x .refusal ≡ 0 → y .refusal ≡ 0 → InStep source target m (x .state) (y .state)
-  opened-in-step f g E limit x y o u z n =
+  -- two trees that are opened are in step for a map that meets the rules
+  pub opened-in-step : fault 32 source ≡ 0 → fault 64 target ≡ 0 → Passes (tree source) (tree target) m → (limit : ℕ)
+      → openedState source limit .refusal ≡ 0 → openedState target limit .refusal ≡ 0
+      → InStep source target m (openedState source limit .state) (openedState target limit .state)
+  opened-in-step f g E limit z n =
+      let o = opens source limit in
+      let u = opens target limit in
       record {
         mapped = mapFault-none source target m .1 (f, g, E);
         source-formed = o .formed z;

@@ -23,14 +23,14 @@ use Rattle.embedding_laws.proofs.Searching.{search-twelve}
 use Rattle.simulation.specs.Carrying.{carry}
 use Rattle.simulation.specs.Sheet.{serveCarried}
 use Rattle.embedding_search.specs.Outcomes.{outcome}
-use Rattle.embedding_search.proofs.Found.{searched-number, images-pass}
+use Rattle.embedding_search.proofs.Found.{searched-number, found-passes}
 use Rattle.queue_state.specs.State.{Packet, machine, wellFormed}
-use Rattle.queue_state.specs.Opening.{limitFault, Opens}
+use Rattle.queue_state.specs.Opening.{limitFault, openedState}
 use Rattle.queue_state.specs.Calls.{Serves}
 use Rattle.queue_state.specs.Runs.{Transition, History, Execution}
 use Rattle.queue_state.specs.declared.State.{State}
-use Rattle.queue_state.specs.declared.Opened.{Opened}
-use Rattle.queue_state.proofs.Existing.{opens-some, serves-some, execution-some}
+use Rattle.queue_state.proofs.Fresh.{opens}
+use Rattle.queue_state.proofs.Existing.{serves-some, execution-some}
 use Rattle.queue_state.proofs.Following.{AllFollow, serves-follows, execution-as}
 use Rattle.queue_push.specs.Calls.{stepsOf}
 use Rattle.queue_push.specs.declared.Path.{Path}
@@ -86,40 +86,46 @@ tallied (c ∷ cs) q i o f s h g =
     )
 
 -- nothing is held and nothing counted at an opening
-opened-counts : (bytes : List ℕ) (limit : ℕ) (x : Opened) → Opens bytes limit x → x .refusal ≡ 0 → countsOf (x .state) ≡ (0, 0)
+opened-counts : (bytes : List ℕ) (limit : ℕ) → openedState bytes limit .refusal ≡ 0 → countsOf (openedState bytes limit .state) ≡ (0, 0)
 unfolding machine
-opened-counts bytes limit x o z =
-    let is = o .machine z in
+opened-counts bytes limit z =
+    let is = opens bytes limit .machine z in
     let none : held (opened {P = Packet} (tree bytes) limit .tree) ≡ 0 = ap length (packets-empty Packet (tree bytes)) in
     ap (λ (q : Machine Packet). (held (q .tree), q .refusals)) is ∙ (λ k. (none k, 0))
 
 -- ---- both alike
 
 module _ (source target m : List ℕ) (f : fault 32 source ≡ 0) (g : fault 64 target ≡ 0) (E : Passes (tree source) (tree target) m)
-    (limit : ℕ) (fits : limitFault limit ≡ 0) (x y : Opened) (o : Opens source limit x) (u : Opens target limit y) where
-  alike : (calls : List Request) (vs ws : History) → Execution SourceCall (x .state) calls vs
-      → Execution (ChipCall source target m) (y .state) calls ws → Alike (tree source) (tree target) m limit calls (x .state) (y .state) vs ws
+    (limit : ℕ) (fits : limitFault limit ≡ 0) where
+  abbrev x : State
+  x = openedState source limit .state
+
+  abbrev y : State
+  y = openedState target limit .state
+
+  alike : (calls : List Request) (vs ws : History) → Execution SourceCall x calls vs → Execution (ChipCall source target m) y calls ws
+      → Alike (tree source) (tree target) m limit calls x y vs ws
   alike requests vs ws v w =
       let S = tree source in
       let T = tree target in
       let calls : List (Call Packet) = map callOf requests in
       let passes = mapFault-none source target m .1 (f, g, E) in
-      let numbers = both-numbers source target f g limit x y o u in
-      let x-formed = o .formed (numbers .0 ∙ fits) in
-      let y-formed = u .formed (numbers .1 ∙ fits) in
-      let source-run = execution-as callOf SourceCall Serves (λ s c a r call. call) requests (x .state) vs v in
+      let numbers = both-numbers source target f g limit in
+      let x-formed = opens source limit .formed (numbers .0 ∙ fits) in
+      let y-formed = opens target limit .formed (numbers .1 ∙ fits) in
+      let source-run = execution-as callOf SourceCall Serves (λ s c a r call. call) requests x vs v in
       let chip-run =
-      execution-as callOf (ChipCall source target m) (ServesCarried S T m) (chip-serves source target m passes) requests (y .state) ws w in
-      let both = both-alike source target f g m E limit fits x y o u calls vs ws source-run chip-run in
-      let shown-source : shown vs ≡ shownBy (seenIn vs) = shown-seen serve Serves serves-follows calls (x .state) vs x-formed source-run in
+      execution-as callOf (ChipCall source target m) (ServesCarried S T m) (chip-serves source target m passes) requests y ws w in
+      let both = both-alike source target f g limit m E fits calls vs ws source-run chip-run in
+      let shown-source : shown vs ≡ shownBy (seenIn vs) = shown-seen serve Serves serves-follows calls x vs x-formed source-run in
       let shown-chip : shown ws ≡ shownBy (seenIn ws) =
-      shown-seen (serveCarried S T m) (ServesCarried S T m) (carried-follows S T m) calls (y .state) ws y-formed chip-run in
-      let first : countsOf (x .state) ≡ (0, 0) = opened-counts source limit x o (numbers .0 ∙ fits) in
+      shown-seen (serveCarried S T m) (ServesCarried S T m) (carried-follows S T m) calls y ws y-formed chip-run in
+      let first = opened-counts source limit (numbers .0 ∙ fits) in
       let source : shown vs ≡ shownBy (seenBy serve (opened S limit) calls) = shown-source ∙ ap shownBy (both .source) in
       record {
-        before = look-formed (x .state) x-formed ∙ ap lookOf (both .before) ∙ sym (look-formed (y .state) y-formed);
+        before = look-formed x x-formed ∙ ap lookOf (both .before) ∙ sym (look-formed y y-formed);
         every = shown-source ∙ ap shownBy (both .every) ∙ sym shown-chip;
-        empty = (0, refl, look-formed (x .state) x-formed ∙ ap lookOf first);
+        empty = (0, refl, look-formed x x-formed ∙ ap lookOf first);
         tallied =
             subst (Tallied 0 0 0) (sym source)
             (tallied calls (opened S limit) 0 0 0 (opened-sound Packet S limit) (omega (arith, ap length (packets-empty Packet S))) refl);
@@ -160,8 +166,7 @@ demand-3 =
     record {
       alike = λ source target m limit f g E low high.
           let fits : limitFault limit ≡ 0 = rw (le-leb 1 limit low, le-leb limit 256 high) in
-          λ x y o u. alike source target m f g E limit fits x y o u;
-      opens = opens-some;
+          alike source target m f g E limit fits;
       source-executes = execution-some SourceCall (λ s c. serves-some s (callOf c));
       chip-executes = λ source target m. execution-some (ChipCall source target m) (chip-some source target m);
       searches = λ source target. (
@@ -172,5 +177,5 @@ demand-3 =
           let number = searched-number source target r s in
           let exact = search-twelve source target f g in
           (λ e. exact .0 (sym number ∙ e), λ none. number ∙ exact .1 none);
-      zero-passes = λ source target r s z. images-pass source target (sym (searched-number source target r s) ∙ z) (r .map) (s .map);
+      zero-passes = found-passes;
     }

@@ -19,12 +19,11 @@ use Rattle.embedding_search.specs.Search.{Searches, images}
 use Rattle.embedding_search.specs.declared.Searched.{Searched}
 use Rattle.queue_state.specs.State.{Packet, treeOf, wellFormed}
 use Rattle.queue_counts.specs.Amounts.{amount}
-use Rattle.queue_state.specs.Opening.{Opens}
+use Rattle.queue_state.specs.Opening.{openedState}
 use Rattle.queue_state.specs.Calls.{Serves}
 use Rattle.queue_state.specs.Runs.{Transition, History, Execution}
 use Rattle.queue_state.specs.declared.State.{State}
 use Rattle.queue_push.specs.declared.Path.{Path}
-use Rattle.queue_state.specs.declared.Opened.{Opened}
 use Rattle.queue_counts.specs.declared.Amount.{Amount}
 use Rattle.queue_counts.specs.declared.Amount.the-variants.{Count}
 use Rattle.translator.specs.Carry.{Carries}
@@ -86,7 +85,7 @@ lookOf n = (Count (n .0), Count (n .1))
 abbrev pub shownBy : List (Answer Packet × (ℕ × ℕ)) → List (Answer Packet × Look)
 shownBy ls = map (λ (l : Answer Packet × (ℕ × ℕ)). (l .0, lookOf (l .1))) ls
 
--- Both trees were opened empty with one limit, as x and y, and a list of calls went to both, with the executions vs and ws.
+-- Both trees were opened empty with one limit, as the states x and y, and a list of calls went to both, with the executions vs and ws.
 pub record Alike (S T : Topo) (m : List ℕ) (limit : ℕ) (calls : List Request) (x y : State) (vs ws : History) : Type 0 where
   -- alike before the first call, in packets held and refusals counted
   pub before : look x ≡ look y
@@ -102,12 +101,12 @@ pub record Alike (S T : Topo) (m : List ℕ) (limit : ℕ) (calls : List Request
 pub record Demand3 : Type 0 where
   -- Any source and target with none of the faults, any map that meets the rules, any limit, and any list of calls: the two trees are alike.
   pub alike : (source target m : List ℕ) (limit : ℕ) → fault 32 source ≡ 0 → fault 64 target ≡ 0 → Passes (tree source) (tree target) m
-      → 1 ≤ limit → limit ≤ 256 → (x y : Opened) → Opens source limit x → Opens target limit y
-      → (calls : List Request) (vs ws : History) → Execution SourceCall (x .state) calls vs
-      → Execution (ChipCall source target m) (y .state) calls ws
-      → Alike (tree source) (tree target) m limit calls (x .state) (y .state) vs ws
-  -- There are such openings, and from every state on such executions of every list of calls; and there is an answer of the search.
-  pub opens : (bytes : List ℕ) (limit : ℕ) → (x : Opened) × Opens bytes limit x
+      → 1 ≤ limit → limit ≤ 256
+      → let x = openedState source limit .state in
+      let y = openedState target limit .state in
+      (calls : List Request) (vs ws : History) → Execution SourceCall x calls vs → Execution (ChipCall source target m) y calls ws
+      → Alike (tree source) (tree target) m limit calls x y vs ws
+  -- There are such executions of every list of calls, from every state on, and there is an answer of the search.
   pub source-executes : (s : State) (calls : List Request) → (vs : History) × Execution SourceCall s calls vs
   pub chip-executes : (source target m : List ℕ) (t : State) (calls : List Request)
       → (ws : History) × Execution (ChipCall source target m) t calls ws

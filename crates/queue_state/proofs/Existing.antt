@@ -1,60 +1,27 @@
--- What is promised can be kept: every opening and every call has an answer and a state after it (`opens-some`, `serves-some`), and so every list
--- of calls an execution (`execution-some`).
+-- What is promised of a call can be kept: every call has an answer and a state after it (`serves-some`), and so every list of calls an execution
+-- (`execution-some`).
 use mathlib.Core.Path.{_≡_, refl, sym, ap, _∙_, subst}
 use Prim.Native.Nat.{ℕ, zero, suc, _≤_, min}
 use native.Mathlib.Omega.{arith}
 use mathlib.Core.List.{List, [], _∷_}
 use mathlib.Core.Bool.{Bool, true, false}
 use mathlib.Core.Option.{Option, none, some}
-use lib.ListN.{replicate}
 use Rattle.lists.proofs.Permutation.{length-perm}
 use Rattle.topology.specs.Tree.{Topo}
 use Rattle.topology.specs.Reader.{tree}
 use Rattle.pifo.specs.Tree.{Step, pathFault, PTree, shape, push, pop, held, well}
-use Rattle.pifo.specs.Machine.{Call, pushing, popping, Answer, accepted, departed, refused, full, room, most, opened, serve, servePop, holding, counting as count}
+use Rattle.pifo.specs.Machine.{Call, pushing, popping, Answer, accepted, departed, refused, full, room, most, serve, servePop, holding, counting as count}
 use Rattle.pifo.proofs.Answers.{has-room, push-fault, push-full, push-accepted}
 use Rattle.pifo.proofs.Numbered.{shape-assemble}
 use Rattle.pifo.proofs.Push.{push-shape, push-held, push-well}
 use Rattle.pifo.proofs.Pop.{Popped, popped}
-use Rattle.pifo.proofs.Runs.{opened-sound}
 use Rattle.queue_state.specs.State.{Packet, queues, bytes, treeOf, machine, inBounds, wellFormed}
-use Rattle.queue_state.specs.Opening.{openFault, Opens}
 use Rattle.queue_state.specs.Calls.{Serves, counting}
 use Rattle.queue_state.specs.Runs.{Transition, History, Execution}
-use Rattle.queue_state.specs.Entries.{Empty}
 use Rattle.queue_state.specs.declared.State.{State}
-use Rattle.queue_state.specs.declared.Opened.{Opened}
 use Rattle.queue_state.proofs.Formed.{Formed, formed}
-use Rattle.queue_state.proofs.Fresh.{refused-none, refused-opens}
 use Rattle.queue_state.proofs.Serving.{apart, ill-served, served}
 use Rattle.queue_state.proofs.Realized.{stateFor, Fits, realized}
-
--- ---- openings
-
-pub opens-some : (bs : List ℕ) (limit : ℕ) → (r : Opened) × Opens bs limit r
-opens-some bs limit = by-fault (openFault bs limit) refl
-  where
-    nowhere : State
-    nowhere = record { frame = record { topology = []; nodes = 0; limit = 0 }; refused = 0; lengths = replicate 64 0; entries = [] }
-
-    empty : Empty [] 0 0 nowhere
-    empty = record { topology = refl; nodes = refl; limit = refl; refused = refl; lengths = refl }
-
-    fresh : openFault bs limit ≡ 0 → Fits bs (opened (tree bs) limit)
-    fresh e =
-        let f = refused-none bs limit e in
-        let s = opened-sound Packet (tree bs) limit in
-        record { valid = f .0; topology = refl; least = f .1; most = f .2; shape = s .topology; tree = s .tree; room = s .limit }
-
-    by-fault : (f : ℕ) → openFault bs limit ≡ f → (r : Opened) × Opens bs limit r
-    by-fault zero e =
-        let z = realized bs (opened (tree bs) limit) (fresh e) in (
-          record { state = stateFor bs (opened (tree bs) limit); refusal = 0 },
-          record { refusal = sym e; machine = λ _. z .machine; formed = λ _. z .formed; nothing = λ n. absurd (n refl) },
-        )
-    by-fault (suc f) e =
-        let r : Opened = record { state = nowhere; refusal = suc f } in
-        (r, refused-opens bs limit r (sym e) (λ (q : _≡_ {A = ℕ} (suc f) 0). omega arith) [] empty)
 
 -- ---- calls
 

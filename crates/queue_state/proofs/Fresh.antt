@@ -1,33 +1,29 @@
 -- An opening: a state with no entries is the empty tree, and well formed where the topology and the limit are.
 use mathlib.Core.Path.{_≡_, refl, sym, ap, _∙_}
 use mathlib.Core.Logic.{_≢_}
-use Prim.Native.Nat.{ℕ, zero, suc, _+_, _≤_, _<_}
-use Prim.Native.Nat.{zero-le}
+use Prim.Native.Nat.{ℕ, zero, suc, _+_, _-_, _≤_, _<_}
 use native.Mathlib.Nat.{not-suc-le-zero}
-use native.Mathlib.Decide.{ℕ-discrete}
 use native.Mathlib.Omega.{arith}
-use mathlib.Core.List.{List, [], map}
+use mathlib.Core.List.{List, [], _++_, map}
 use mathlib.Core.Bool.{Bool, true, false, _&&_}
-use lib.ListN.{length, take, getD, set, replicate, length-set}
-use lib.Seq.{slice, length-take-le, getD-take, getD-set-same, getD-set-other, ext-getD}
+use lib.ListN.{length, take, drop, getD, set, replicate, length-replicate}
+use lib.Seq.{slice, length-take-le, take-suc, take-length, drop-cons, append-snoc, set-at, take-append-seam}
 use lib.Dec.{leb}
 use borrow.Author.Tests.{le-leb, lt-leb, leb-true}
-use Rattle.topology.specs.Tree.{Topo}
+use Rattle.lists.proofs.Replicate.{drop-replicate}
 use Rattle.topology.specs.Reader.{pick, orElse, reading, fault, tree}
 use Rattle.topology.specs.declared.Reading.{Reading}
 use Rattle.topology.specs.declared.Reading.the-variants.{Tree, Refused}
 use Rattle.topology.proofs.Lookup.{valid-length}
-use Rattle.pifo.specs.Tree.{PTree, empty, held, well}
-use Rattle.pifo.specs.Numbered.{assemble}
-use Rattle.pifo.specs.Machine.{Machine, opened}
+use Rattle.pifo.specs.Tree.{empty, held, well}
+use Rattle.pifo.specs.Machine.{opened}
 use Rattle.pifo.proofs.Order.{both, join}
 use Rattle.pifo.proofs.Numbered.{empty-assemble, assemble-same}
 use Rattle.pifo.proofs.Runs.{opened-sound}
-use Rattle.queue_state.specs.State.{Packet, entryOf, startOf, queueIn, queues, bytes, treeOf, machine}
-use Rattle.queue_state.specs.Opening.{limitFault, openFault, Opens}
-use Rattle.queue_state.specs.Entries.{Empty}
-use Rattle.queue_state.specs.declared.Opened.{Opened}
+use Rattle.queue_state.specs.State.{Packet, entryOf, startOf, queueIn, queues, bytes, treeOf, machine, wellFormed}
+use Rattle.queue_state.specs.Opening.{limitFault, openFault, emptyState, noTree, openedBy, openedState, Opens}
 use Rattle.queue_state.specs.declared.Entry.{Entry as CodeEntry}
+use Rattle.queue_state.specs.declared.State.{State}
 use Rattle.queue_state.proofs.Formed.{form, unformed}
 
 -- ---- the refusal
@@ -103,86 +99,103 @@ none-refused bs limit v h g = ap (λ (k : ℕ). orElse k (limitFault limit)) v �
 pub short : (bs : List ℕ) (limit : ℕ) → openFault bs limit ≡ 0 → length bs ≤ 64
 short bs limit e = valid-length 64 bs (no-fault bs limit e .0)
 
-module _ (bs : List ℕ) (limit : ℕ) (r : Opened) (z : r .refusal ≡ openFault bs limit) where
-  -- refused: the state has no node, and no bytes are no tree
-  pub refused-opens : r .refusal ≢ 0 → (t : List ℕ) → Empty t 0 0 (r .state) → Opens bs limit r
-  refused-opens n t e =
-      record {
-        refusal = z;
-        machine = λ y. absurd (n y);
-        formed = λ y. absurd (n y);
-        nothing = λ _. unformed (r .state) (λ y. omega (arith, y .least, e .limit));
+-- no tree is not well formed: its limit is 0
+pub no-tree : wellFormed noTree ≡ false
+no-tree = unformed noTree (λ f. absurd (not-suc-le-zero (f .least)))
+
+-- a topology and a limit that are accepted
+module _ (bs : List ℕ) (limit : ℕ) where
+  abbrev fresh : State
+  fresh = openedBy 0 bs limit .state
+
+  same-bytes : bytes fresh ≡ bs
+  unfolding bytes
+  same-bytes = take-append-seam bs (replicate (64 - length bs) 0)
+
+  same-tree : treeOf fresh ≡ empty (tree bs)
+  unfolding treeOf queues
+  same-tree =
+      assemble-same (tree (bytes fresh)) (queueIn (replicate 64 0) (fresh .entries)) (λ _. []) 0 (λ m _ _. no-queue (fresh .entries) m)
+      ∙ sym (empty-assemble (tree (bytes fresh)) 0)
+      ∙ ap (λ (l : List ℕ). empty (tree l)) same-bytes
+
+  same-machine : machine fresh ≡ opened (tree bs) limit
+  unfolding machine
+  same-machine = λ k. record { topology = tree (same-bytes k); limit = limit; refusals = 0; tree = same-tree k }
+
+  well-formed : openFault bs limit ≡ 0 → wellFormed fresh ≡ true
+  well-formed e =
+      let f = refused-none bs limit e in
+      let s = opened-sound Packet (tree bs) limit in
+      form fresh record {
+        nodes = valid-length 64 bs (f .0);
+        used = omega (arith, no-start 64 (length bs));
+        valid = ap (fault 64) same-bytes ∙ f .0;
+        least = f .1;
+        most = f .2;
+        tree = ap well same-tree ∙ s .tree;
+        room = omega (arith, ap held same-tree, s .limit);
       }
 
-  -- accepted
-  module _ (o : r .refusal ≡ 0) (t : List ℕ) (c : take (length bs) t ≡ bs) (e : Empty t (length bs) limit (r .state)) where
-    same-bytes : bytes (r .state) ≡ bs
-    unfolding bytes
-    same-bytes = ap (take (r .state .frame .nodes)) (e .topology) ∙ ap (λ (n : ℕ). take n t) (e .nodes) ∙ c
-
-    same-tree : treeOf (r .state) ≡ empty (tree bs)
-    unfolding treeOf queues
-    same-tree =
-        ap (λ (l : List ℕ). assemble (tree (bytes (r .state))) (queueIn l (r .state .entries)) 0) (e .lengths)
-        ∙ assemble-same (tree (bytes (r .state))) (queueIn (replicate 64 0) (r .state .entries)) (λ _. []) 0 (λ m _ _. no-queue (r .state .entries) m)
-        ∙ sym (empty-assemble (tree (bytes (r .state))) 0)
-        ∙ ap (λ (l : List ℕ). empty (tree l)) same-bytes
-
-    same-machine : machine (r .state) ≡ opened (tree bs) limit
-    unfolding machine
-    same-machine =
-        ap (λ (x : Topo). made x (r .state .frame .limit) (r .state .refused) (treeOf (r .state))) (ap tree same-bytes)
-        ∙ ap (λ (x : ℕ). made (tree bs) x (r .state .refused) (treeOf (r .state))) (e .limit)
-        ∙ ap (λ (x : ℕ). made (tree bs) limit x (treeOf (r .state))) (e .refused)
-        ∙ ap (made (tree bs) limit 0) same-tree
-      where
-        made : Topo → ℕ → ℕ → PTree Packet → Machine Packet
-        made t l c p = record { topology = t; limit = l; refusals = c; tree = p }
-
-    pub accepted-opens : Opens bs limit r
-    accepted-opens =
-        let f = no-fault bs limit (sym z ∙ o) in
-        let l = limit-range limit (f .1) in
-        let s = opened-sound ℕ (tree bs) limit in
+pub opens : (bs : List ℕ) (limit : ℕ) → Opens bs limit (openedState bs limit)
+unfolding openedState
+opens bs limit = by-number (openFault bs limit) refl
+  where
+    by-number : (n : ℕ) → openFault bs limit ≡ n → Opens bs limit (openedBy n bs limit)
+    by-number zero e =
         record {
-          refusal = z;
-          machine = λ _. same-machine;
-          formed = λ _. form (r .state) record {
-            nodes = omega (arith, e .nodes, valid-length 64 bs (f .0));
-            used = omega (arith, ap (λ (l : List ℕ). startOf l (r .state .frame .nodes)) (e .lengths), no-start 64 (r .state .frame .nodes));
-            valid = ap (fault 64) same-bytes ∙ f .0;
-            least = omega (arith, e .limit, l .0);
-            most = omega (arith, e .limit, l .1);
-            tree = ap well same-tree ∙ s .tree;
-            room = omega (arith, ap held same-tree, s .limit, e .limit);
-          };
-          nothing = λ n. absurd (n o);
+          refusal = sym e;
+          machine = λ _. same-machine bs limit;
+          formed = λ _. well-formed bs limit e;
+          nothing = λ n. absurd (n refl);
+        }
+    by-number (suc n) e =
+        record {
+          refusal = sym e;
+          machine = λ z. absurd (omega arith);
+          formed = λ z. absurd (omega arith);
+          nothing = λ _. no-tree;
         }
 
--- ---- the copy of the bytes
+-- ---- what `open` answers
+
+pub opened-refused : (bs : List ℕ) (limit n : ℕ) (s : State) → n ≡ openFault bs limit → n ≢ 0 → s ≡ noTree
+    → record { state = s; refusal = n } ≡ openedState bs limit
+unfolding openedState
+opened-refused bs limit zero s e z f = absurd (z refl)
+opened-refused bs limit (suc n) s e z f = rw (sym e, f) refl
+
+pub opened-accepted : (bs : List ℕ) (limit : ℕ) (t : List ℕ) (s : State) → openFault bs limit ≡ 0
+    → t ≡ bs ++ replicate (64 - length bs) 0 → s ≡ emptyState t (length bs) limit → record { state = s; refusal = 0 } ≡ openedState bs limit
+unfolding openedState
+opened-accepted bs limit t s e f g = rw (e, g, f) refl
+
+-- ---- the copy of the bytes over zeros
 
 -- the first i bytes are copied
 pub record Copied (bs t : List ℕ) (i : ℕ) : Type 0 where
-  pub places : length t ≡ 64
   pub front : i ≤ length bs
-  pub alike : (j : ℕ) → j < i → getD t j 0 ≡ getD bs j 0
-
-pub copy-none : (bs t : List ℕ) → length t ≡ 64 → Copied bs t 0
-copy-none bs t e = record { places = e; front = zero-le; alike = λ j h. absurd (not-suc-le-zero h) }
+  pub is : t ≡ take i bs ++ drop i (replicate 64 0)
 
 pub copy-more : (bs t : List ℕ) (i : ℕ) → Copied bs t i → i < length bs → length bs ≤ 64 → Copied bs (set t i (getD bs i 0)) (i + 1)
 copy-more bs t i c h m =
-    record { places = length-set t i (getD bs i 0) ∙ c .places; front = omega arith; alike = λ j g. by-place j g (ℕ-discrete j i) }
-  where
-    by-place : (j : ℕ) → j < i + 1 → Dec (j ≡ i) → getD (set t i (getD bs i 0)) j 0 ≡ getD bs j 0
-    by-place j g (yes e) =
-        ap (λ (k : ℕ). getD (set t i (getD bs i 0)) k 0) e
-        ∙ getD-set-same t i (getD bs i 0) 0 (omega (arith, c .places))
-        ∙ ap (λ (k : ℕ). getD bs k 0) (sym e)
-    by-place j g (no d) = getD-set-other t i j (getD bs i 0) 0 d ∙ c .alike j (omega arith)
+    let zeros : List ℕ = replicate 64 0 in
+    let b = getD bs i 0 in
+    let next : i + 1 ≡ suc i = omega arith in
+    record {
+      front = omega arith;
+      is =
+          ap (λ (l : List ℕ). set l i b) (c .is)
+          ∙ ap (λ (l : List ℕ). set (take i bs ++ l) i b) (drop-cons zeros i 0 (omega (arith, length-replicate {A = ℕ} 64 0)))
+          ∙ set-at (take i bs) (getD zeros i 0) (drop (suc i) zeros) b i (length-take-le i bs (c .front))
+          ∙ sym (append-snoc (take i bs) b (drop (suc i) zeros))
+          ∙ ap (λ (l : List ℕ). l ++ drop (suc i) zeros) (sym (take-suc bs i 0 h))
+          ∙ ap (λ (k : ℕ). take k bs ++ drop k zeros) (sym next);
+    }
 
-pub copy-all : (bs t : List ℕ) (i : ℕ) → Copied bs t i → length bs ≤ i → length bs ≤ 64 → take (length bs) t ≡ bs
-copy-all bs t i c h m =
-    let l = length-take-le (length bs) t (omega (arith, c .places)) in
-    ext-getD 0 (take (length bs) t) bs l
-    (λ j g. getD-take (length bs) t j 0 (omega arith) ∙ c .alike j (omega arith))
+pub copy-all : (bs t : List ℕ) (i : ℕ) → Copied bs t i → length bs ≤ i → t ≡ bs ++ replicate (64 - length bs) 0
+copy-all bs t i c h =
+    let e : i ≡ length bs = omega (arith, c .front) in
+    c .is ∙ ap (λ (k : ℕ). take k bs ++ drop k (replicate 64 0)) e
+    ∙ ap (λ (l : List ℕ). l ++ drop (length bs) (replicate 64 0)) (take-length bs)
+    ∙ ap (λ (l : List ℕ). bs ++ l) (drop-replicate (length bs) 64 0)

@@ -16,13 +16,13 @@ use Rattle.pifo.proofs.Runs.{Unmoved, unmoved, run}
 use Rattle.pifo.proofs.Times.{times-part}
 use Rattle.pifo.proofs.Drained.{drained}
 use Rattle.queue_state.specs.State.{Packet, treeOf, machine, wellFormed}
-use Rattle.queue_state.specs.Opening.{Opens}
+use Rattle.queue_state.specs.Opening.{openFault, openedState}
 use Rattle.queue_state.specs.Calls.{Serves}
 use Rattle.queue_state.specs.Runs.{History, Execution, answersIn, lastState, Tells, EachSound, Conserves, Drains, Demand2}
 use Rattle.queue_state.specs.declared.State.{State}
-use Rattle.queue_state.specs.declared.Opened.{Opened}
 use Rattle.queue_state.proofs.Formed.{formed}
-use Rattle.queue_state.proofs.Existing.{opens-some, serves-some, execution-some}
+use Rattle.queue_state.proofs.Fresh.{opens}
+use Rattle.queue_state.proofs.Existing.{serves-some, execution-some}
 use Rattle.queue_state.proofs.Following.{Follows, serves-follows, answers-follow, last-follows}
 
 -- ---- the numbers of the machine's refusals
@@ -58,11 +58,13 @@ each-sound (c ∷ cs) s ((a, r) ∷ vs) t (call, rest) =
 
 -- ---- from an opening on
 
-conserves : (bytes : List ℕ) (limit : ℕ) (x : Opened) → Opens bytes limit x → x .refusal ≡ 0
-    → (calls : List (Call Packet)) (vs : History) → Execution Serves (x .state) calls vs → Conserves (x .state) calls vs
+conserves : (bytes : List ℕ) (limit : ℕ) → openFault bytes limit ≡ 0 → let s = openedState bytes limit .state in
+    (calls : List (Call Packet)) (vs : History) → Execution Serves s calls vs → Conserves s calls vs
 unfolding machine
-conserves bytes limit x o z calls vs v =
-    let s = x .state in
+conserves bytes limit e calls vs v =
+    let s = openedState bytes limit .state in
+    let o = opens bytes limit in
+    let z = o .refusal ∙ e in
     let t = o .formed z in
     let start : Machine Packet = opened (tree bytes) limit in
     let given : answersIn vs ≡ answers start calls =
@@ -102,4 +104,4 @@ drains s t vs v =
     }
 
 pub demand-2 : Demand2
-demand-2 = record { conserves = conserves; drains = drains; opens = opens-some; executes = execution-some Serves serves-some }
+demand-2 = record { conserves = conserves; drains = drains; executes = execution-some Serves serves-some }

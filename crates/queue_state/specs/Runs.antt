@@ -1,5 +1,5 @@
 -- Whole lists of calls on a queue tree by itself: what an execution of them is, and what is promised of it (`Demand2`). It speaks of the code by
--- the contracts of an opening and of a call (`Opens`, `Serves`), so that it holds of whatever the code does. `proofs/Runs.antt` proves it.
+-- the contracts of an opening and of a call (`openedState`, `Serves`), so that it holds of whatever the code does. `proofs/Runs.antt` proves it.
 use mathlib.Core.Path.{_≡_}
 use Prim.Native.Nat.{ℕ, _+_, _≤_, min}
 use mathlib.Core.List.{List, [], _∷_, _++_, map, List·Permᴰ}
@@ -9,10 +9,9 @@ use Rattle.pifo.specs.Tree.{packets, held}
 use Rattle.pifo.specs.Machine.{Call, popping, Answer, accepted, departed, refused, full, numberOf, most}
 use Rattle.pifo.specs.Runs.{taken, departures, accepts, times}
 use Rattle.queue_state.specs.State.{Packet, treeOf, wellFormed}
-use Rattle.queue_state.specs.Opening.{Opens}
+use Rattle.queue_state.specs.Opening.{openFault, openedState}
 use Rattle.queue_state.specs.Calls.{Serves}
 use Rattle.queue_state.specs.declared.State.{State}
-use Rattle.queue_state.specs.declared.Opened.{Opened}
 
 -- What a call may do: from a state, for a call, an answer and the state after it. `Serves` is one.
 abbrev pub Transition : Type 0 → Type 1
@@ -76,11 +75,10 @@ pub record Drains (s : State) (vs : History) : Type 0 where
 -- Demand 2 over lists, for a queue tree of up to 64 nodes.
 pub record Demand2 : Type 0 where
   -- from every opening that is not refused, over every list of calls
-  pub conserves : (bytes : List ℕ) (limit : ℕ) (x : Opened) → Opens bytes limit x → x .refusal ≡ 0
-      → (calls : List (Call Packet)) (vs : History) → Execution Serves (x .state) calls vs → Conserves (x .state) calls vs
+  pub conserves : (bytes : List ℕ) (limit : ℕ) → openFault bytes limit ≡ 0 → let s = openedState bytes limit .state in
+      (calls : List (Call Packet)) (vs : History) → Execution Serves s calls vs → Conserves s calls vs
   -- from every well-formed state, with as many pops as it holds packets
   pub drains : (s : State) → wellFormed s ≡ true → (vs : History)
       → Execution Serves s (replicate (held (treeOf s)) popping) vs → Drains s vs
-  -- and there is an opening for all bytes and limits, and an execution of every list of calls from every state on
-  pub opens : (bytes : List ℕ) (limit : ℕ) → (x : Opened) × Opens bytes limit x
+  -- and every list of calls has an execution, from every state on
   pub executes : (s : State) (calls : List (Call Packet)) → (vs : History) × Execution Serves s calls vs

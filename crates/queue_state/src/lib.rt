@@ -9,7 +9,7 @@ use topology::Reading;
 use topology::TARGET_NODES;
 ghost use mathlib.Core.Path.{_≡_};
 ghost use Prim.Native.Nat.{_<_};
-ghost use Rattle.queue_state.specs.Opening.{openFault, Opens};
+ghost use Rattle.queue_state.specs.Opening.{openFault, openedState};
 
 pub type Rank = u32;
 
@@ -41,7 +41,7 @@ pub struct State {
     pub entries: [Entry; 2304],
 }
 
-// The answer to an opening: 0 and the empty tree, or a refusal's number and a state that every call refuses by 18.
+// The answer to an opening: 0 and the empty tree, or a refusal's number and zeros throughout, which every call refuses by 18.
 pub struct Opened {
     pub state: State,
     pub refusal: u8,
@@ -74,7 +74,7 @@ pub fn refusal(bytes: &[u8], limit: usize) -> u8
 
 // Opens an empty tree with a packet limit: 1 to 5 are tested, then 17.
 pub fn open(bytes: &[u8], limit: usize) -> Opened
-    ensures { λ r. ⌜ Opens (now (bytes .entry)) limit r ⌝ }
+    ensures { λ r. ⌜ r ≡ openedState (now (bytes .entry)) limit ⌝ }
 {
     let number = refusal(bytes, limit);
     if number != 0 {

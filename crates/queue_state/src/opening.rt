@@ -4,10 +4,10 @@ use super::Frame;
 use super::Item;
 use super::State;
 ghost use mathlib.Core.Path.{_≡_};
-ghost use Prim.Native.Nat.{_≤_};
-ghost use lib.ListN.{length, take};
-ghost use Rattle.queue_state.specs.Opening.{limitFault};
-ghost use Rattle.queue_state.specs.Entries.{Empty};
+ghost use Prim.Native.Nat.{_≤_, _-_};
+ghost use mathlib.Core.List.{_++_};
+ghost use lib.ListN.{length, replicate};
+ghost use Rattle.queue_state.specs.Opening.{limitFault, emptyState};
 
 pub(crate) fn limit_refusal(limit: usize) -> u8
     ensures { λ r. ⌜ r ≡ limitFault limit ⌝ }
@@ -21,10 +21,10 @@ pub(crate) fn limit_refusal(limit: usize) -> u8
     0
 }
 
-// The bytes in the first places of an array.
+// The bytes in the first places of an array, the others 0.
 pub(crate) fn copied(bytes: &[u8]) -> [u8; 64]
     requires { ⌜ length (now bytes) ≤ 64 ⌝ }
-    ensures { λ r. ⌜ take (length (now (bytes .entry))) r ≡ now (bytes .entry) ⌝ }
+    ensures { λ r. ⌜ r ≡ now (bytes .entry) ++ replicate (64 - length (now (bytes .entry))) 0 ⌝ }
 {
     let mut topology = [0u8; 64];
     let mut i = 0;
@@ -36,7 +36,7 @@ pub(crate) fn copied(bytes: &[u8]) -> [u8; 64]
 }
 
 pub(crate) fn empty(topology: [u8; 64], nodes: usize, limit: usize) -> State
-    ensures { λ r. ⌜ Empty topology nodes limit r ⌝ }
+    ensures { λ r. ⌜ r ≡ emptyState topology nodes limit ⌝ }
 {
     State {
         frame: Frame {

@@ -111,7 +111,7 @@ module _ (at : ℕ) (h : at < 65536) where
   short-compiled s t n zero e =
       let none = orElse-none (searchFault s t) (limitFault n) e in
       let fine = faultless s t (none .0) in
-      let E = images-pass s t (none .0) (searchMap s t) refl in
+      let E = images-pass s t (none .0) in
       let few = within 32 s (fine .0) .nodes in
       let low = within 64 t (fine .1) .nodes in
       record {

@@ -51,7 +51,7 @@ module _ (a t : List ℕ) (i n : ℕ) (h : i ≤ length a) (r : PairOpened) (w :
   -- the map has an image for each node
   pub map-fits : i ≤ length (r .pair .map)
   map-fits =
-      omega (arith, both-few (take i a) t n fault, length-take-le i a h, map-room (take i a) t (r .pair .map) (w .map))
+      omega (arith, both-few (take i a) t n fault, length-take-le i a h, map-room (take i a) t (r .pair .map) (w .map z))
 
   -- both trees in step
   pub opened-in-step : InStep (take i a) t (take i (r .pair .map)) (r .pair .source) (r .pair .chip)
@@ -64,7 +64,7 @@ module _ (a t : List ℕ) (i n : ℕ) (h : i ≤ length a) (r : PairOpened) (w :
   opened-text script at next =
       let e : openingText script (take i a) t n at next
       ≡ mapLine (take (length (take i a)) (searchMap (take i a) t)) ++ textAt script next (serving (opened (tree (take i a)) n) []) = rw fault refl in
-      e ∙ rw (length-take-le i a h, w .map, w .drawn z) refl
+      e ∙ rw (length-take-le i a h, w .map z, w .drawn z) refl
 
   pub opened-puts : (script : List ℕ) (at next : ℕ) (before mid after : List ℕ) (end place : ℕ) → Puts before 0 (mapLine (take i (r .pair .map))) mid end
       → Puts mid end (textAt script next (serving (machine (r .pair .source)) [])) after place

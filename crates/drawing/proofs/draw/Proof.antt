@@ -5,6 +5,7 @@ use lib.Seq.{length-take-le}
 use denote.Ref.{now}
 use native.Mathlib.Omega.{arith}
 use Rattle.text.proofs.Writing.{puts-as, puts-then}
+use Rattle.pair_state.proofs.Start.{opens-both}
 use Rattle.pair_state.proofs.Kept.{map-room}
 use Rattle.drawing.proofs.Sheets.{unmapped-small, mapped-small, sheet-mapped, sheet-refused}
 use borrow.Author.Needs.{needs}
@@ -16,21 +17,24 @@ open-requires c κs = search needs
 
 array-share-prefix-map : tie.Need-array-share-prefix-map
 array-share-prefix-map c =
-    let both = c .before .before .before .before in
-    let fits = mapped-small _ _ _ _ (both .«open» .ensures .refusal) (c .before .before .before .if1 .taken) in
-    omega (arith, fits .source-fits, map-room _ _ _ (both .«open» .ensures .map))
+    let tested = c .before .before .before in
+    let opened = opens-both _ _ _ _ (tested .before .«open» .ensures) in
+    let fits = mapped-small _ _ _ _ (opened .refusal) (tested .if1 .taken) in
+    omega (arith, fits .source-fits, map-room _ _ _ (opened .map (tested .if1 .taken)))
 
 slice-aggregate-put-pair : tie.Need-slice-aggregate-put-pair
 slice-aggregate-put-pair c =
-    let both = c .before .before .before .before .before in
-    let fits = mapped-small _ _ _ _ (both .«open» .ensures .refusal) (c .before .before .before .before .if1 .taken) in
-    sym (length-take-le _ _ (omega (arith, fits .source-fits, map-room _ _ _ (both .«open» .ensures .map))))
+    let tested = c .before .before .before .before in
+    let opened = opens-both _ _ _ _ (tested .before .«open» .ensures) in
+    let fits = mapped-small _ _ _ _ (opened .refusal) (tested .if1 .taken) in
+    sym (length-take-le _ _ (omega (arith, fits .source-fits, map-room _ _ _ (opened .map (tested .if1 .taken)))))
 
 put-pair-requires : tie.Need-put-pair-requires
 put-pair-requires c κs =
     let both = c .before .before .before .before .before in
     let source = now (both .before .before .before .before .args .source) in
-    let fits = mapped-small _ _ _ _ (both .«open» .ensures .refusal) (c .before .before .before .before .if1 .taken) in
+    let opened = opens-both _ _ _ _ (both .«open» .ensures) in
+    let fits = mapped-small _ _ _ _ (opened .refusal) (c .before .before .before .before .if1 .taken) in
     (omega (arith, fits .source-fits), fits .target-fits, omega (arith, fits .source-fits, length-take (length source) (both .«open» .result .pair .map)))
 
 slice-aggregate-put-word : tie.Need-slice-aggregate-put-word
@@ -47,8 +51,8 @@ returns c =
     let end = c .before .before in
     let pair = end .before .before .before .before .before in
     let tested = pair .before .before .before .before .before in
-    let both = tested .before in
-    puts-as (sheet-mapped _ _ _ _ (both .«open» .ensures .refusal) _ (tested .if1 .taken) _ (both .«open» .ensures .map))
+    let opened = opens-both _ _ _ _ (tested .before .«open» .ensures) in
+    puts-as (sheet-mapped _ _ _ _ (opened .refusal) _ (tested .if1 .taken) _ (opened .map (tested .if1 .taken)))
     (puts-then (pair .put-pair .ensures) (end .put-word .ensures))
 
 enum-told : tie.Need-enum-told
@@ -67,7 +71,7 @@ put-pair-requires-2 : tie.Need-put-pair-requires-2
 put-pair-requires-2 c κs =
     let told = c .before .before in
     let both = told .before .before .before in
-    let fits = unmapped-small _ _ _ (both .«open» .ensures .outcome) (told .enum-told2 .given .1) in
+    let fits = unmapped-small _ _ _ (opens-both _ _ _ _ (both .«open» .ensures) .outcome) (told .enum-told2 .given .1) in
     (omega (arith, fits .source-fits), fits .target-fits, omega arith)
 
 put-refused-requires : tie.Need-put-refused-requires
@@ -87,7 +91,7 @@ returns-2 c =
     let end = c .before .before in
     let told = end .before .before in
     let tested = told .before .before in
-    let opened = tested .before .«open» .ensures in
+    let opened = opens-both _ _ _ _ (tested .before .«open» .ensures) in
     puts-as (sheet-refused _ _ _ _ (opened .refusal) _ (tested .if1 .left) _ (sym (opened .outcome) ∙ told .enum-told .given .1)) (end .draw-refusal .ensures)
 
 same-length-3 : tie.Need-same-length-3
@@ -99,7 +103,7 @@ returns-3 c =
     let pair = end .before .before .before .before in
     let told = pair .before .before .before in
     let tested = told .before .before in
-    let opened = tested .before .«open» .ensures in
+    let opened = opens-both _ _ _ _ (tested .before .«open» .ensures) in
     puts-as (sheet-refused _ _ _ _ (opened .refusal) _ (tested .if1 .left) _ (sym (opened .outcome) ∙ told .enum-told2 .given .1))
     (puts-then (pair .put-pair2 .ensures) (end .put-refused .ensures))
 
@@ -111,7 +115,7 @@ returns-4 c =
     let end = c .before .before in
     let told = end .before .before in
     let tested = told .before .before in
-    let opened = tested .before .«open» .ensures in
+    let opened = opens-both _ _ _ _ (tested .before .«open» .ensures) in
     puts-as (sheet-refused _ _ _ _ (opened .refusal) _ (tested .if1 .left) _ (sym (opened .outcome) ∙ told .enum-told3 .given .1)) (end .draw-refusal2 .ensures)
 
 pub draw-spec : {M : Type 1} → statement M

@@ -1,7 +1,8 @@
 -- The opened state as plain numbers.
 use borrow.Author.Needs.{needs}
-use mathlib.Core.Path.{refl}
-use Rattle.exports_queue_state.proofs.Answering.{opens-plain}
+use mathlib.Core.Path.{ap, _∙_}
+use Rattle.plain_state.specs.declared.PlainState.{PlainState}
+use Rattle.exports_queue_state.specs.Answers.{plainOpened}
 use Rattle.exports_queue_state.proofs.linduvar_open.Statement.{statement}
 use Rattle.exports_queue_state.proofs.linduvar_open.Tie as tie
 
@@ -12,7 +13,9 @@ plain-requires : tie.Need-plain-requires
 plain-requires c κs = search needs
 
 returns : tie.Need-returns
-returns c = opens-plain _ _ _ _ (c .before .«open» .ensures) (c .plain .ensures) refl
+returns c =
+    let o = c .before .«open» in
+    ap (λ (s : PlainState). record { state = s; refusal = o .result .refusal }) (c .plain .ensures) ∙ ap plainOpened (o .ensures)
 
 pub linduvar-open-spec : {M : Type 1} → statement M
 linduvar-open-spec = tie.close (tie.spec open-requires plain-requires returns)

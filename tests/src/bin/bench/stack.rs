@@ -29,9 +29,6 @@ pub fn run(random: &mut Random) {
     report("read", &|| rattle::read(&target, TARGET_NODES));
     report("branch", &|| rattle::branch(&target, 1));
     report("branch_byte", &|| rattle::branch_byte(&target, 1, 1));
-    report("branch_end", &|| rattle::branch_end(&target, 1));
-    report("child", &|| rattle::child(&target, 0, 8));
-    report("above", &|| rattle::above(&target, 0, 1));
     report("check", &|| rattle_embedding::check(&source, &target, map));
     report("search", &|| {
         rattle_embedding::search(&source, &target, &mut [0; SOURCE_NODES])

@@ -7,7 +7,7 @@ use linduvar_tests::generate::{self, Shape};
 use linduvar_tests::random::Random;
 use linduvar_tests::rattle;
 use linduvar_tests::topology::{
-    Reading, Topology, MOST_CHILDREN, MOST_STEPS_DOWN, SOURCE_NODES, TARGET_NODES,
+    branch, Topology, MOST_CHILDREN, MOST_STEPS_DOWN, SOURCE_NODES, TARGET_NODES,
 };
 use std::hint::black_box;
 
@@ -44,7 +44,7 @@ pub fn run(random: &mut Random) {
         report(
             &format!("branch, {name}"),
             time(&inputs, rattle::branch),
-            time(&inputs, |bytes, node| Reading::new(bytes).branch(node)),
+            time(&inputs, branch),
             time(&inputs, |bytes, node| {
                 scan_branch(bytes, node).map(|branch| branch.len())
             }),
