@@ -1,5 +1,5 @@
 -- What an answer of the search says: its number is `searchFault`; and where that is 0, the trees have no fault and the images pass, so that the
--- drawing runs on the chip.
+-- drawing is simulated on the chip's tree.
 use mathlib.Core.Path.{_≡_, refl, sym, ap, _∙_}
 use Prim.Native.Nat.{ℕ, zero, suc, _-_}
 use mathlib.Core.List.{List, _++_}
@@ -13,7 +13,7 @@ use Rattle.embedding_laws.specs.Least.{Found, nothing, list, leastMap, noneFaul
 use Rattle.embedding_laws.proofs.Searching.{search-map}
 use Rattle.pair_step.proofs.Alike.{both-numbers, both-alike}
 use Rattle.embedding_search.specs.Outcomes.{outcomeBy, outcome, numberOf}
-use Rattle.embedding_search.specs.Search.{Searches, images, FoundRuns}
+use Rattle.embedding_search.specs.Search.{Searches, images, FoundSimulated}
 use Rattle.embedding_search.specs.declared.Searched.{Searched}
 
 -- the number of the outcome
@@ -57,8 +57,8 @@ module _ (source target : List ℕ) (r : Searched) (s : Searches source target r
   pub found-passes : Passes (tree source) (tree target) (images source r)
   found-passes = rw (s .map) (images-pass source target none)
 
-pub found-runs : FoundRuns
-found-runs source target r s z =
+pub found-simulated : FoundSimulated
+found-simulated source target r s z =
     let f = faultless source target (none source target r s z) in
     record {
       opens = both-numbers source target (f .0) (f .1);

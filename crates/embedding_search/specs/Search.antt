@@ -1,5 +1,5 @@
--- What the search promises (`Searches`), and what its map is good for by the queue tree's contracts (`FoundRuns`). `proofs/Found.antt` proves the
--- latter.
+-- What the search promises (`Searches`), and what its map is good for by the queue tree's contracts (`FoundSimulated`). `proofs/Found.antt` proves
+-- the latter.
 use mathlib.Core.Path.{_≡_}
 use Prim.Native.Nat.{ℕ}
 use mathlib.Core.List.{List}
@@ -25,8 +25,8 @@ pub record Searches (source target : List ℕ) (r : Searched) : Type 0 where
 abbrev pub images : List ℕ → Searched → List ℕ
 images source r = take (length source) (r .map)
 
--- Where the search answers 0, for a drawing, a chip's tree and its answer r:
-pub record Runs (source target : List ℕ) (r : Searched) : Type 0 where
+-- A drawing is simulated on a chip's tree by the map of a search's answer r.
+pub record Simulated (source target : List ℕ) (r : Searched) : Type 0 where
   -- both trees open for every limit from 1 to 256, and for others both are refused by 17
   pub opens : (limit : ℕ) → (openedState source limit .refusal ≡ limitFault limit) × (openedState target limit .refusal ≡ limitFault limit)
   -- opened, they are seen alike over every list of calls, where the paths of the chip's pushes are carried over by the map of r
@@ -37,5 +37,7 @@ pub record Runs (source target : List ℕ) (r : Searched) : Type 0 where
       → Execution (ServesCarried (tree source) (tree target) (images source r)) y calls ws
       → SeenAlike (tree source) (tree target) (images source r) limit calls x y vs ws
 
-abbrev pub FoundRuns : Type 0
-FoundRuns = (source target : List ℕ) (r : Searched) → Searches source target r → numberOf (r .outcome) ≡ 0 → Runs source target r
+-- So it is wherever the search answers 0.
+abbrev pub FoundSimulated : Type 0
+FoundSimulated =
+    (source target : List ℕ) (r : Searched) → Searches source target r → numberOf (r .outcome) ≡ 0 → Simulated source target r

@@ -12,8 +12,9 @@ use borrow.Author.Tests.{le-leb}
 use Rattle.lists.proofs.Permutation.{length-perm}
 use Rattle.topology.specs.Reader.{fault, tree}
 use Rattle.pifo.specs.Tree.{held, packets}
-use Rattle.pifo.specs.Machine.{Machine, Call, popping, Answer, refused, most, opened, serve, Server, seenBy}
-use Rattle.pifo.specs.Runs.{Sound, acceptedBy, departedBy, fullBy, takenBy}
+use Rattle.pifo.specs.Machine.{Machine, Call, popping, Answer, refused, numberOf as answerNumber, most, opened, serve, Server, seenBy}
+use Rattle.pifo.specs.Runs.{Sound, acceptedBy, departedBy, times, takenBy}
+use Rattle.pifo.proofs.Answers.{full-15}
 use Rattle.pifo.proofs.Runs.{served, opened-sound}
 use Rattle.pifo.proofs.Wellness.{packets-empty}
 use Rattle.embedding_laws.specs.Rules.{Passes}
@@ -80,9 +81,10 @@ tallied (c ∷ cs) q i o f s h g =
       length-append (departedBy a) (packets (n .tree)),
       y .accepts,
     ) in
-    let l : n .refusals ≡ min (f + fullBy a) most = omega (arith, y .count, g) in (
+    let e = f + times 15 (answerNumber a ∷ []) in
+    let l : n .refusals ≡ min e most = omega (arith, y .count, g, full-15 q c) in (
       (held (n .tree), j, (λ k. (Count (held (n .tree)), Count (l k)))),
-      tallied cs n (i + acceptedBy a) (o + length (departedBy a)) (f + fullBy a) (y .sound) j l,
+      tallied cs n (i + acceptedBy a) (o + length (departedBy a)) e (y .sound) j l,
     )
 
 -- nothing is held and nothing counted at an opening

@@ -10,8 +10,8 @@ use lib.ListN.{length}
 use Rattle.topology.specs.Tree.{Topo}
 use Rattle.topology.specs.Reader.{fault, tree}
 use Rattle.pifo.specs.Tree.{held}
-use Rattle.pifo.specs.Machine.{Call, popping, Answer, refused, most, opened, serve, seenBy}
-use Rattle.pifo.specs.Runs.{acceptedBy, departedBy, fullBy}
+use Rattle.pifo.specs.Machine.{Call, popping, Answer, refused, numberOf as answerNumber, most, opened, serve, seenBy}
+use Rattle.pifo.specs.Runs.{acceptedBy, departedBy, times}
 use Rattle.embedding_laws.specs.Rules.{Passes}
 use Rattle.simulation.specs.Sheet.{serveCarried}
 use Rattle.embedding_search.specs.Outcomes.{numberOf}
@@ -75,7 +75,7 @@ Tallied i o f [] = Unit
 Tallied i o f ((a, v) ∷ ls) =
     let j = i + acceptedBy a in
     let p = o + length (departedBy a) in
-    let g = f + fullBy a in
+    let g = f + times 15 (answerNumber a ∷ []) in
     Tally j p g v × Tallied j p g ls
 
 -- what is seen of a machine, as it is shown of a tree
