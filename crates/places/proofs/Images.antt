@@ -2,14 +2,14 @@
 -- `Between` exactly where it is none and lies above one (`role-exactly`).
 use mathlib.Core.Path.{_≡_, refl, sym, ap, _∙_, subst}
 use mathlib.Core.Logic.{_≢_, _↔_}
-use Prim.Native.Nat.{ℕ, _<_}
+use Prim.Native.Nat.{ℕ, zero, suc, _<_}
 use native.Mathlib.Omega.{arith}
 use mathlib.Core.Bool.{Bool, true, false}
-use mathlib.Core.List.{List, append-nil}
+use mathlib.Core.List.{List, [], append-nil}
 use lib.ListN.{length, getD}
 use lib.Dec.{eqb}
 use borrow.Author.Tests.{eq-eqb, eqb-true, eqb-false}
-use Rattle.topology.specs.Tree.{Topo, size}
+use Rattle.topology.specs.Tree.{Topo, size, code}
 use Rattle.topology.specs.Address.{Above, addr}
 use Rattle.topology.specs.Reader.{pick, fault, tree}
 use Rattle.topology.specs.Branch.{isAbove}
@@ -35,6 +35,10 @@ Says t images k Plain = length images ≡ 0
 Says t images k Image = IsImage images k
 Says t images k Between = (IsImage images k → ⊥) × OverImage t images k
 Says t images k Unused = (length images ≢ 0) × (OverImage t images k → ⊥)
+
+not-some : (n : ℕ) → (n ≢ 0 → ⊥) → n ≡ 0
+not-some zero f = refl
+not-some (suc n) f = absurd (f (λ z. omega arith))
 
 module _ (limit : ℕ) (bytes : List ℕ) (e : fault limit bytes ≡ 0) (images : List ℕ)
     (nodes : (a : ℕ) → a < length images → getD images a 0 < length bytes) (k : ℕ) (h : k < length bytes) where
@@ -66,7 +70,7 @@ module _ (limit : ℕ) (bytes : List ℕ) (e : fault limit bytes ≡ 0) (images 
       let there = above-code (tree bytes) k (getD images a 0) in-tree node u in
       counted-none (λ a. isAbove bytes k (getD images a 0)) (length images) a z l (rw (drawn limit bytes e) at there)
 
-  -- an image lies above itself
+  -- an image is or lies above an image
   image-over : IsImage images k → OverImage (tree bytes) images k
   image-over (a, l, q) = (a, l, ([], ap (addr (tree bytes)) q ∙ sym (append-nil (addr (tree bytes) k))))
 
@@ -87,6 +91,10 @@ module _ (limit : ℕ) (bytes : List ℕ) (e : fault limit bytes ≡ 0) (images 
     where
       back : (r : Role) → Says (tree bytes) images k r → roleOf bytes images k ≡ r
       back Plain z = sym (role-plain bytes images k z)
-      back Image s = ?
-      back Between s = ?
-      back Unused s = ?
+      back Image (a, l, q) = sym (role-image bytes images k (λ z. omega arith) (imagesAt images k) refl (λ z. no-image z (a, l, q)))
+      back Between (f, over) =
+          sym (role-between bytes images k (λ z. omega (arith, over .1)) (imagesAt images k) refl (not-some (imagesAt images k) (λ n. f (is-image n)))
+          (imagesUnder bytes images k) refl (λ z. under-none z over))
+      back Unused (some, f) =
+          sym (role-unused bytes images k some (imagesAt images k) refl (not-some (imagesAt images k) (λ n. f (image-over (is-image n))))
+          (imagesUnder bytes images k) refl (not-some (imagesUnder bytes images k) (λ n. f (over-image n))))
