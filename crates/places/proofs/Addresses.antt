@@ -1,11 +1,12 @@
--- Depth, parent and child number, which are counted off the bytes, are those of the tree that the bytes draw: a node lies as many steps
--- below the root as its address has steps, and its address is its parent's with its child number behind it. So what a drawing shows is
--- the tree (`places-are`).
+-- Depth, parent and child number, which are read off the bytes by counting, are those of the tree that the bytes draw. A node lies as many
+-- steps below the root as its address has (`depth-is`); its address is its parent's with its child number behind it (`address-is`); and
+-- that child of the parent is the node (`child-is`). So a drawing that gives each node a column for its depth and a line from its parent,
+-- with its child number at it, shows the tree.
 --
--- The laws are shown for the code of any tree, and then for bytes without fault. Above a node lie its parent and what lies above that; the
--- nodes between the two in number lie below the parent, and not above the node. So the parent is the last node that passes the test, and
--- one more is counted than for the parent. Child i of a node n is the i-th number from n + 1 on whose parent is n: what stands between two
--- children of n lies below the elder one, and so does its parent.
+-- The laws are shown for the code of any tree, and then for bytes without fault. What lies above a node is its parent or lies above that, and
+-- no node between the two in number lies above the node. So the parent is the last node that passes the test for depth, and one node more
+-- is counted than for the parent. Of the nodes behind a node n the i-th whose parent is n is child i: the nodes between two children of n
+-- lie below the elder one, and so do their parents or are it.
 use mathlib.Core.Path.{_≡_, refl, sym, ap, _∙_, subst}
 use Prim.Native.Nat.{ℕ, zero, suc, _+_, _-_, _≤_, _<_}
 use native.Mathlib.Nat.{not-suc-le-zero}
@@ -16,17 +17,17 @@ use mathlib.Core.List.{List, [], _∷_, _++_, append-assoc, append-nil}
 use lib.ListN.{length, length-append}
 use lib.Dec.{eqb}
 use borrow.Author.Tests.{eq-eqb, ne-eqb}
-use Rattle.topology.specs.Tree.{Topo, width, size, code}
+use Rattle.topology.specs.Tree.{Topo, size, code}
 use Rattle.topology.specs.Address.{Addr, Above, addr, subtree, childOf}
 use Rattle.topology.specs.Reader.{pick, fault, tree}
 use Rattle.topology.specs.Branch.{isAbove}
-use Rattle.topology.proofs.Cases.{clash}
 use Rattle.topology.proofs.Numbering.{addr-root, addr-in}
 use Rattle.topology.proofs.Ancestry.{above-from, above-to, size-pos, subtree-end, in-height, in-breadth}
-use Rattle.topology.proofs.Children.{HasChild, childOf-lt, childOf-after, childOf-first, childOf-next, subtree-childOf, Parent, parent as parentOf, addr-under, above-parent}
+use Rattle.topology.proofs.Children.{HasChild, childOf-lt, childOf-after, childOf-first, childOf-next, subtree-childOf}
+use Rattle.topology.proofs.Children.{Parent, parent as parentOf, addr-under, above-parent}
 use Rattle.topology.proofs.Lookup.{above-code, code-above, valid-size}
 use Rattle.topology.proofs.Reader.{drawn, within}
-use Rattle.places.specs.Places.{counted, lastOf, depth, parent, childNumber}
+use Rattle.places.specs.Places.{counted, depth, parent, childNumber}
 use Rattle.places.proofs.Passing.{counted-same, counted-still, counted-next, last-is}
 
 same-answer : (b c : Bool) → (b ≡ true → c ≡ true) → (c ≡ true → b ≡ true) → b ≡ c

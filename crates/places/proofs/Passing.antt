@@ -8,7 +8,6 @@ use native.Mathlib.Decide.{decLt}
 use native.Mathlib.Omega.{arith}
 use mathlib.Core.Bool.{Bool, true, false}
 use Rattle.topology.specs.Reader.{pick}
-use Rattle.topology.proofs.Cases.{clash}
 use Rattle.places.specs.Places.{counted, lastOf}
 
 pub counted-same : (test other : ℕ → Bool) (n : ℕ) → ((a : ℕ) → a < n → test a ≡ other a) → counted test n ≡ counted other n
