@@ -104,7 +104,8 @@ each-length text most zero h = omega arith
 each-length text most (suc n) h =
     omega (arith, length-append (each text n) (text n), each-length text most n (λ k l. h k (omega arith)), h n (omega arith))
 
--- A tree whose root is at `left`, with no node behind node `last`: each node takes at most `most` bytes, for the line to it and its circle.
+-- A tree whose root is at `left`, with no node behind node `last`. Each node takes at most `most` bytes: for the line to it, and for its
+-- circle with its number, where 22 bytes are the circle's start with the longest class.
 module _ (left last most : ℕ) (tree images : List ℕ) (e : fault (suc last) tree ≡ 0)
     (m : length (limb (left + 256) (row last) (row last) 8) + length (numbered (left + 256) (row last) last) + 22 ≡ most) where
   column-most : (k : ℕ) → k < length tree → column left tree k ≤ left + 256
@@ -174,8 +175,13 @@ module _ (source target images : List ℕ) (e : fault 32 source ≡ 0) (f : faul
   unfolding joinsOf
   joins-length =
       let lines = each (λ a. joinOf source target a (getD images a 0)) (length images) in
-      omega (arith, length-append lines (bytes "</g>\n"), each-length (λ a. joinOf source target a (getD images a 0)) 38 (length images) join-length)
+      omega (
+        arith,
+        length-append lines (bytes "</g>\n"),
+        each-length (λ a. joinOf source target a (getD images a 0)) 38 (length images) join-length,
+      )
 
+  -- 375 bytes for the beginning, 94 for the titles, 23 around the lines, 9 around each tree with 180 or 185 for each node
   pair-length : length (pairOf source target images) ≤ 18110 + 38 * length images
   unfolding pairOf
   pair-length =
@@ -240,7 +246,7 @@ module _ (source target : List ℕ) (limit offset : ℕ) (h : offset < 65536) wh
       )
 
   sheet-length : length (sheet source target limit offset) ≤ 19333
-  sheet-length = by-number (bothFault source target limit) refl (both-most source target limit)
+  sheet-length = by-number (bothFault source target limit) refl
     where
       refused-sheet : (number : ℕ) → number ≤ 22 → (o : Outcome) → outcome source target ≡ o
           → length (refusedSheet o source target number offset) ≤ 19333
@@ -248,12 +254,11 @@ module _ (source target : List ℕ) (limit offset : ℕ) (h : offset < 65536) wh
       refused-sheet number n NoMap q = unmapped-length number n q
       refused-sheet number n (AtFault f) q = omega (arith, refusal-length number offset n h)
 
-      by-number : (number : ℕ) → bothFault source target limit ≡ number → bothFault source target limit ≤ 17
-          → length (sheet source target limit offset) ≤ 19333
-      by-number zero z b = rw (← (sheet-mapped source target limit 0 (sym z) offset refl (searchMap source target) refl)) (mapped-length z)
-      by-number (suc n) z b =
+      by-number : (number : ℕ) → bothFault source target limit ≡ number → length (sheet source target limit offset) ≤ 19333
+      by-number zero z = rw (← (sheet-mapped source target limit 0 (sym z) offset refl (searchMap source target) refl)) (mapped-length z)
+      by-number (suc n) z =
           rw (← (sheet-refused source target limit (suc n) (sym z) offset (omega arith) (outcome source target) refl))
-          (refused-sheet (suc n) (omega (arith, z)) (outcome source target) refl)
+          (refused-sheet (suc n) (omega (arith, z, both-most source target limit)) (outcome source target) refl)
 
 -- No drawing is longer than 19,333 bytes.
 pub sheet-fits : (script : List ℕ) → length script ≤ 65536 → length (scriptSheet script) ≤ 19333

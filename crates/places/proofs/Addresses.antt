@@ -5,8 +5,8 @@
 --
 -- The laws are shown for the code of any tree, and then for bytes without fault. What lies above a node is its parent or lies above that, and
 -- no node between the two in number lies above the node. So the parent is the last node that passes the test for depth, and one node more
--- is counted than for the parent. Of the nodes behind a node n the i-th whose parent is n is child i: the nodes between two children of n
--- lie below the elder one, and so do their parents or are it.
+-- is counted than for the parent. Of the nodes behind a node n the i-th whose parent is n is child i: each node between two children of n
+-- lies below the elder one, so that its parent is that one or lies below it.
 use mathlib.Core.Path.{_≡_, refl, sym, ap, _∙_, subst}
 use Prim.Native.Nat.{ℕ, zero, suc, _+_, _-_, _≤_, _<_}
 use native.Mathlib.Nat.{not-suc-le-zero}
@@ -47,7 +47,7 @@ module _ (t : Topo) where
     parent-before : p .node < k
     parent-before = subst (λ (m : ℕ). p .node < m) (p .child) (childOf-after t (p .node) (p .index) (p .has))
 
-    -- the parent's number is in the stretch of a node strictly above
+    -- what lies above the node, and before it, is the parent or lies above that: in numbers, and as the test says
     above-number : (a : ℕ) → a < k → isAbove (code t) a k ≡ true → (a ≤ p .node) × (p .node < a + size (subtree t a))
     above-number a l e =
         let in-tree : a < size t = omega arith in
@@ -67,10 +67,11 @@ module _ (t : Topo) where
     parent-above : isAbove (code t) (p .node) k ≡ true
     parent-above = above-down (p .node) (p .has .0) ([], sym (append-nil (addr t (p .node))))
 
+    -- no node between the two in number lies above the node
     not-between : (a : ℕ) → p .node < a → a < k → isAbove (code t) a k ≡ false
     not-between a l g = not-true (isAbove (code t) a k) (λ e. omega (arith, above-number a g e .0))
 
-    pub parent-code : parent (code t) k ≡ p .node
+    parent-code : parent (code t) k ≡ p .node
     unfolding parent
     parent-code = last-is (λ a. isAbove (code t) a k) (p .node) k parent-before parent-above not-between
 
@@ -93,7 +94,8 @@ module _ (t : Topo) where
   unfolding depth
   depth-code k h = upTo (suc k) k (omega arith) h
     where
-      by-parent : (k : ℕ) → k < size t → (p : Parent t k) → depth (code t) (p .node) ≡ length (addr t (p .node)) → depth (code t) k ≡ length (addr t k)
+      by-parent : (k : ℕ) → k < size t → (p : Parent t k) → depth (code t) (p .node) ≡ length (addr t (p .node))
+          → depth (code t) k ≡ length (addr t k)
       by-parent k h p r =
           omega (arith, depth-next k h p, r, ap length (addr-under t k p), length-append (addr t (p .node)) (p .index ∷ []))
 
@@ -126,14 +128,15 @@ module _ (t : Topo) where
         under-other j h (λ p e. omega (arith, parent-before (suc j) h p, e))
 
     -- the nodes strictly below a child of n have parents from that child on
-    below-child : (i : ℕ) → HasChild t n i → (j : ℕ) → childOf t n i ≤ j → suc j < childOf t n i + size (subtree t (childOf t n i)) → under j ≡ false
+    below-child : (i : ℕ) → HasChild t n i → (j : ℕ) → childOf t n i ≤ j → suc j < childOf t n i + size (subtree t (childOf t n i))
+        → under j ≡ false
     below-child i h j l g =
-        let c = childOf t n i in
-        let low : c < suc j = omega arith in
+        let low : childOf t n i < suc j = omega arith in
         let in-branch : suc j < size t = omega (arith, subtree-end t (childOf t n i) (childOf-lt t n i h)) in
         under-other j in-branch
         (λ p e. omega (arith, above-parent t (childOf t n i) (suc j) low in-branch g p .0, childOf-after t n i h, e))
 
+    -- up to child i, i nodes have the parent n
     counted-children : (i : ℕ) → HasChild t n i → counted under (childOf t n i) ≡ i
     counted-children zero h = absurd (not-suc-le-zero (h .1))
     counted-children (suc zero) h =
@@ -167,6 +170,7 @@ module _ (limit : ℕ) (bytes : List ℕ) (e : fault limit bytes ≡ 0) (k : ℕ
   pub depth-is : depth bytes k ≡ length (addr (tree bytes) k)
   depth-is = rw (drawn limit bytes e) at (depth-code (tree bytes) k in-tree)
 
+  -- so a node of a tree lies at most 8 steps down
   pub depth-limit : depth bytes k ≤ 8
   depth-limit =
       omega (arith, depth-is, in-height (tree bytes) (addr (tree bytes) k) (addr-in (tree bytes) k in-tree), within limit bytes e .steps)
@@ -188,6 +192,7 @@ module _ (limit : ℕ) (bytes : List ℕ) (e : fault limit bytes ≡ 0) (k : ℕ
     pub child-is : childOf (tree bytes) (parent bytes k) (childNumber bytes k) ≡ k
     child-is = by-parent (λ n i. childOf (tree bytes) n i ≡ k) (λ p. p .child)
 
+    -- so it is at most child 8
     pub number-limit : childNumber bytes k ≤ 8
     number-limit =
         by-parent (λ n i. i ≤ 8)

@@ -70,10 +70,11 @@ module _ (limit : ℕ) (bytes : List ℕ) (e : fault limit bytes ≡ 0) (images 
       let there = above-code (tree bytes) k (getD images a 0) in-tree node u in
       counted-none (λ a. isAbove bytes k (getD images a 0)) (length images) a z l (rw (drawn limit bytes e) at there)
 
-  -- an image is or lies above an image
+  -- a node that is an image is one or lies above one
   image-over : IsImage images k → OverImage (tree bytes) images k
   image-over (a, l, q) = (a, l, ([], ap (addr (tree bytes)) q ∙ sym (append-nil (addr (tree bytes) k))))
 
+  -- what the node's role says is so
   says : Says (tree bytes) images k (roleOf bytes images k)
   unfolding roleOf
   says = by-tests (eqb (length images) 0) (eqb (imagesAt images k) 0) (eqb (imagesUnder bytes images k) 0) refl refl refl
@@ -86,6 +87,7 @@ module _ (limit : ℕ) (bytes : List ℕ) (e : fault limit bytes ≡ 0) (images 
       by-tests false true false p q r =
           (no-image (eqb-true (imagesAt images k) 0 q), over-image (eqb-false (imagesUnder bytes images k) 0 r))
 
+  -- Node k has a role exactly where that says so.
   pub role-exactly : (r : Role) → (roleOf bytes images k ≡ r) ↔ Says (tree bytes) images k r
   role-exactly r = (λ q. subst (Says (tree bytes) images k) q says, back r)
     where
@@ -93,8 +95,8 @@ module _ (limit : ℕ) (bytes : List ℕ) (e : fault limit bytes ≡ 0) (images 
       back Plain z = sym (role-plain bytes images k z)
       back Image (a, l, q) = sym (role-image bytes images k (λ z. omega arith) (imagesAt images k) refl (λ z. no-image z (a, l, q)))
       back Between (f, over) =
-          sym (role-between bytes images k (λ z. omega (arith, over .1)) (imagesAt images k) refl (not-some (imagesAt images k) (λ n. f (is-image n)))
-          (imagesUnder bytes images k) refl (λ z. under-none z over))
+          sym (role-between bytes images k (λ z. omega (arith, over .1)) (imagesAt images k) refl
+          (not-some (imagesAt images k) (λ n. f (is-image n))) (imagesUnder bytes images k) refl (λ z. under-none z over))
       back Unused (some, f) =
           sym (role-unused bytes images k some (imagesAt images k) refl (not-some (imagesAt images k) (λ n. f (image-over (is-image n))))
           (imagesUnder bytes images k) refl (not-some (imagesUnder bytes images k) (λ n. f (over-image n))))

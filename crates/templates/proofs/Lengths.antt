@@ -30,7 +30,8 @@ part-most byte n m h = by-test (eqb byte 35)
     by-test true = decimal-grows n m h
     by-test false = omega arith
 
-pub filled-most : (template numbers most : List ℕ) → AtMost numbers most → (n : ℕ) → length (filled template numbers n) ≤ length (filled template most n)
+pub filled-most : (template numbers most : List ℕ) → AtMost numbers most → (n : ℕ)
+    → length (filled template numbers n) ≤ length (filled template most n)
 unfolding filled
 filled-most [] numbers most h n = omega arith
 filled-most (byte ∷ template) numbers most h n =

@@ -75,7 +75,8 @@ decimal-grows n m h = upTo (suc n) n m (omega arith) h
     upTo zero n m f h = absurd (not-suc-le-zero f)
     upTo (suc fuel) n m f h = by-test (ltb n 10) refl (λ g. upTo fuel (n / 10) (m / 10) (shorter n fuel f g) (omega arith))
       where
-        by-test : (t : Bool) → ltb n 10 ≡ t → (10 ≤ n → length (decimal (n / 10)) ≤ length (decimal (m / 10))) → length (decimal n) ≤ length (decimal m)
+        by-test : (t : Bool) → ltb n 10 ≡ t → (10 ≤ n → length (decimal (n / 10)) ≤ length (decimal (m / 10)))
+            → length (decimal n) ≤ length (decimal m)
         by-test true e r = rw (decimal-digit n (ltb-true n 10 e)) (some-digit m)
         by-test false e r = more n m h (ltb-false n 10 e) (r (ltb-false n 10 e))
 
