@@ -221,7 +221,7 @@ module _ (source target : List ℕ) (limit offset : ℕ) (h : offset < 65536) wh
   mapped-length z =
       let found = both-found source target limit z in
       let fine = faultless source target found in
-      let E = images-pass source target found (searchMap source target) refl in
+      let E = images-pass source target found in
       let images = take (length source) (searchMap source target) in
       let few : length images ≡ length source = E .long ∙ valid-size 32 source (fine .0) in
       let nodes : (a : ℕ) → a < length images → getD images a 0 < length target =
