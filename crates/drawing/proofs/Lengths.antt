@@ -26,7 +26,7 @@ use Rattle.embedding_search.specs.Outcomes.{outcome}
 use Rattle.embedding_search.specs.declared.Outcome.{Outcome}
 use Rattle.embedding_search.specs.declared.Outcome.the-variants.{Map, NoMap, Refused as AtFault}
 use Rattle.pair_state.specs.Opening.{bothFault}
-use Rattle.pair_state.proofs.Start.{faultless, images-pass}
+use Rattle.embedding_search.proofs.Found.{faultless, images-pass}
 use Rattle.pair_state.proofs.Kept.{both-found}
 use Rattle.pair_state.proofs.Numbers.{both-most}
 use Rattle.gathering.specs.Gathering.{gathered}

@@ -20,7 +20,8 @@ use Rattle.embedding_laws.specs.Meaning.{Truth, ReadTo}
 use Rattle.embedding_laws.proofs.Images.{found-none, found-list}
 use Rattle.two_trees.specs.Trees.{treesFault}
 use Rattle.two_trees.proofs.Trees.{orElse-both, tree-fits}
-use Rattle.embedding_search.specs.Outcomes.{outcomeBy, outcome, numberOf}
+use Rattle.embedding_search.specs.Outcomes.{outcomeBy, outcome}
+use Rattle.embedding_search.specs.Search.{Searches}
 use Rattle.embedding_search.specs.declared.Outcome.{Outcome}
 use Rattle.embedding_search.specs.declared.Outcome.the-variants.{Map, NoMap, Refused}
 
@@ -54,9 +55,9 @@ module _ (source target : List ℕ) (d : Draws 32 source) (e : Draws 64 target) 
       (sym (ap (outcomeBy 0) (f .0)), f .1)
 
 module _ (source target : List ℕ) (refusal : ℕ) (e : refusal ≡ treesFault source target) where
-  pub search-trees : (refusal ≡ 0 → ⊥) → (Refused refusal ≡ outcome source target) × (replicate 32 0 ≡ searchMap source target)
+  pub search-trees : (refusal ≡ 0 → ⊥) → Searches source target (record { outcome = Refused refusal; map = replicate 32 0 })
   unfolding outcome searchFault searchMap
-  search-trees n = by-fault (fault 32 source) (fault 64 target) e
+  search-trees n = let answer = by-fault (fault 32 source) (fault 64 target) e in record { outcome = answer .0; map = answer .1 }
     where
       by-fault : (f g : ℕ) → refusal ≡ orElse f g
           → (Refused refusal ≡ outcomeBy (orElse f g) (leastMap source target))
@@ -73,21 +74,11 @@ module _ (source target : List ℕ) (refusal : ℕ) (e : refusal ≡ treesFault 
     both-draw = (draws 32 source (no-fault .0), draws 64 target (no-fault .1))
 
     pub search-solved : (o : Outcome) (m : List ℕ) → (o ≡ outcomeBy 0 (leastMap source target)) × (m ≡ padded (leastMap source target))
-        → (o ≡ outcome source target) × (m ≡ searchMap source target)
+        → Searches source target (record { outcome = o; map = m })
     unfolding outcome searchFault searchMap
-    search-solved o m s = rw (no-fault .0, no-fault .1) (s .0, s .1 ∙ by-answer (leastMap source target))
+    search-solved o m s =
+        record { outcome = rw (no-fault .0, no-fault .1) (s .0); map = rw (no-fault .0, no-fault .1) (s .1 ∙ by-answer (leastMap source target)) }
       where
         by-answer : (f : Found) → padded f ≡ unlessRefused (noneFault f) (padded f)
         by-answer nothing = refl
         by-answer (list l) = refl
-
--- the number of the outcome
-pub outcome-number : (source target : List ℕ) → numberOf (outcome source target) ≡ searchFault source target
-unfolding outcome searchFault
-outcome-number source target = by-case (fault 32 source) (fault 64 target) (leastMap source target)
-  where
-    by-case : (f g : ℕ) (a : Found) → numberOf (outcomeBy (orElse f g) a) ≡ orElse f (orElse g (noneFault a))
-    by-case zero zero nothing = refl
-    by-case zero zero (list m) = refl
-    by-case zero (suc g) a = refl
-    by-case (suc f) g a = refl

@@ -1,2 +1,3 @@
--- To believe: Outcomes (how a search ends), with embedding_laws/specs/Least.
+-- To believe: Outcomes (how a search ends) and Search (what it promises, and what its map is good for), with embedding_laws/specs/Least.
 pub mod Outcomes
+pub mod Search

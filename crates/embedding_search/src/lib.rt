@@ -12,8 +12,8 @@
 // at the target's root alone. All k together are at most 31 and each is at most 8, so that the sum of (k + 2) * 2^(k - 1) stays below
 // 4500: about two and a half million steps in all, about 1 ms on the slowest pair that was found.
 //
-// The contract of `search` cites embedding_laws/specs/Least and specs/Outcomes, which a reader has to believe; the other definitions are for
-// private functions.
+// The contract of `search` is `Searches` in specs/Search. It cites embedding_laws/specs/Least and specs/Outcomes, which a reader has to believe;
+// the other definitions are for private functions.
 ghost use mathlib.Core.Path.{_≡_};
 ghost use Prim.Native.Nat.{_≤_, _<_, _*_, _+_, _-_, min};
 ghost use lib.ListN.{length};
@@ -21,8 +21,9 @@ ghost use Rattle.topology.specs.Reader.{tree};
 ghost use Rattle.embedding_laws.specs.Sets.{power, none};
 ghost use Rattle.embedding_laws.specs.Tables.{Ends, Frame, endBy, cell, Turns, RowTried, ChildTried, RowCopied, RowFilled, LastRow, Scanned, Started, BranchOf, PlacedBelow, Room, NodeFrame, Draws, Pair, bestBy};
 ghost use Rattle.embedding_laws.specs.Meaning.{KidsOf, EntryBy, reachBy, NodeTo, Truth, Different, Put, ReadTo};
-ghost use Rattle.embedding_laws.specs.Least.{leastMap, padded, searchMap};
-ghost use Rattle.embedding_search.specs.Outcomes.{outcomeBy, outcome, numberOf};
+ghost use Rattle.embedding_laws.specs.Least.{leastMap, padded};
+ghost use Rattle.embedding_search.specs.Outcomes.{outcomeBy, numberOf};
+ghost use Rattle.embedding_search.specs.Search.{Searches};
 use two_trees::branch_ends;
 use two_trees::trees_fault;
 
@@ -392,7 +393,7 @@ fn solve(source: &[u8], target: &[u8]) -> Searched
 
 // Searches the least map of a source into a target.
 pub fn search(source: &[u8], target: &[u8]) -> Searched
-    ensures { λ r. ⌜ (r .outcome ≡ outcome (now (source .entry)) (now (target .entry))) × (r .map ≡ searchMap (now (source .entry)) (now (target .entry))) ⌝ }
+    ensures { λ r. ⌜ Searches (now (source .entry)) (now (target .entry)) r ⌝ }
 {
     let refusal = trees_fault(source, target);
     if refusal != 0 {

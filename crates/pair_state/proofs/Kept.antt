@@ -12,10 +12,9 @@ use Rattle.topology.proofs.Lookup.{valid-length}
 use Rattle.topology.proofs.Refusals.{orElse-none}
 use Rattle.embedding_laws.specs.Least.{Found, nothing, list, leastMap, searchFault, padded, unlessRefused, searchMap}
 use Rattle.embedding_search.specs.Outcomes.{outcomeBy, outcome, numberOf}
-use Rattle.embedding_search.proofs.Answers.{outcome-number}
+use Rattle.embedding_search.proofs.Found.{outcome-number, faultless}
 use Rattle.queue_state.specs.Opening.{limitFault}
 use Rattle.pair_state.specs.Opening.{bothFault}
-use Rattle.pair_state.proofs.Start.{faultless}
 
 -- what comes after matters only where the first is 0
 orElse-same : (f r s : ℕ) → (f ≡ 0 → r ≡ s) → orElse f r ≡ orElse f s

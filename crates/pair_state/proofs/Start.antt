@@ -1,77 +1,33 @@
 -- The opening of both trees: refused, and in step.
 use mathlib.Core.Path.{_≡_, refl, sym, ap, subst, _∙_}
 use mathlib.Core.Logic.{_≢_}
-use Prim.Native.Nat.{ℕ, zero, suc, _-_}
+use Prim.Native.Nat.{ℕ, zero, suc}
 use native.Mathlib.Omega.{arith}
-use mathlib.Core.List.{List, [], _++_}
+use mathlib.Core.List.{List, []}
 use lib.ListN.{length, take, replicate}
-use lib.Seq.{take-append-seam}
-use Rattle.topology.specs.Reader.{orElse, fault, tree}
-use Rattle.topology.proofs.Reader.{fault-wider}
-use Rattle.topology.proofs.Lookup.{valid-size}
+use Rattle.topology.specs.Reader.{orElse, fault}
 use Rattle.topology.proofs.Refusals.{orElse-none}
-use Rattle.embedding_laws.specs.Rules.{Passes}
-use Rattle.embedding_laws.specs.Least.{leastMap, noneFault, searchFault, searchMap}
-use Rattle.embedding_laws.proofs.Rules.{mapFault-none}
-use Rattle.embedding_laws.proofs.Searching.{search-map}
+use Rattle.embedding_laws.specs.Least.{searchFault, searchMap}
 use Rattle.embedding_search.specs.Outcomes.{outcome, numberOf}
 use Rattle.embedding_search.specs.declared.Outcome.{Outcome}
-use Rattle.embedding_search.proofs.Answers.{outcome-number}
-use Rattle.simulation.proofs.Simulation.{paired-opened}
-use Rattle.queue_state.specs.Opening.{limitFault, openFault, openedState, Opens}
+use Rattle.embedding_search.proofs.Found.{outcome-number, faultless, images-pass}
+use Rattle.queue_state.specs.Opening.{limitFault, openFault, openedState}
 use Rattle.queue_state.proofs.Fresh.{opens, no-tree}
 use Rattle.queue_state.specs.declared.Opened.{Opened}
-use Rattle.pair_state.specs.Step.{InStep}
+use Rattle.pair_step.proofs.Step.{opened-in-step}
+use Rattle.pair_step.proofs.Alike.{both-numbers}
 use Rattle.pair_state.specs.Opening.{bothFault, noPair, pairBy, pairOpened, openedPair, OpensBoth}
 use Rattle.pair_state.specs.declared.PairOpened.{PairOpened}
 
 -- the number of the search's outcome
-pub number-is : (source target : List ℕ) (o : Outcome) (number : ℕ) → o ≡ outcome source target → number ≡ numberOf o → number ≡ searchFault source target
+pub number-is : (source target : List ℕ) (o : Outcome) (number : ℕ) → o ≡ outcome source target → number ≡ numberOf o
+    → number ≡ searchFault source target
 number-is source target o number e k = k ∙ ap numberOf e ∙ outcome-number source target
 
--- two trees with none of the faults, opened, are in step for a map that meets the rules
-pub opened-in-step : (source target m : List ℕ) → fault 32 source ≡ 0 → fault 64 target ≡ 0 → Passes (tree source) (tree target) m
-    → (limit : ℕ) (x y : Opened) → Opens source limit x → Opens target limit y → x .refusal ≡ 0 → y .refusal ≡ 0 → InStep source target m (x .state) (y .state)
-opened-in-step source target m f g E limit x y o u z n =
-    record {
-      mapped = mapFault-none source target m .1 (f, g, E);
-      source-formed = o .formed z;
-      chip-formed = u .formed n;
-      paired = rw (o .machine z, u .machine n) (paired-opened (tree source) (tree target) m E limit);
-    }
-
--- the number by which a tree with no fault is refused
-pub open-number : (bytes : List ℕ) (limit : ℕ) (x : Opened) → fault 64 bytes ≡ 0 → Opens bytes limit x → x .refusal ≡ limitFault limit
-unfolding openFault
-open-number bytes limit x e o = o .refusal ∙ ap (λ (f : ℕ). orElse f (limitFault limit)) e
-
--- ---- a search that finds a map
-
-module _ (source target : List ℕ) (e : searchFault source target ≡ 0) where
-  pub faultless : (fault 32 source ≡ 0) × (fault 64 target ≡ 0)
-  unfolding searchFault
-  faultless =
-      let rest = noneFault (leastMap source target) in
-      let a = orElse-none (fault 32 source) (orElse (fault 64 target) rest) e in
-      (a .0, orElse-none (fault 64 target) rest (a .1) .0)
-
-  pub images-pass : Passes (tree source) (tree target) (take (length source) (searchMap source target))
-  images-pass =
-      let s = search-map source target (faultless .0) (faultless .1) e in
-      let m = s .0 in
-      let n : length m ≡ length source = s .1 .passes .long ∙ valid-size 32 source (faultless .0) in
-      let t : take (length source) (searchMap source target) ≡ m =
-      ap (take (length source)) (s .2) ∙ ap (λ (k : ℕ). take k (m ++ replicate (32 - length m) 0)) (sym n)
-      ∙ take-append-seam m (replicate (32 - length m) 0) in
-      rw t (s .1 .passes)
-
-  -- either tree is then refused by the limit's number alone
-  source-number : (limit : ℕ) → openedState source limit .refusal ≡ limitFault limit
-  source-number limit =
-      open-number source limit (openedState source limit) (fault-wider 32 64 source (omega arith) (faultless .0)) (opens source limit)
-
-  target-number : (limit : ℕ) → openedState target limit .refusal ≡ limitFault limit
-  target-number limit = open-number target limit (openedState target limit) (faultless .1) (opens target limit)
+-- both trees are refused by the limit's number alone where the search finds a map
+numbers : (source target : List ℕ) → searchFault source target ≡ 0 → (limit : ℕ)
+    → (openedState source limit .refusal ≡ limitFault limit) × (openedState target limit .refusal ≡ limitFault limit)
+numbers source target e limit = let f = faultless source target e in both-numbers source target (f .0) (f .1) limit
 
 -- ---- what an opening of both amounts to
 
@@ -84,12 +40,13 @@ module _ (source target : List ℕ) (limit : ℕ) where
   unfolding openedPair
   opens-both r q = subst (OpensBoth source target limit) (sym q) (by-number (bothFault source target limit) refl)
     where
-      by-number : (n : ℕ) → bothFault source target limit ≡ n → OpensBoth source target limit (pairOpened (pairBy n source target limit) (outcome source target) n)
+      by-number : (n : ℕ) → bothFault source target limit ≡ n
+          → OpensBoth source target limit (pairOpened (pairBy n source target limit) (outcome source target) n)
       by-number zero z =
           let f = found z in
           let g = faultless source target (f .0) in
-          let a : openedState source limit .refusal ≡ 0 = source-number source target (f .0) limit ∙ f .1 in
-          let b : openedState target limit .refusal ≡ 0 = target-number source target (f .0) limit ∙ f .1 in
+          let a : openedState source limit .refusal ≡ 0 = numbers source target (f .0) limit .0 ∙ f .1 in
+          let b : openedState target limit .refusal ≡ 0 = numbers source target (f .0) limit .1 ∙ f .1 in
           record {
             refusal = sym z;
             outcome = refl;
@@ -97,9 +54,7 @@ module _ (source target : List ℕ) (limit : ℕ) where
             chip = λ _. opens target limit .machine b;
             map = λ _. refl;
             in-step = λ _.
-                opened-in-step source target (take (length source) (searchMap source target)) (g .0) (g .1)
-                (images-pass source target (f .0)) limit (openedState source limit) (openedState target limit)
-                (opens source limit) (opens target limit) a b;
+                opened-in-step source target (take (length source) (searchMap source target)) (g .0) (g .1) (images-pass source target (f .0)) limit a b;
             nothing = λ n. absurd (n refl);
           }
       by-number (suc n) z =
@@ -137,7 +92,8 @@ module _ (source target : List ℕ) (limit : ℕ) (o : Outcome) (k : o ≡ outco
   module _ (e : searchFault source target ≡ 0) (x : Opened) (p : x ≡ openedState source limit) where
     number : x .refusal ≡ bothFault source target limit
     unfolding bothFault
-    number = ap (λ (y : Opened). y .refusal) p ∙ source-number source target e limit ∙ ap (λ (f : ℕ). orElse f (limitFault limit)) (sym e)
+    number =
+        ap (λ (y : Opened). y .refusal) p ∙ numbers source target e limit .0 ∙ ap (λ (f : ℕ). orElse f (limitFault limit)) (sym e)
 
     pub limit-refused : x .refusal ≢ 0 → pairOpened noPair o (x .refusal) ≡ openedPair source target limit
     limit-refused z = refused-pair (x .refusal) number z

@@ -1,3 +1,2 @@
--- To believe: Step (when two trees are in step) and Opening (what an opening promises).
-pub mod Step
+-- To believe: Opening (what an opening promises).
 pub mod Opening

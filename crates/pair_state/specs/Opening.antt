@@ -12,7 +12,7 @@ use Rattle.embedding_search.specs.Outcomes.{outcome}
 use Rattle.embedding_search.specs.declared.Outcome.{Outcome}
 use Rattle.queue_state.specs.State.{machine, wellFormed}
 use Rattle.queue_state.specs.Opening.{limitFault, noTree, openedState}
-use Rattle.pair_state.specs.Step.{InStep}
+use Rattle.pair_step.specs.Step.{InStep}
 use Rattle.pair_state.specs.declared.Pair.{Pair}
 use Rattle.pair_state.specs.declared.PairOpened.{PairOpened}
 

@@ -1,152 +1,181 @@
--- The proof of demand 3. From one call to the next the two states are in step (`InStep`): the opening makes them so, and one call on each keeps
--- them so and answers alike (`next`). The rest is induction over the list of calls. What the looks count follows for the source's side by the
--- machine's laws, and so for both.
-use mathlib.Core.Path.{_≡_, refl, sym, ap, _∙_}
-use Prim.Native.Nat.{ℕ, _+_, min}
+-- The proof of demand 3. The code's calls are the definition's (crate `translator` for the chip's), so that by the queue tree's contracts both trees
+-- are seen alike (`both-alike` of the crate `pair_step`); what is shown of them is what is seen (`shown-seen`), and what the looks count follows
+-- from the machine's laws (`tallied`). Executions there are, as every call can be served (`serves-some` of the crate `queue_state`) and every
+-- path carried or refused (`carries-some`).
+use mathlib.Core.Path.{_≡_, refl, sym, ap, _∙_, subst}
+use Prim.Native.Nat.{ℕ, zero, suc, _+_, min}
 use native.Mathlib.Omega.{arith}
 use mathlib.Core.List.{List, [], _∷_, map}
 use mathlib.Core.Bool.{true}
 use lib.ListN.{length, length-append}
 use borrow.Author.Tests.{le-leb}
 use Rattle.lists.proofs.Permutation.{length-perm}
-use Rattle.topology.specs.Reader.{tree}
-use Rattle.topology.proofs.Reader.{fault-wider}
+use Rattle.topology.specs.Reader.{fault, tree}
 use Rattle.pifo.specs.Tree.{held, packets}
-use Rattle.pifo.specs.Machine.{Machine, Answer, most, serve, answersBy}
+use Rattle.pifo.specs.Machine.{Machine, Call, popping, Answer, refused, most, opened, serve, Server, seenBy}
 use Rattle.pifo.specs.Runs.{Sound, acceptedBy, departedBy, fullBy, takenBy}
-use Rattle.pifo.proofs.Runs.{served}
+use Rattle.pifo.proofs.Runs.{served, opened-sound}
 use Rattle.pifo.proofs.Wellness.{packets-empty}
+use Rattle.embedding_laws.specs.Rules.{Passes}
+use Rattle.embedding_laws.specs.Least.{searchMap}
+use Rattle.embedding_laws.proofs.Rules.{mapFault-none}
 use Rattle.embedding_laws.proofs.Searching.{search-twelve}
+use Rattle.simulation.specs.Carrying.{carry}
 use Rattle.simulation.specs.Sheet.{serveCarried}
-use Rattle.queue_state.specs.State.{Packet, treeOf, machine, wellFormed}
-use Rattle.queue_state.specs.Opening.{limitFault}
+use Rattle.embedding_search.specs.Outcomes.{outcome}
+use Rattle.embedding_search.proofs.Found.{searched-number, found-passes}
+use Rattle.queue_state.specs.State.{Packet, machine, wellFormed}
+use Rattle.queue_state.specs.Opening.{limitFault, openedState}
 use Rattle.queue_state.specs.Calls.{Serves}
+use Rattle.queue_state.specs.Runs.{Transition, History, Execution}
 use Rattle.queue_state.specs.declared.State.{State}
+use Rattle.queue_state.proofs.Fresh.{opens}
+use Rattle.queue_state.proofs.Existing.{serves-some, execution-some}
+use Rattle.queue_state.proofs.Following.{AllFollow, serves-follows, execution-as}
+use Rattle.queue_push.specs.Calls.{stepsOf}
+use Rattle.queue_push.specs.declared.Path.{Path}
 use Rattle.queue_counts.specs.declared.Amount.the-variants.{Count}
-use Rattle.pair_state.specs.Step.{InStep}
-use Rattle.pair_state.proofs.Start.{opened-in-step, open-number}
-use Rattle.paired.specs.Demand.{Request, Look, look, SourceCall, ChipCall, Run, Tally, Tallied, callOf, answersOf, AllAlike, Demand3}
-use Rattle.paired.proofs.Sides.{source-serves, held-both, refused-both, chip-serves, next}
+use Rattle.pair_step.specs.Step.{ServesCarried}
+use Rattle.pair_step.specs.Alike.{countsOf, seenIn}
+use Rattle.pair_step.proofs.Step.{carried-follows}
+use Rattle.pair_step.proofs.Alike.{both-numbers, both-alike}
+use Rattle.translator.specs.Carry.{carryFault, pathOf, Carries}
+use Rattle.translator.specs.Push.{pushAlong}
+use Rattle.translator.specs.declared.Carried.{Carried}
+use Rattle.paired.specs.Demand.{Request, push, pop, callOf, look, lookOf, SourceCall, ChipCall, shown, Tallied, shownBy, Alike, Demand3}
+use Rattle.paired.proofs.Sides.{chip-pushed, chip-refused, chip-serves}
+
+-- ---- what is shown is what is seen
+
+look-formed : (s : State) → wellFormed s ≡ true → look s ≡ lookOf (countsOf s)
+look-formed s t = rw t
+
+module _ (server : Server Packet) (step : Transition (Call Packet)) (follows : AllFollow server step) where
+  shown-seen : (calls : List (Call Packet)) (s : State) (vs : History) → wellFormed s ≡ true → Execution step s calls vs
+      → shown vs ≡ shownBy (seenIn vs)
+  shown-seen [] s [] t run = refl
+  shown-seen [] s (v ∷ vs) t run = absurd run
+  shown-seen (c ∷ cs) s [] t run = absurd run
+  shown-seen (c ∷ cs) s ((a, r) ∷ vs) t (call, rest) =
+      let formed = follows s c a r t call .formed in
+      let first = look-formed r formed in
+      let others = shown-seen cs r vs formed rest in
+      λ k. (a, first k) ∷ others k
 
 -- ---- what the looks count
 
-look-formed : (s : State) → wellFormed s ≡ true → look s ≡ (Count (held (treeOf s)), Count (s .refused))
-look-formed s t = rw t
+tallied : (calls : List (Call Packet)) (q : Machine Packet) (i o f : ℕ) → Sound q → held (q .tree) + o ≡ i → q .refusals ≡ min f most
+    → Tallied i o f (shownBy (seenBy serve q calls))
+tallied [] q i o f s h g = tt
+tallied (c ∷ cs) q i o f s h g =
+    let a = serve q c .0 in
+    let n = serve q c .1 in
+    let y = served q c s in
+    let j : held (n .tree) + (o + length (departedBy a)) ≡ i + acceptedBy a =
+    omega (
+      arith,
+      h,
+      length-perm (y .contents),
+      length-append (takenBy c a) (packets (q .tree)),
+      length-append (departedBy a) (packets (n .tree)),
+      y .accepts,
+    ) in
+    let l : n .refusals ≡ min (f + fullBy a) most = omega (arith, y .count, g) in (
+      (held (n .tree), j, (λ k. (Count (held (n .tree)), Count (l k)))),
+      tallied cs n (i + acceptedBy a) (o + length (departedBy a)) (f + fullBy a) (y .sound) j l,
+    )
 
--- so many packets are held and so many refusals counted as the numbers so far say
-record Counts (s : State) (i o f : ℕ) : Type 0 where
-  formed : wellFormed s ≡ true
-  sound : Sound (machine s)
-  held : held (treeOf s) + o ≡ i
-  refused : s .refused ≡ min f most
-
-counts-look : (s : State) (i o f : ℕ) → Counts s i o f → Tally i o f (look s)
-counts-look s i o f k =
-    (held (treeOf s), k .held, look-formed s (k .formed) ∙ (λ n. (Count (held (treeOf s)), Count (k .refused n))))
-
-counts-next : (c : Request) (s : State) (a : Answer Packet) (r : State) (i o f : ℕ) → Serves s (callOf c) a r → Counts s i o f
-    → Counts r (i + acceptedBy a) (o + length (departedBy a)) (f + fullBy a)
+-- nothing is held and nothing counted at an opening
+opened-counts : (bytes : List ℕ) (limit : ℕ) → openedState bytes limit .refusal ≡ 0 → countsOf (openedState bytes limit .state) ≡ (0, 0)
 unfolding machine
-counts-next c s a r i o f v k =
-    let z = served (machine s) (callOf c) (k .sound) in
-    let y = rw (sym (v .answer (k .formed)), sym (v .machine (k .formed))) at z in
-    record {
-      formed = v .formed (k .formed);
-      sound = y .sound;
-      held =
-          omega (
-            arith,
-            k .held,
-            length-perm (y .contents),
-            length-append (takenBy (callOf c) a) (packets (treeOf s)),
-            length-append (departedBy a) (packets (treeOf r)),
-            y .accepts,
-          );
-      refused = omega (arith, y .count, k .refused);
-    }
-
-tallied : (calls : List Request) (s : State) (i o f : ℕ) (ls : List (Answer Packet × Look)) → Counts s i o f → Run SourceCall s calls ls → Tallied i o f ls
-tallied [] s i o f [] k run = tt
-tallied [] s i o f (l ∷ ls) k run = absurd run
-tallied (c ∷ cs) s i o f [] k run = tt
-tallied (c ∷ cs) s i o f ((a, v) ∷ ls) k (r, call, seen, rest) =
-    let n = counts-next c s a r i o f (source-serves c s a r call) k in
-    let w = counts-look r (i + acceptedBy a) (o + length (departedBy a)) (f + fullBy a) n in
-    ((w .0, w .1, seen ∙ w .2), tallied cs r (i + acceptedBy a) (o + length (departedBy a)) (f + fullBy a) ls n rest)
-
--- the source's answers are its machine's
-source-answers : (calls : List Request) (s : State) (ls : List (Answer Packet × Look)) → wellFormed s ≡ true → Run SourceCall s calls ls
-    → answersOf ls ≡ answersBy serve (machine s) (map callOf calls)
-source-answers [] s [] t run = refl
-source-answers [] s (l ∷ ls) t run = absurd run
-source-answers (c ∷ cs) s [] t run = absurd run
-source-answers (c ∷ cs) s ((a, v) ∷ ls) t (r, call, seen, rest) =
-    let w = source-serves c s a r call in
-    let e = w .answer t in
-    let n = source-answers cs r ls (w .formed t) rest ∙ ap (λ (q : Machine Packet). answersBy serve q (map callOf cs)) (w .machine t) in
-    λ k. e k ∷ n k
+opened-counts bytes limit z =
+    let is = opens bytes limit .machine z in
+    let none : held (opened {P = Packet} (tree bytes) limit .tree) ≡ 0 = ap length (packets-empty Packet (tree bytes)) in
+    ap (λ (q : Machine Packet). (held (q .tree), q .refusals)) is ∙ (λ k. (none k, 0))
 
 -- ---- both alike
 
-module _ (source target m : List ℕ) where
-  looks-alike : (s t : State) → InStep source target m s t → look s ≡ look t
-  looks-alike s t h =
-      let e = held-both source target m s t h in
-      let g = refused-both source target m s t h in
-      look-formed s (h .source-formed) ∙ (λ n. (Count (sym e n), Count (sym g n))) ∙ sym (look-formed t (h .chip-formed))
+module _ (source target m : List ℕ) (f : fault 32 source ≡ 0) (g : fault 64 target ≡ 0) (E : Passes (tree source) (tree target) m)
+    (limit : ℕ) (fits : limitFault limit ≡ 0) where
+  abbrev x : State
+  x = openedState source limit .state
 
-  same : (calls : List Request) (s t : State) (ls ms : List (Answer Packet × Look)) → InStep source target m s t → Run SourceCall s calls ls → Run (ChipCall source target m) t calls ms → ls ≡ ms
-  same [] s t [] [] h v u = refl
-  same [] s t [] (l ∷ ms) h v u = absurd u
-  same [] s t (l ∷ ls) ms h v u = absurd v
-  same (c ∷ cs) s t [] ms h v u = absurd v
-  same (c ∷ cs) s t (l ∷ ls) [] h v u = absurd u
-  same (c ∷ cs) s t ((a, d) ∷ ls) ((b, e) ∷ ms) h (x, v, i, vs) (y, u, j, us) =
-      let n = next source target m s t h c a b x y v u in
-      let rest = same cs x y ls ms (n .1) vs us in
-      let f = i ∙ looks-alike x y (n .1) ∙ sym j in
-      λ k. (n .0 k, f k) ∷ rest k
+  abbrev y : State
+  y = openedState target limit .state
 
-  -- the chip's answers are its machine's behind the carrying
-  chip-answers : (calls : List Request) (s t : State) (ls ms : List (Answer Packet × Look)) → InStep source target m s t → Run SourceCall s calls ls
-      → Run (ChipCall source target m) t calls ms → answersOf ms ≡ answersBy (serveCarried (tree source) (tree target) m) (machine t) (map callOf calls)
-  chip-answers [] s t ls [] h v u = refl
-  chip-answers [] s t ls (l ∷ ms) h v u = absurd u
-  chip-answers (c ∷ cs) s t [] ms h v u = absurd v
-  chip-answers (c ∷ cs) s t (l ∷ ls) [] h v u = absurd u
-  chip-answers (c ∷ cs) s t ((a, d) ∷ ls) ((b, e) ∷ ms) h (x, v, i, vs) (y, u, j, us) =
-      let n = next source target m s t h c a b x y v u in
-      let q = chip-serves source target m s t h c b y u in
-      let rest = chip-answers cs x y ls ms (n .1) vs us
-      ∙ ap (λ (z : Machine Packet). answersBy (serveCarried (tree source) (tree target) m) z (map callOf cs)) (q .machine) in
-      λ k. q .answer k ∷ rest k
+  alike : (calls : List Request) (vs ws : History) → Execution SourceCall x calls vs → Execution (ChipCall source target m) y calls ws
+      → Alike (tree source) (tree target) m limit calls x y vs ws
+  alike requests vs ws v w =
+      let S = tree source in
+      let T = tree target in
+      let calls : List (Call Packet) = map callOf requests in
+      let passes = mapFault-none source target m .1 (f, g, E) in
+      let numbers = both-numbers source target f g limit in
+      let x-formed = opens source limit .formed (numbers .0 ∙ fits) in
+      let y-formed = opens target limit .formed (numbers .1 ∙ fits) in
+      let source-run = execution-as callOf SourceCall Serves (λ s c a r call. call) requests x vs v in
+      let chip-run =
+      execution-as callOf (ChipCall source target m) (ServesCarried S T m) (chip-serves source target m passes) requests y ws w in
+      let both = both-alike source target f g limit m E fits calls vs ws source-run chip-run in
+      let shown-source : shown vs ≡ shownBy (seenIn vs) = shown-seen serve Serves serves-follows calls x vs x-formed source-run in
+      let shown-chip : shown ws ≡ shownBy (seenIn ws) =
+      shown-seen (serveCarried S T m) (ServesCarried S T m) (carried-follows S T m) calls y ws y-formed chip-run in
+      let first = opened-counts source limit (numbers .0 ∙ fits) in
+      let source : shown vs ≡ shownBy (seenBy serve (opened S limit) calls) = shown-source ∙ ap shownBy (both .source) in
+      record {
+        before = look-formed x x-formed ∙ ap lookOf (both .before) ∙ sym (look-formed y y-formed);
+        every = shown-source ∙ ap shownBy (both .every) ∙ sym shown-chip;
+        empty = (0, refl, look-formed x x-formed ∙ ap lookOf first);
+        tallied =
+            subst (Tallied 0 0 0) (sym source)
+            (tallied calls (opened S limit) 0 0 0 (opened-sound Packet S limit) (omega (arith, ap length (packets-empty Packet S))) refl);
+        source = source;
+        chip = shown-chip ∙ ap shownBy (both .chip);
+      }
 
-all-alike : AllAlike
-unfolding machine
-all-alike source target m limit f g E low high x y o u calls ls ms v w =
-    let fits : limitFault limit ≡ 0 = rw (le-leb 1 limit low, le-leb limit 256 high) in
-    let z : x .refusal ≡ 0 = open-number source limit x (fault-wider 32 64 source (omega arith) f) o ∙ fits in
-    let n : y .refusal ≡ 0 = open-number target limit y g u ∙ fits in
-    let h = opened-in-step source target m f g E limit x y o u z n in
-    let k : Counts (x .state) 0 0 0 =
-    record {
-      formed = o .formed z;
-      sound = h .paired .source;
-      held = omega (arith, ap (λ (q : Machine Packet). held (q .tree)) (o .machine z), ap length (packets-empty Packet (tree source)));
-      refused = ap (λ (q : Machine Packet). q .refusals) (o .machine z);
-    } in
-    record {
-      before = looks-alike source target m (x .state) (y .state) h;
-      every = same source target m calls (x .state) (y .state) ls ms h v w;
-      empty = counts-look (x .state) 0 0 0 k;
-      tallied = tallied calls (x .state) 0 0 0 ls k v;
-      source =
-          source-answers calls (x .state) ls (o .formed z) v
-          ∙ ap (λ (q : Machine Packet). answersBy serve q (map callOf calls)) (o .machine z);
-      chip =
-          chip-answers source target m calls (x .state) (y .state) ls ms h v w
-          ∙ ap (λ (q : Machine Packet). answersBy (serveCarried (tree source) (tree target) m) q (map callOf calls)) (u .machine n);
-    }
+-- ---- executions there are
+
+carries-some : (source target m : List ℕ) (path : Path) → (c : Carried) × Carries source target m path c
+carries-some source target m path = by-fault (carryFault source target m (stepsOf path)) refl
+  where
+    by-fault : (f : ℕ) → carryFault source target m (stepsOf path) ≡ f → (c : Carried) × Carries source target m path c
+    by-fault zero e = (
+      record { path = pathOf (carry (tree source) (tree target) m (stepsOf path)) (path .«leaf_rank»); refusal = 0 },
+      record { refusal = sym e; carried = λ _. refl; kept = λ n. absurd (n refl) },
+    )
+    by-fault (suc f) e =
+        (record { path = path; refusal = suc f }, record { refusal = sym e; carried = λ z. absurd (omega arith); kept = λ _. refl })
+
+chip-some : (source target m : List ℕ) (t : State) (c : Request) → (b : Answer Packet) × (y : State) × ChipCall source target m t c b y
+chip-some source target m t pop = serves-some t popping
+chip-some source target m t (push path packet) =
+    let over = carries-some source target m path in
+    by-number (over .0) (over .1) (over .0 .refusal) refl
+  where
+    by-number : (c : Carried) → Carries source target m path c → (n : ℕ) → c .refusal ≡ n
+        → (b : Answer Packet) × (y : State) × ChipCall source target m t (push path packet) b y
+    by-number c e zero z =
+        let served = serves-some t (pushAlong (c .path) packet) in
+        (served .0, served .1, chip-pushed source target m t path packet c e (served .0) (served .1) z (served .2))
+    by-number c e (suc n) z = (refused (c .refusal), t, chip-refused source target m t path packet c e (λ q. omega (arith, q, z)))
+
+-- ---- the whole
 
 pub demand-3 : Demand3
-demand-3 = (all-alike, λ source target f g. search-twelve source target f g)
+demand-3 =
+    record {
+      alike = λ source target m limit f g E low high.
+          let fits : limitFault limit ≡ 0 = rw (le-leb 1 limit low, le-leb limit 256 high) in
+          alike source target m f g E limit fits;
+      source-executes = execution-some SourceCall (λ s c. serves-some s (callOf c));
+      chip-executes = λ source target m. execution-some (ChipCall source target m) (chip-some source target m);
+      searches = λ source target. (
+        record { outcome = outcome source target; map = searchMap source target },
+        record { outcome = refl; map = refl },
+      );
+      twelve = λ source target f g r s.
+          let number = searched-number source target r s in
+          let exact = search-twelve source target f g in
+          (λ e. exact .0 (sym number ∙ e), λ none. number ∙ exact .1 none);
+      zero-passes = found-passes;
+    }

@@ -1,10 +1,10 @@
 -- The answer to a call, case by case. A push is refused by its path's fault; else as full exactly where as many packets are held as the
 -- limit allows; else it is accepted. A pop is refused exactly where none is held.
 use mathlib.Core.Path.{_≡_, refl, ap}
-use mathlib.Core.Logic.{_⊎_, inl, inr}
+use mathlib.Core.Logic.{_≢_, _⊎_, inl, inr}
 use Prim.Native.Nat.{ℕ, zero, suc, _≤_, _<_, min}
 use native.Mathlib.Omega.{arith}
-use mathlib.Core.List.{List}
+use mathlib.Core.List.{List, [], _∷_}
 use mathlib.Core.Bool.{Bool, true, false}
 use mathlib.Core.Option.{Option, none, some}
 use lib.Dec.{leb}
@@ -12,7 +12,8 @@ use borrow.Author.Tests.{le-leb, lt-leb, leb-false}
 use Rattle.topology.specs.Reader.{pick}
 use Rattle.topology.proofs.Cases.{clash}
 use Rattle.pifo.specs.Tree.{Step, pathFault, PTree, push, pop, held, well}
-use Rattle.pifo.specs.Machine.{Machine, Call, pushing, popping, accepted, departed, refused, full, most, holding, counting, room, serveRoom, servePath, servePop, serve, numberOf}
+use Rattle.pifo.specs.Machine.{Machine, Call, pushing, popping, Answer, accepted, departed, refused, full, most, holding, counting, room, serveRoom, servePath, servePop, serve, numberOf}
+use Rattle.pifo.specs.Runs.{fullBy, times}
 use Rattle.pifo.proofs.Paths.{fault-number}
 use Rattle.pifo.proofs.Pop.{pop-none, none-pop}
 
@@ -75,40 +76,37 @@ module _ {P : Type 0} (m : Machine P) where
       by-pop none e = absurd (clash (cc))
       by-pop (some (p, u)) e = absurd (clash (cc))
 
-  -- The number of a refusal has at most two digits.
-  pub serve-number : (c : Call P) → numberOf (serve m c .0) ≤ 99
-  serve-number (pushing ss l p) = by-fault (pathFault (m .topology) ss) (fault-number (m .topology) ss)
-    where
-      in-room : (b : Bool) → numberOf (serveRoom (pick b 15 0) m ss l p .0) ≤ 99
-      in-room true = omega arith
-      in-room false = omega arith
+  -- A call is refused by no number above 16, and by 15 exactly where the answer is `full`.
+  abbrev Numbered : Answer P → Type 0
+  Numbered a = (numberOf a ≤ 16) × (fullBy a ≡ times 15 (numberOf a ∷ []))
 
-      by-fault : (f : ℕ) → (f ≡ 0) ⊎ ((f ≡ 13) ⊎ (f ≡ 14)) → numberOf (servePath f m ss l p .0) ≤ 99
+  numbered : (c : Call P) → Numbered (serve m c .0)
+  numbered (pushing ss l p) = by-fault (pathFault (m .topology) ss) (fault-number (m .topology) ss)
+    where
+      in-room : (b : Bool) → Numbered (serveRoom (pick b 15 0) m ss l p .0)
+      in-room true = (omega arith, refl)
+      in-room false = (omega arith, refl)
+
+      at-fault : (f : ℕ) → (f ≡ 13) ⊎ (f ≡ 14) → (f ≤ 16) × (0 ≡ times 15 (f ∷ []))
+      at-fault f (inl e) = rw e (omega arith, refl)
+      at-fault f (inr e) = rw e (omega arith, refl)
+
+      by-fault : (f : ℕ) → (f ≡ 0) ⊎ ((f ≡ 13) ⊎ (f ≡ 14)) → Numbered (servePath f m ss l p .0)
       by-fault zero h = in-room (leb (m .limit) (held (m .tree)))
-      by-fault (suc f) (inl h) = omega arith
-      by-fault (suc f) (inr (inl h)) = omega arith
-      by-fault (suc f) (inr (inr h)) = omega arith
-  serve-number popping = by-pop (pop (m .tree))
+      by-fault (suc f) (inl h) = absurd (omega arith)
+      by-fault (suc f) (inr h) = at-fault (suc f) h
+  numbered popping = by-pop (pop (m .tree))
     where
-      by-pop : (o : Option (P × PTree P)) → numberOf (servePop m o .0) ≤ 99
-      by-pop none = omega arith
-      by-pop (some (p, u)) = omega arith
+      by-pop : (o : Option (P × PTree P)) → Numbered (servePop m o .0)
+      by-pop none = (omega arith, refl)
+      by-pop (some (p, u)) = (omega arith, refl)
 
-  -- No call is refused by 18: a path's fault is 13 or 14, an empty tree's refusal 16, and no other answer is a plain refusal.
-  pub never-18 : (c : Call P) → serve m c .0 ≡ refused 18 → ⊥
-  never-18 (pushing ss l p) = by-fault (pathFault (m .topology) ss) (fault-number (m .topology) ss)
-    where
-      in-room : (n : ℕ) → serveRoom n m ss l p .0 ≡ refused 18 → ⊥
-      in-room zero e = clash (cc)
-      in-room (suc n) e = clash (cc)
+  -- The number has at most two digits, and is never 18.
+  pub serve-number : (c : Call P) → numberOf (serve m c .0) ≤ 99
+  serve-number c = omega (arith, numbered c .0)
 
-      by-fault : (f : ℕ) → (f ≡ 0) ⊎ ((f ≡ 13) ⊎ (f ≡ 14)) → servePath f m ss l p .0 ≡ refused 18 → ⊥
-      by-fault zero h e = in-room (room (m .limit) (held (m .tree))) e
-      by-fault (suc f) (inl h) e = omega arith
-      by-fault (suc f) (inr (inl h)) e = omega (arith, ap numberOf e)
-      by-fault (suc f) (inr (inr h)) e = omega (arith, ap numberOf e)
-  never-18 popping = by-pop (pop (m .tree))
-    where
-      by-pop : (o : Option (P × PTree P)) → servePop m o .0 ≡ refused 18 → ⊥
-      by-pop none e = omega (arith, ap numberOf e)
-      by-pop (some (p, u)) e = clash (cc)
+  pub never-18 : (c : Call P) → numberOf (serve m c .0) ≢ 18
+  never-18 c e = omega (arith, numbered c .0)
+
+  pub full-15 : (c : Call P) → fullBy (serve m c .0) ≡ times 15 (numberOf (serve m c .0) ∷ [])
+  full-15 c = numbered c .1

@@ -4,9 +4,11 @@ pub mod Paths
 pub mod Push
 pub mod Pop
 pub mod Runs
+pub mod Times
 pub mod Examples
 pub mod Queues
 pub mod Answers
+pub mod Drained
 pub mod Append
 pub mod Numbered
 pub mod Ways

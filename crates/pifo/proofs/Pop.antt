@@ -1,18 +1,16 @@
 -- A pop of a well-formed tree (Lemma 3.9 (ii) of document 001): it gives no packet exactly where the tree holds none; else what the tree
--- held is the packet and what the tree after it holds, and that tree has the same topology and is well formed. So as many pops as it
--- holds packets empty a tree, and what leaves is what it held (`flush-packets`).
+-- held is the packet and what the tree after it holds, and that tree has the same topology and is well formed.
 use mathlib.Core.Path.{_≡_, refl, sym, ap, subst}
 use Prim.Native.Nat.{ℕ, zero, suc, _+_, _≤_, _<_, zero-le}
 use native.Mathlib.Nat.{not-suc-le-zero, le-of-suc-le-suc}
 use native.Mathlib.Numerals.{one-add}
 use native.Mathlib.Omega.{arith}
-use mathlib.Core.List.{List, [], _∷_, List·Permᴰ, List·Permᴰ·cons, List·Permᴰ·trans, Permᴰ·refl, Permᴰ·append-right}
+use mathlib.Core.List.{List, [], _∷_, List·Permᴰ, Permᴰ·refl, Permᴰ·append-right}
 use mathlib.Core.Bool.{true, _&&_}
 use mathlib.Core.Option.{Option, none, some}
-use lib.ListN.{length}
 use lib.Dec.{leb}
 use borrow.Author.Tests.{leb-true}
-use Rattle.lists.proofs.Permutation.{length-perm, perm-front, perm-same}
+use Rattle.lists.proofs.Permutation.{length-perm, perm-front}
 use Rattle.topology.specs.Tree.{node, count}
 use Rattle.pifo.specs.Queue.{Entry, child, packet, entry, allowed, every, occurs}
 use Rattle.pifo.specs.Tree.{PTree, PForest, pnode, pnil, pcons, shape, shapes, pop, popAt, with-queue, with-later, with-elder, packets, packetsIn, held, counted, well, wells}
@@ -152,37 +150,3 @@ module _ {P : Type 0} where
 
   pub pop-some : (t : PTree P) (p : P) (u : PTree P) → well t ≡ true → pop t ≡ some (p, u) → Left t p u
   pop-some t p u h e = subst (Popped t) e (popped t h)
-
-  -- n pops: the packets that leave, and the tree after them
-  abbrev pub leaving : Option (P × PTree P) → (PTree P → List P) → List P
-  leaving none more = []
-  leaving (some (p, u)) more = p ∷ more u
-
-  abbrev pub flushed : ℕ → PTree P → List P
-  flushed zero t = []
-  flushed (suc n) t = leaving (pop t) (λ u. flushed n u)
-
-  abbrev pub behind : PTree P → Option (P × PTree P) → (PTree P → PTree P) → PTree P
-  behind t none more = t
-  behind t (some (p, u)) more = more u
-
-  abbrev pub flush : ℕ → PTree P → PTree P
-  flush zero t = t
-  flush (suc n) t = behind t (pop t) (λ u. flush n u)
-
-  -- n pops empty a tree that holds n packets, and what leaves is what it held.
-  pub flush-packets : (n : ℕ) (t : PTree P) → well t ≡ true → held t ≡ n → List·Permᴰ (packets t) (flushed n t) × (held (flush n t) ≡ 0)
-  flush-packets zero t h e = (perm-same (none-in (packets t) e), e)
-    where
-      none-in : (l : List P) → length l ≡ 0 → l ≡ []
-      none-in [] e = refl
-      none-in (x ∷ l) e = absurd (omega arith)
-  flush-packets (suc n) t h e = by-pop (pop t) (popped t h) (λ u. flush-packets n u)
-    where
-      by-pop : (o : Option (P × PTree P)) → Popped t o
-          → ((u : PTree P) → well u ≡ true → held u ≡ n → List·Permᴰ (packets u) (flushed n u) × (held (flush n u) ≡ 0))
-          → List·Permᴰ (packets t) (leaving o (λ u. flushed n u)) × (held (behind t o (λ u. flush n u)) ≡ 0)
-      by-pop none z more = absurd (omega arith)
-      by-pop (some (p, u)) z more =
-          let r = more u (z .sound) (omega (arith, length-perm (z .contents))) in
-          (List·Permᴰ·trans (z .contents) (List·Permᴰ·cons refl (r .0)), r .1)

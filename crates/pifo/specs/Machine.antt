@@ -93,3 +93,12 @@ module _ {P : Type 0} where
 
   abbrev pub answers : Machine P → List (Call P) → List (Answer P)
   answers = answersBy serve
+
+  -- What is seen of a machine: packets held and refusals counted. And what is seen of a list of calls: to each the answer, and what is seen of
+  -- the machine after it.
+  abbrev pub counts : Machine P → ℕ × ℕ
+  counts m = (held (m .tree), m .refusals)
+
+  abbrev pub seenBy : Server P → Machine P → List (Call P) → List (Answer P × (ℕ × ℕ))
+  seenBy server m [] = []
+  seenBy server m (c ∷ cs) = (server m c .0, counts (server m c .1)) ∷ seenBy server (server m c .1) cs

@@ -1,13 +1,20 @@
--- What a list of calls and its answers amount to: packets accepted and departed, pushes refused as full; and what holds of a machine after
--- any calls from an opening on.
+-- What a list of calls and its answers amount to: packets accepted and departed, pushes refused as full; what holds of a machine after any
+-- calls from an opening on, and after as many pops as it holds packets.
 use mathlib.Core.Path.{_≡_}
 use Prim.Native.Nat.{ℕ, _+_, _≤_, min}
-use mathlib.Core.List.{List, [], _∷_, _++_, List·Permᴰ}
+use mathlib.Core.List.{List, [], _∷_, _++_, map, List·Permᴰ}
 use mathlib.Core.Bool.{true}
 use lib.ListN.{length}
+use lib.Dec.{eqb}
+use Rattle.topology.specs.Reader.{pick}
 use Rattle.topology.specs.Tree.{Topo}
 use Rattle.pifo.specs.Tree.{shape, packets, held, well}
 use Rattle.pifo.specs.Machine.{Machine, Call, pushing, popping, Answer, accepted, departed, refused, full, most}
+
+-- how often a number stands in a list of numbers
+abbrev pub times : ℕ → List ℕ → ℕ
+times x [] = 0
+times x (y ∷ l) = pick (eqb x y) 1 0 + times x l
 
 module _ {P : Type 0} where
   -- a machine's state is well formed, for its own topology and limit
@@ -71,3 +78,11 @@ pub record Run {P : Type 0} (t : Topo) (limit : ℕ) (cs : List (Call P)) (answe
   pub number : accepts answered ≡ length (departures answered) + held (m .tree)
   -- the refusals counted are the pushes refused as full
   pub count : m .refusals ≡ min (fulls answered) most
+
+-- What holds after as many pops as the machine m holds packets, for their answers and the machine n after them.
+pub record Drained {P : Type 0} (m : Machine P) (answered : List (Answer P)) (n : Machine P) : Type 0 where
+  -- every pop hands out a packet
+  pub each : answered ≡ map departed (departures answered)
+  -- these are the packets that were held, and none is left
+  pub contents : List·Permᴰ (departures answered) (packets (m .tree))
+  pub empty : held (n .tree) ≡ 0

@@ -5,3 +5,8 @@ pub mod Serving
 pub mod Parts
 pub mod Canon
 pub mod InPlace
+pub mod Following
+pub mod Listed
+pub mod Realized
+pub mod Existing
+pub mod Runs

@@ -11,7 +11,7 @@ use Rattle.queue_state.specs.State.{machine}
 use Rattle.queue_push.specs.Calls.{stepsOf}
 use Rattle.queue_push.specs.declared.Path.{Path}
 use Rattle.queue_state.specs.declared.State.{State}
-use Rattle.pair_state.specs.Step.{InStep}
+use Rattle.pair_step.specs.Step.{InStep}
 use Rattle.text.specs.Text.{Puts}
 use Rattle.lines.specs.Lines.{noLine}
 use Rattle.text.proofs.Writing.{puts-none, puts-length, puts-then}

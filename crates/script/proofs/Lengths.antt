@@ -25,8 +25,8 @@ use Rattle.embedding_laws.specs.Least.{searchFault, searchMap}
 use Rattle.queue_state.specs.State.{Packet}
 use Rattle.queue_state.specs.Opening.{limitFault}
 use Rattle.pair_state.specs.Opening.{bothFault}
-use Rattle.pair_state.proofs.Start.{faultless, images-pass}
 use Rattle.pair_state.proofs.Numbers.{both-most}
+use Rattle.embedding_search.proofs.Found.{faultless, images-pass}
 use Rattle.text.specs.Text.{decimal, hex8}
 use Rattle.lines.specs.Lines.{allSpaced, inLine, outLine, noLine, mapLine}
 use Rattle.text.proofs.Digits.{length-decimal, length-hex8}

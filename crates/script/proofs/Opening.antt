@@ -11,7 +11,7 @@ use Rattle.topology.specs.Reader.{tree}
 use Rattle.pifo.specs.Machine.{opened}
 use Rattle.embedding_laws.specs.Least.{searchMap}
 use Rattle.queue_state.specs.State.{machine}
-use Rattle.pair_state.specs.Step.{InStep}
+use Rattle.pair_step.specs.Step.{InStep}
 use Rattle.pair_state.specs.Opening.{bothFault, OpensBoth}
 use Rattle.pair_state.specs.declared.PairOpened.{PairOpened}
 use Rattle.text.specs.Text.{Puts}

@@ -20,7 +20,7 @@ use Rattle.queue_state.specs.declared.State.{State}
 use Rattle.queue_push.specs.Calls.{stepsOf}
 use Rattle.queue_push.specs.declared.Path.{Path}
 use Rattle.paired.specs.Demand.{Request, push, pop, SourceCall, ChipCall, callOf}
-use Rattle.pair_state.specs.Step.{InStep}
+use Rattle.pair_step.specs.Step.{InStep}
 use Rattle.paired.proofs.Sides.{source-serves, chip-pushed, chip-refused, next}
 use Rattle.translator.specs.Carry.{Carries}
 use Rattle.translator.specs.declared.Carried.{Carried}

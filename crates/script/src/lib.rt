@@ -15,7 +15,7 @@ ghost use mathlib.Core.List.{[]};
 ghost use Prim.Native.Nat.{_≤_};
 ghost use lib.ListN.{length, take};
 ghost use Rattle.queue_state.specs.State.{machine};
-ghost use Rattle.pair_state.specs.Step.{InStep};
+ghost use Rattle.pair_step.specs.Step.{InStep};
 ghost use Rattle.text.specs.Text.{Puts};
 ghost use Rattle.script.specs.Sheet.{serving};
 ghost use Rattle.script.specs.Output.{output};

@@ -1,16 +1,16 @@
 -- The simulation (Theorem 5.10 of document 001): for every map that meets the rules, the source's machine and the chip's machine behind the
 -- carrying of paths answer every call alike. What holds between the two from one call to the next is `Paired`: both sound, for one limit, the
 -- chip's tree the mirror of the source's, as many refusals counted; so they hold as many packets. `paired-opened` is its start, `paired-next`
--- one call. `demand-3` of the crate `paired` goes on from here, over lists of calls.
+-- one call, and by induction over the list of calls the same is seen of both (`seen-alike`, `machines-alike`).
 use mathlib.Core.Path.{_≡_, refl, sym, ap, ap₂, _∙_}
 use Prim.Native.Nat.{ℕ, zero, suc, _≤_, min}
 use native.Mathlib.Omega.{arith}
-use mathlib.Core.List.{List}
+use mathlib.Core.List.{List, [], _∷_}
 use mathlib.Core.Option.{Option, none, some}
 use lib.ListN.{length}
 use Rattle.topology.specs.Tree.{Topo, height}
 use Rattle.pifo.specs.Tree.{Step, pathFault, PTree, shape, push, pop, held}
-use Rattle.pifo.specs.Machine.{Machine, Call, pushing, popping, Answer, accepted, full, most, opened, room, serveRoom, servePath, servePop, serve}
+use Rattle.pifo.specs.Machine.{Machine, Call, pushing, popping, Answer, accepted, full, most, opened, room, serveRoom, servePath, servePop, serve, counts, seenBy}
 use Rattle.pifo.proofs.Push.{push-held}
 use Rattle.pifo.proofs.Pop.{pop-none, none-pop}
 use Rattle.pifo.proofs.Runs.{served, opened-sound}
@@ -18,7 +18,7 @@ use Rattle.embedding_laws.specs.Rules.{Passes}
 use Rattle.simulation.specs.Embedding.{imageAt}
 use Rattle.simulation.specs.Carrying.{carry}
 use Rattle.simulation.specs.Mirror.{Mirrors}
-use Rattle.simulation.specs.Sheet.{pushCarried, serveCarried, Paired}
+use Rattle.simulation.specs.Sheet.{pushCarried, serveCarried, Paired, MachinesAlike}
 use Rattle.simulation.proofs.Images.{keeps}
 use Rattle.simulation.proofs.Carried.{fault-length}
 use Rattle.simulation.proofs.Chip.{serves-carried}
@@ -124,3 +124,23 @@ module _ (S T : Topo) (m : List ℕ) (E : Passes S T m) where
 
       pub answers-alike : (c : Call P) → serve x c .0 ≡ serveCarried S T m y c .0
       answers-alike c = alike c .answer
+
+    counts-alike : (x y : Machine P) → Paired S T m x y → counts x ≡ counts y
+    counts-alike x y p = λ k. (sym (held-alike x y p) k, sym (p .refusals) k)
+
+    seen-alike : (x y : Machine P) → Paired S T m x y → (calls : List (Call P)) → seenBy serve x calls ≡ seenBy (serveCarried S T m) y calls
+    seen-alike x y p [] = refl
+    seen-alike x y p (c ∷ cs) =
+        let next = paired-next x y p c in
+        let answer = answers-alike x y p c in
+        let seen = counts-alike (serve x c .1) (serveCarried S T m y c .1) next in
+        let rest = seen-alike (serve x c .1) (serveCarried S T m y c .1) next cs in
+        λ k. (answer k, seen k) ∷ rest k
+
+pub machines-alike : MachinesAlike
+machines-alike P S T m E limit calls =
+    let start = paired-opened S T m E {P = P} limit in
+    record {
+      before = counts-alike S T m E (opened S limit) (opened T limit) start;
+      every = seen-alike S T m E (opened S limit) (opened T limit) start calls;
+    }

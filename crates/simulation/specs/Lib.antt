@@ -1,4 +1,4 @@
--- To believe: Carrying (Definition 5.8) and `serveCarried` in Sheet. Embedding and Mirror are for the proof.
+-- To believe: Carrying (Definition 5.8), and `serveCarried` and `MachinesAlike` in Sheet. Embedding and Mirror are for the proof.
 pub mod Embedding
 pub mod Carrying
 pub mod Mirror

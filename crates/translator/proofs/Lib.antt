@@ -3,3 +3,4 @@ pub mod Faults
 pub mod Ways
 pub mod Walking
 pub mod Outcome
+pub mod Pushing

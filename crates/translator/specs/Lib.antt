@@ -1,3 +1,5 @@
--- To believe: Carry (what a carrying promises). Ways has the words in which private functions state what they do.
+-- To believe: Carry (what a carrying promises) and Push (what a push along a carried path does). Ways has the words in which private functions
+-- state what they do.
 pub mod Carry
+pub mod Push
 pub mod Ways

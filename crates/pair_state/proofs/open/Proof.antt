@@ -18,8 +18,8 @@ returns : tie.Need-returns
 returns c =
     let tested = c .before in
     let found = tested .before .before .search .ensures in
-    let number = number-is _ _ _ _ (found .0) (tested .before .number-of .ensures) in
-    c .refused .ensures ∙ search-refused _ _ _ _ (found .0) _ number (tested .if1 .taken)
+    let number = number-is _ _ _ _ (found .outcome) (tested .before .number-of .ensures) in
+    c .refused .ensures ∙ search-refused _ _ _ _ (found .outcome) _ number (tested .if1 .taken)
 
 open-requires : tie.Need-open-requires
 open-requires c κs = search needs
@@ -32,9 +32,9 @@ returns-2 c =
     let drawn = c .before .before in
     let tested = drawn .before in
     let found = tested .before .before .search .ensures in
-    let number = number-is _ _ _ _ (found .0) (tested .before .number-of .ensures) in
+    let number = number-is _ _ _ _ (found .outcome) (tested .before .number-of .ensures) in
     c .refused2 .ensures
-    ∙ limit-refused _ _ _ _ (found .0) (sym number ∙ tested .if1 .left) _ (drawn .«open» .ensures) (c .before .if2 .taken)
+    ∙ limit-refused _ _ _ _ (found .outcome) (sym number ∙ tested .if1 .left) _ (drawn .«open» .ensures) (c .before .if2 .taken)
 
 open-requires-2 : tie.Need-open-requires-2
 open-requires-2 c κs = search needs
@@ -45,9 +45,9 @@ returns-3 c =
     let drawn = chip .before .before in
     let tested = drawn .before in
     let found = tested .before .before .search .ensures in
-    let number = number-is _ _ _ _ (found .0) (tested .before .number-of .ensures) in
-    both-opened _ _ _ _ (found .0) (sym number ∙ tested .if1 .left) _ (drawn .«open» .ensures) (chip .before .if2 .left) _
-    (chip .open2 .ensures) _ (found .1)
+    let number = number-is _ _ _ _ (found .outcome) (tested .before .number-of .ensures) in
+    both-opened _ _ _ _ (found .outcome) (sym number ∙ tested .if1 .left) _ (drawn .«open» .ensures) (chip .before .if2 .left) _
+    (chip .open2 .ensures) _ (found .map)
 
 pub open-spec : {M : Type 1} → statement M
 open-spec =

@@ -1,0 +1,66 @@
+-- What an answer of the search says: its number is `searchFault`; and where that is 0, the trees have no fault and the images pass, so that the
+-- drawing runs on the chip.
+use mathlib.Core.Path.{_≡_, refl, sym, ap, _∙_}
+use Prim.Native.Nat.{ℕ, zero, suc, _-_}
+use mathlib.Core.List.{List, _++_}
+use lib.ListN.{length, take, replicate}
+use lib.Seq.{take-append-seam}
+use Rattle.topology.specs.Reader.{orElse, fault, tree}
+use Rattle.topology.proofs.Lookup.{valid-size}
+use Rattle.topology.proofs.Refusals.{orElse-none}
+use Rattle.embedding_laws.specs.Rules.{Passes}
+use Rattle.embedding_laws.specs.Least.{Found, nothing, list, leastMap, noneFault, searchFault, searchMap}
+use Rattle.embedding_laws.proofs.Searching.{search-map}
+use Rattle.pair_step.proofs.Alike.{both-numbers, both-alike}
+use Rattle.embedding_search.specs.Outcomes.{outcomeBy, outcome, numberOf}
+use Rattle.embedding_search.specs.Search.{Searches, images, FoundRuns}
+use Rattle.embedding_search.specs.declared.Searched.{Searched}
+
+-- the number of the outcome
+pub outcome-number : (source target : List ℕ) → numberOf (outcome source target) ≡ searchFault source target
+unfolding outcome searchFault
+outcome-number source target = by-case (fault 32 source) (fault 64 target) (leastMap source target)
+  where
+    by-case : (f g : ℕ) (a : Found) → numberOf (outcomeBy (orElse f g) a) ≡ orElse f (orElse g (noneFault a))
+    by-case zero zero nothing = refl
+    by-case zero zero (list m) = refl
+    by-case zero (suc g) a = refl
+    by-case (suc f) g a = refl
+
+pub searched-number : (source target : List ℕ) (r : Searched) → Searches source target r → numberOf (r .outcome) ≡ searchFault source target
+searched-number source target r s = ap numberOf (s .outcome) ∙ outcome-number source target
+
+-- no refusal
+module _ (source target : List ℕ) (e : searchFault source target ≡ 0) where
+  pub faultless : (fault 32 source ≡ 0) × (fault 64 target ≡ 0)
+  unfolding searchFault
+  faultless =
+      let rest = noneFault (leastMap source target) in
+      let a = orElse-none (fault 32 source) (orElse (fault 64 target) rest) e in
+      (a .0, orElse-none (fault 64 target) rest (a .1) .0)
+
+  pub images-pass : Passes (tree source) (tree target) (take (length source) (searchMap source target))
+  images-pass =
+      let s = search-map source target (faultless .0) (faultless .1) e in
+      let m = s .0 in
+      let n : length m ≡ length source = s .1 .passes .long ∙ valid-size 32 source (faultless .0) in
+      let t : take (length source) (searchMap source target) ≡ m =
+      ap (take (length source)) (s .2)
+      ∙ ap (λ (k : ℕ). take k (m ++ replicate (32 - length m) 0)) (sym n)
+      ∙ take-append-seam m (replicate (32 - length m) 0) in
+      rw t (s .1 .passes)
+
+module _ (source target : List ℕ) (r : Searched) (s : Searches source target r) (z : numberOf (r .outcome) ≡ 0) where
+  none : searchFault source target ≡ 0
+  none = sym (searched-number source target r s) ∙ z
+
+  pub found-passes : Passes (tree source) (tree target) (images source r)
+  found-passes = rw (s .map) (images-pass source target none)
+
+pub found-runs : FoundRuns
+found-runs source target r s z =
+    let f = faultless source target (none source target r s z) in
+    record {
+      opens = both-numbers source target (f .0) (f .1);
+      alike = λ limit. both-alike source target (f .0) (f .1) limit (images source r) (found-passes source target r s z);
+    }

@@ -1,0 +1,41 @@
+-- What the search promises (`Searches`), and what its map is good for by the queue tree's contracts (`FoundRuns`). `proofs/Found.antt` proves the
+-- latter.
+use mathlib.Core.Path.{_≡_}
+use Prim.Native.Nat.{ℕ}
+use mathlib.Core.List.{List}
+use lib.ListN.{length, take}
+use Rattle.topology.specs.Reader.{tree}
+use Rattle.pifo.specs.Machine.{Call}
+use Rattle.embedding_laws.specs.Least.{searchMap}
+use Rattle.queue_state.specs.State.{Packet}
+use Rattle.queue_state.specs.Opening.{limitFault, openedState}
+use Rattle.queue_state.specs.Calls.{Serves}
+use Rattle.queue_state.specs.Runs.{History, Execution}
+use Rattle.pair_step.specs.Step.{ServesCarried}
+use Rattle.pair_step.specs.Alike.{SeenAlike}
+use Rattle.embedding_search.specs.Outcomes.{outcome, numberOf}
+use Rattle.embedding_search.specs.declared.Searched.{Searched}
+
+-- the answer to a search: how it ends, and the least map, or zeros
+pub record Searches (source target : List ℕ) (r : Searched) : Type 0 where
+  pub outcome : r .outcome ≡ outcome source target
+  pub map : r .map ≡ searchMap source target
+
+-- the images that the map gives, one for each source node
+abbrev pub images : List ℕ → Searched → List ℕ
+images source r = take (length source) (r .map)
+
+-- Where the search answers 0, for a drawing, a chip's tree and its answer r:
+pub record Runs (source target : List ℕ) (r : Searched) : Type 0 where
+  -- both trees open for every limit from 1 to 256, and for others both are refused by 17
+  pub opens : (limit : ℕ) → (openedState source limit .refusal ≡ limitFault limit) × (openedState target limit .refusal ≡ limitFault limit)
+  -- opened, they are seen alike over every list of calls, where the paths of the chip's pushes are carried over by the map of r
+  pub alike : (limit : ℕ) → limitFault limit ≡ 0
+      → let x = openedState source limit .state in
+      let y = openedState target limit .state in
+      (calls : List (Call Packet)) (vs ws : History) → Execution Serves x calls vs
+      → Execution (ServesCarried (tree source) (tree target) (images source r)) y calls ws
+      → SeenAlike (tree source) (tree target) (images source r) limit calls x y vs ws
+
+abbrev pub FoundRuns : Type 0
+FoundRuns = (source target : List ℕ) (r : Searched) → Searches source target r → numberOf (r .outcome) ≡ 0 → Runs source target r

@@ -1,0 +1,54 @@
+-- An execution goes as a machine does: where each call from a well-formed state answers as a server does on the state's machine, and leaves the
+-- machine that it leaves, so do the calls of a whole list.
+use mathlib.Core.Path.{_≡_, refl, ap, _∙_}
+use mathlib.Core.List.{List, [], _∷_, map}
+use mathlib.Core.Bool.{true}
+use Rattle.pifo.specs.Machine.{Machine, Call, Answer, serve, Server, afterBy, answersBy}
+use Rattle.queue_state.specs.State.{Packet, machine, wellFormed}
+use Rattle.queue_state.specs.Calls.{Serves}
+use Rattle.queue_state.specs.Runs.{Transition, History, Execution, answersIn, lastState}
+use Rattle.queue_state.specs.declared.State.{State}
+
+pub record Follows (server : Server Packet) (s : State) (call : Call Packet) (a : Answer Packet) (r : State) : Type 0 where
+  pub answer : a ≡ server (machine s) call .0
+  pub machine : machine r ≡ server (machine s) call .1
+  pub formed : wellFormed r ≡ true
+
+-- so it is from every well-formed state
+abbrev pub AllFollow : Server Packet → Transition (Call Packet) → Type 0
+AllFollow server step =
+    (s : State) (call : Call Packet) (a : Answer Packet) (r : State) → wellFormed s ≡ true → step s call a r → Follows server s call a r
+
+pub serves-follows : AllFollow serve Serves
+serves-follows s call a r t v = record { answer = v .answer t; machine = v .machine t; formed = v .formed t }
+
+module _ (server : Server Packet) (step : Transition (Call Packet)) (follows : AllFollow server step) where
+  pub answers-follow : (calls : List (Call Packet)) (s : State) (vs : History) → wellFormed s ≡ true → Execution step s calls vs
+      → answersIn vs ≡ answersBy server (machine s) calls
+  answers-follow [] s [] t run = refl
+  answers-follow [] s (v ∷ vs) t run = absurd run
+  answers-follow (c ∷ cs) s [] t run = absurd run
+  answers-follow (c ∷ cs) s ((a, r) ∷ vs) t (call, rest) =
+      let f = follows s c a r t call in
+      let answer = f .answer in
+      let others = answers-follow cs r vs (f .formed) rest ∙ ap (λ (q : Machine Packet). answersBy server q cs) (f .machine) in
+      λ k. answer k ∷ others k
+
+  pub last-follows : (calls : List (Call Packet)) (s : State) (vs : History) → wellFormed s ≡ true → Execution step s calls vs
+      → (wellFormed (lastState s vs) ≡ true) × (machine (lastState s vs) ≡ afterBy server (machine s) calls)
+  last-follows [] s [] t run = (t, refl)
+  last-follows [] s (v ∷ vs) t run = absurd run
+  last-follows (c ∷ cs) s [] t run = absurd run
+  last-follows (c ∷ cs) s ((a, r) ∷ vs) t (call, rest) =
+      let f = follows s c a r t call in
+      let last = last-follows cs r vs (f .formed) rest in
+      (last .0, last .1 ∙ ap (λ (q : Machine Packet). afterBy server q cs) (f .machine))
+
+-- the execution of the same calls under other names
+module _ {C D : Type 0} (name : C → D) (step : Transition C) (other : Transition D)
+    (same : (s : State) (c : C) (a : Answer Packet) (r : State) → step s c a r → other s (name c) a r) where
+  pub execution-as : (calls : List C) (s : State) (vs : History) → Execution step s calls vs → Execution other s (map name calls) vs
+  execution-as [] s [] run = tt
+  execution-as [] s (v ∷ vs) run = absurd run
+  execution-as (c ∷ cs) s [] run = absurd run
+  execution-as (c ∷ cs) s ((a, r) ∷ vs) (call, rest) = (same s c a r call, execution-as cs r vs rest)
