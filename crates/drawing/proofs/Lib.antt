@@ -1,2 +1,4 @@
 pub mod Pieces
 pub mod Sheets
+pub mod Endings
+pub mod Lengths

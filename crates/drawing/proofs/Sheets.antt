@@ -31,7 +31,7 @@ pub record Small (source target : List ℕ) : Type 0 where
   pub target-fits : length target ≤ 64
 
 -- where there is no map, both are trees
-unmapped-trees : (source target : List ℕ) → outcome source target ≡ NoMap → (fault 32 source ≡ 0) × (fault 64 target ≡ 0)
+pub unmapped-trees : (source target : List ℕ) → outcome source target ≡ NoMap → (fault 32 source ≡ 0) × (fault 64 target ≡ 0)
 unfolding outcome
 unmapped-trees source target e = orElse-none (fault 32 source) (fault 64 target) (by-fault (orElse (fault 32 source) (fault 64 target)) (leastMap source target) e)
   where

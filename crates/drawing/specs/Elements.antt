@@ -3,10 +3,14 @@ use Prim.Native.Nat.{ℕ}
 use mathlib.Core.List.{List, [], _∷_, _++_}
 use Rattle.templates.specs.Template.{bytes, filled}
 
--- the beginning, with the drawing's height and the looks of its parts
+-- the start of a drawing, with its height
+unfoldable pub opening : ℕ → List ℕ
+opening height = filled (bytes "<svg xmlns=\"http://www.w3.org/2000/svg\" width=\"800\" height=\"#\"><style>\n") (height ∷ []) 0
+
+-- the beginning: the start, and the looks of the drawing's parts
 unfoldable pub head : ℕ → List ℕ
 head height =
-    filled (bytes "<svg xmlns=\"http://www.w3.org/2000/svg\" width=\"800\" height=\"#\"><style>\n") (height ∷ []) 0
+    opening height
     ++ (bytes "svg{background:white}text{font:10px sans-serif;text-anchor:middle}path{fill:none;stroke:black}circle{fill:white;stroke:black}\n"
     ++ (bytes ".title,.note{font-size:14px;text-anchor:start}.child{font-size:9px}.joins path{stroke:skyblue}\n"
     ++ bytes ".image{fill:skyblue}.between{stroke-dasharray:3}.unused{fill:lightgrey}</style>\n"))
@@ -17,11 +21,14 @@ limb x above y child =
     filled (bytes "<path d=\"M#,#m0,9V#h32\"/><text class=\"child\" x=\"#\" y=\"#\" dx=\"15\" dy=\"-3\">#</text>\n")
     (x ∷ above ∷ y ∷ x ∷ y ∷ child ∷ []) 0
 
+-- a circle at x and y with a node's number in it, from behind the circle's class on
+unfoldable pub numbered : ℕ → ℕ → ℕ → List ℕ
+numbered x y node =
+    filled (bytes "\" cx=\"#\" cy=\"#\" r=\"9\"/><text x=\"#\" y=\"#\" dy=\"4\">#</text>\n") (x ∷ y ∷ x ∷ y ∷ node ∷ []) 0
+
 -- a node at x and y: a circle of a class with the node's number in it
 unfoldable pub mark : List ℕ → ℕ → ℕ → ℕ → List ℕ
-mark class x y node =
-    bytes "<circle class=\"" ++ (class
-    ++ filled (bytes "\" cx=\"#\" cy=\"#\" r=\"9\"/><text x=\"#\" y=\"#\" dy=\"4\">#</text>\n") (x ∷ y ∷ x ∷ y ∷ node ∷ []) 0)
+mark class x y node = bytes "<circle class=\"" ++ (class ++ numbered x y node)
 
 -- the line from a source node at x and y to its image on the chip, at `over` and `down`
 unfoldable pub join : ℕ → ℕ → ℕ → ℕ → List ℕ

@@ -6,8 +6,9 @@ fn walk(input: &mut [u8], text: &mut [u8]) {
     stream::print(&text[..end]);
 }
 
+// The drawing fits (`sheet-fits` in drawing/proofs/Lengths).
 fn main() {
     let mut input = [0u8; 65536];
-    let mut text = [0u8; 65536];
+    let mut text = [0u8; 19333];
     walk(&mut input, &mut text);
 }

@@ -15,8 +15,8 @@ use lib.ListN.{length, length-append}
 use Rattle.lists.proofs.Last.{split-last, last-unique}
 use Rattle.topology.specs.Tree.{Topo, width, size}
 use Rattle.topology.specs.Address.{Addr, Above, addr, subtree, childOf}
-use Rattle.topology.proofs.Ancestry.{above-from, above-to, size-pos, subtree-end, subtree-sum, addr-inj}
-use Rattle.topology.proofs.Children.{HasChild, childOf-lt, addr-childOf, childOf-after, Parent, parent}
+use Rattle.topology.proofs.Ancestry.{above-from, above-to, size-pos, subtree-end, subtree-sum}
+use Rattle.topology.proofs.Children.{HasChild, addr-childOf, childOf-after, child-within, Parent, parent, above-parent}
 use Rattle.embedding_laws.specs.Rules.{image, Passes}
 use Rattle.embedding_laws.specs.Meaning.{end}
 
@@ -34,25 +34,6 @@ end-within t a b h l g =
     let s : size (subtree t b) ≡ size (subtree (subtree t a) (b - a)) =
     ap (λ (n : ℕ). size (subtree t n)) (sym e) ∙ ap size (subtree-sum t a (b - a) h (omega arith)) in
     omega (arith, subtree-end (subtree t a) (b - a) (omega arith))
-
--- a child lies in its parent's branch
-pub child-within : (t : Topo) (n i : ℕ) → HasChild t n i → childOf t n i < end t n
-child-within t n i h = above-from t n (childOf t n i) (h .0) (childOf-lt t n i h) (i ∷ [], addr-childOf t n i h) .1
-
--- what lies strictly above a node is its parent or lies above that
-pub above-parent : (t : Topo) (a n : ℕ) → a < n → n < size t → n < end t a → (p : Parent t n) → (a ≤ p .node) × (p .node < end t a)
-above-parent t a n l h g p =
-    let a-in : a < size t = omega arith in
-    above-from t a (p .node) a-in (p .has .0) (by-rest (above-to t a n a-in (omega arith) g))
-  where
-    by-rest : Above (addr t a) (addr t n) → Above (addr t a) (addr t (p .node))
-    by-rest ([], e) = absurd (omega (arith, addr-inj t n a h (omega arith) (e ∙ append-nil (addr t a))))
-    by-rest (k ∷ d, e) =
-        let s = split-last k d in
-        let whole : addr t n ≡ addr t (p .node) ++ (p .index ∷ []) = ap (addr t) (sym (p .child)) ∙ addr-childOf t (p .node) (p .index) (p .has) in
-        let front : (addr t a ++ s .0) ++ (s .1 ∷ []) ≡ addr t (p .node) ++ (p .index ∷ []) =
-        append-assoc (addr t a) (s .0) (s .1 ∷ []) ∙ ap (λ (r : Addr). addr t a ++ r) (sym (s .2)) ∙ sym e ∙ whole in
-        (s .0, sym (last-unique (addr t a ++ s .0) (addr t (p .node)) (s .1) (p .index) front .0))
 
 -- two children of one node are unrelated
 pub siblings : (t : Topo) (n i j : ℕ) → HasChild t n i → HasChild t n j → i ≢ j → Above (addr t (childOf t n i)) (addr t (childOf t n j)) → ⊥

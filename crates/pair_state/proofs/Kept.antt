@@ -52,9 +52,12 @@ module _ (s t : List ℕ) (limit : ℕ) where
       let same = sym (outcome-number (take 33 s) (take 65 t)) ∙ ap numberOf (outcome-kept s t) ∙ outcome-number s t in
       ap (λ (f : ℕ). orElse f (limitFault limit)) same
 
-  pub both-trees : bothFault s t limit ≡ 0 → (fault 32 s ≡ 0) × (fault 64 t ≡ 0)
+  pub both-found : bothFault s t limit ≡ 0 → searchFault s t ≡ 0
   unfolding bothFault
-  both-trees e = faultless s t (orElse-none (searchFault s t) (limitFault limit) e .0)
+  both-found e = orElse-none (searchFault s t) (limitFault limit) e .0
+
+  pub both-trees : bothFault s t limit ≡ 0 → (fault 32 s ≡ 0) × (fault 64 t ≡ 0)
+  both-trees e = faultless s t (both-found e)
 
   pub both-whole : bothFault s t limit ≡ 0 → (take 33 s ≡ s) × (take 65 t ≡ t)
   both-whole e = let f = both-trees e in (whole 32 s (f .0), whole 64 t (f .1))

@@ -1,2 +1,3 @@
 pub mod Start
 pub mod Kept
+pub mod Numbers

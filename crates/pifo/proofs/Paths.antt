@@ -86,5 +86,5 @@ too-long (node ts) (step (suc k) r ∷ ss) h = by-width (decLe (suc k) (count ts
     by-width (yes l) below = fault-on (node ts) (suc k) r ss (omega arith) l ∙ below (omega (arith, nth-height ts k l))
     by-width (no l) below = fault-off (node ts) (suc k) r ss (λ e. l (e .1))
 
-pub ninth-step : (bytes : List ℕ) → fault 64 bytes ≡ 0 → (ss : List Step) → 9 ≤ length ss → pathFault (tree bytes) ss ≡ 13
-ninth-step bytes f ss h = too-long (tree bytes) ss (omega (arith, h, within 64 bytes f .steps))
+pub ninth-step : (limit : ℕ) (bytes : List ℕ) → fault limit bytes ≡ 0 → (ss : List Step) → 9 ≤ length ss → pathFault (tree bytes) ss ≡ 13
+ninth-step limit bytes f ss h = too-long (tree bytes) ss (omega (arith, h, within limit bytes f .steps))

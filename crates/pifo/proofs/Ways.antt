@@ -16,7 +16,7 @@ use Rattle.topology.proofs.Numbering.{place, addr-child, addr-root}
 use Rattle.pifo.specs.Queue.{Entry, child, packet, entry}
 use Rattle.pifo.specs.Tree.{PTree, PForest, pnode, pnil, pcons, shape, shapes, held, well}
 use Rattle.pifo.specs.Numbered.{Queues, kidAt, assemble, assembleAll, through, descentBy, descent}
-use Rattle.pifo.specs.Way.{Taken, taken, way, wayIn, takes, takesIn}
+use Rattle.pifo.specs.Way.{Taken, taken, way, wayIn, takes, takesIn, takenAt, headTaken, headAt}
 use Rattle.pifo.proofs.Wellness.{length-held}
 use Rattle.pifo.proofs.Numbered.{shape-assemble}
 
@@ -26,25 +26,12 @@ lookup n [] = none
 lookup n (taken m i r ∷ w) = pick (eqb m n) (some (taken m i r)) (lookup n w)
 
 module _ {P : Type 0} where
-  -- what an entry says of the node that it is taken at
-  abbrev pub takenAt : ℕ → Entry P → Taken
-  takenAt n (entry r (packet p)) = taken n 0 r
-  takenAt n (entry r (child i)) = taken n i r
-
   -- no packet, no way
   pub none-way : (t : PTree P) (k : ℕ) → well t ≡ true → held t ≡ 0 → way t k ≡ []
   none-way (pnode [] ts) k w h = refl
   none-way (pnode (e ∷ q) ts) k w h = absurd (omega (arith, length-held (e ∷ q) ts w))
 
   -- ---- by node number
-
-  -- the head of a node's queue
-  abbrev pub headTaken : ℕ → List (Entry P) → Taken
-  headTaken n [] = taken n 0 0
-  headTaken n (e ∷ es) = takenAt n e
-
-  abbrev pub headAt : Queues P → ℕ → Taken
-  headAt q n = headTaken n (q n)
 
   -- below child i + 1 of an assembled forest
   wayIn-nth : (ts : Forest) (q : Queues P) (k i : ℕ) → i < count ts

@@ -2,8 +2,8 @@
 -- and Numbered, by which a state of arrays stands for a tree. Addressed is for the laws.
 pub mod Queue
 pub mod Tree
-pub mod Way
 pub mod Addressed
 pub mod Numbered
+pub mod Way
 pub mod Machine
 pub mod Runs

@@ -8,6 +8,7 @@ use Rattle.topology.specs.Address.{Addr}
 use Rattle.topology.specs.Reader.{pick}
 use Rattle.pifo.specs.Queue.{Rank, Entry, child, packet, entry}
 use Rattle.pifo.specs.Tree.{PTree, PForest, pnode, pnil, pcons, shape}
+use Rattle.pifo.specs.Numbered.{Queues}
 
 -- a node, the child that the entry taken there names, 0 at a leaf, and the entry's rank
 pub data Taken : Type 0 where
@@ -40,3 +41,16 @@ module _ {P : Type 0} where
     takesIn (pcons t ts) zero a = none
     takesIn (pcons t ts) (suc zero) a = takes t a
     takesIn (pcons t ts) (suc (suc i)) a = takesIn ts (suc i) a
+
+  -- what an entry says of the node that it is taken at
+  abbrev pub takenAt : ℕ → Entry P → Taken
+  takenAt n (entry r (packet p)) = taken n 0 r
+  takenAt n (entry r (child i)) = taken n i r
+
+  -- the head of a node's queue, by the node's number
+  abbrev pub headTaken : ℕ → List (Entry P) → Taken
+  headTaken n [] = taken n 0 0
+  headTaken n (e ∷ es) = takenAt n e
+
+  abbrev pub headAt : Queues P → ℕ → Taken
+  headAt q n = headTaken n (q n)

@@ -1,3 +1,6 @@
 pub mod Counting
 pub mod Roles
+pub mod Passing
+pub mod Addresses
+pub mod Images
 pub mod Examples

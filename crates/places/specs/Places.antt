@@ -1,4 +1,5 @@
--- Where a node stands in a tree, and what it is to the images of a map, read off the bytes of a topology.
+-- Where a node stands in a tree, and what it is to the images of a map, read off the bytes of a topology. `proofs/Addresses.antt` and
+-- `proofs/Images.antt` show what they are where the bytes are a tree's.
 use Prim.Native.Nat.{ℕ, zero, suc, _+_}
 use mathlib.Core.List.{List}
 use mathlib.Core.Bool.{Bool}

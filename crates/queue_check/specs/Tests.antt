@@ -8,18 +8,18 @@ use lib.ListN.{length, getD, replicate}
 use Rattle.pifo.specs.Queue.{Entry}
 use Rattle.pifo.specs.Tree.{held}
 use Rattle.pifo.specs.Numbered.{Queues}
-use Rattle.queue_state.specs.State.{entryOf, startOf, queues, treeOf, wellFormed}
+use Rattle.queue_state.specs.State.{Packet, entryOf, startOf, queues, treeOf, wellFormed}
 use Rattle.queue_state.specs.Entries.{noEntry, marked}
 use Rattle.queue_state.specs.declared.Entry.{Entry as CodeEntry}
 use Rattle.queue_state.specs.declared.State.{State}
 use Rattle.queue_check.specs.declared.Test.{Test}
 
-abbrev pub headOf : List (Entry ℕ) → Option (Entry ℕ)
+abbrev pub headOf : List (Entry Packet) → Option (Entry Packet)
 headOf [] = none
 headOf (e ∷ q) = some e
 
 -- the table has the head of each queue, where there is one
-pub record Heading (lengths : List ℕ) (heads : List CodeEntry) (q : Queues ℕ) (nodes : ℕ) : Type 0 where
+pub record Heading (lengths : List ℕ) (heads : List CodeEntry) (q : Queues Packet) (nodes : ℕ) : Type 0 where
   pub places : length heads ≡ 64
   pub head : (n : ℕ) → n < nodes → headOf (q n) ≡ marked (getD lengths n 0) (entryOf (getD heads n noEntry)) none
 

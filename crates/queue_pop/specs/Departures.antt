@@ -7,7 +7,7 @@ use mathlib.Core.Option.{Option, none, some}
 use lib.ListN.{length, getD, set, replicate}
 use Rattle.topology.specs.Reader.{pick}
 use Rattle.pifo.specs.Numbered.{Queues, isIn}
-use Rattle.pifo.proofs.Ways.{headAt}
+use Rattle.pifo.specs.Way.{headAt}
 use Rattle.queue_state.specs.State.{Packet}
 use Rattle.queue_pop.specs.Ways.{noTaken, wayFrom}
 use Rattle.queue_pop.specs.declared.departures.Trail.{Trail}

@@ -12,19 +12,20 @@ use mathlib.Core.Option.{none, some}
 use lib.ListN.{length, take, getD, length-append}
 use lib.Dec.{leb, ltb}
 use borrow.Author.Tests.{leb-true}
-use Rattle.topology.specs.Reader.{pick, fault, tree}
+use Rattle.topology.specs.Reader.{pick, tree}
 use Rattle.topology.proofs.Reader.{within}
-use Rattle.topology.proofs.Refusals.{orElse-none, orElse-most, pick-most, fault-most}
+use Rattle.topology.proofs.Refusals.{orElse-none}
 use Rattle.pifo.specs.Tree.{Step, step, held}
 use Rattle.pifo.specs.Machine.{Machine, Call, pushing, popping, Answer, accepted, departed, refused, full, numberOf, serve}
 use Rattle.pifo.specs.Runs.{Sound}
 use Rattle.pifo.proofs.Order.{both}
 use Rattle.pifo.proofs.Runs.{served as serve-sound, opened-sound}
 use Rattle.pifo.proofs.Answers.{accepted-held, serve-number}
-use Rattle.embedding_laws.specs.Least.{Found, nothing, list, noneFault, leastMap, searchFault, searchMap}
+use Rattle.embedding_laws.specs.Least.{searchFault, searchMap}
 use Rattle.queue_state.specs.State.{Packet}
 use Rattle.queue_state.specs.Opening.{limitFault}
 use Rattle.pair_state.specs.Opening.{bothFault}
+use Rattle.pair_state.proofs.Numbers.{both-most}
 use Rattle.embedding_search.proofs.Found.{faultless, images-pass}
 use Rattle.text.specs.Text.{decimal, hex8}
 use Rattle.lines.specs.Lines.{allSpaced, inLine, outLine, noLine, mapLine}
@@ -75,20 +76,6 @@ unfolding mapLine
 map-length m h g = omega (arith, length-append (allSpaced m) (10 ∷ []), spaced-length m g)
 
 -- ---- one command
-
--- the numbers of an opening
-both-most : (source target : List ℕ) (limit : ℕ) → bothFault source target limit ≤ 17
-unfolding bothFault searchFault
-both-most source target limit =
-    let s = fault-most 32 source in
-    let t = fault-most 64 target in
-    orElse-most 17 _ (limitFault limit)
-    (orElse-most 17 (fault 32 source) _ (omega (arith, s)) (orElse-most 17 (fault 64 target) _ (omega (arith, t)) (none-most (leastMap source target))))
-    (pick-most 17 (leb 1 limit && leb limit 256) 0 17 (omega arith) (omega arith))
-  where
-    none-most : (f : Found) → noneFault f ≤ 17
-    none-most nothing = omega arith
-    none-most (list m) = omega arith
 
 -- what holds of a sheet, and the bytes that a map may still take
 abbrev Good : Sheet → Type 0

@@ -60,6 +60,26 @@ length-decimal (suc k) n h =
     by-test true e f = rw (decimal-digit n (ltb-true n 10 e)) (omega arith)
     by-test false e f = rw (decimal-more n (ltb-false n 10 e), length-append) (omega arith)
 
+some-digit : (n : ℕ) → 1 ≤ length (decimal n)
+unfolding decimal decimalLast
+some-digit n = rw length-append (omega arith)
+
+-- a larger number takes no fewer digits
+pub decimal-grows : (n m : ℕ) → n ≤ m → length (decimal n) ≤ length (decimal m)
+decimal-grows n m h = upTo (suc n) n m (omega arith) h
+  where
+    more : (n m : ℕ) → n ≤ m → 10 ≤ n → length (decimal (n / 10)) ≤ length (decimal (m / 10)) → length (decimal n) ≤ length (decimal m)
+    more n m h g r = rw (decimal-more n g, decimal-more m (omega arith), length-append, length-append) (omega arith)
+
+    upTo : (fuel n m : ℕ) → n < fuel → n ≤ m → length (decimal n) ≤ length (decimal m)
+    upTo zero n m f h = absurd (not-suc-le-zero f)
+    upTo (suc fuel) n m f h = by-test (ltb n 10) refl (λ g. upTo fuel (n / 10) (m / 10) (shorter n fuel f g) (omega arith))
+      where
+        by-test : (t : Bool) → ltb n 10 ≡ t → (10 ≤ n → length (decimal (n / 10)) ≤ length (decimal (m / 10)))
+            → length (decimal n) ≤ length (decimal m)
+        by-test true e r = rw (decimal-digit n (ltb-true n 10 e)) (some-digit m)
+        by-test false e r = more n m h (ltb-false n 10 e) (r (ltb-false n 10 e))
+
 length-hexLast : (k n : ℕ) → length (hexLast k n) ≡ k
 unfolding hexLast
 length-hexLast zero n = refl

@@ -75,9 +75,9 @@ unless-fault zero l n = absurd (n refl)
 unless-fault (suc f) l n = refl
 
 -- a refusal has a number from 1 on
-pub refused-by : (bytes : List ℕ) (r : Reading) → r ≡ reading (fault 64 bytes) → (number : ℕ) → r ≡ Refused number → number ≢ 0
-refused-by bytes r e number t none =
-    let found = read-refused (fault 64 bytes) r e number t in
+pub refused-by : (limit : ℕ) (bytes : List ℕ) (r : Reading) → r ≡ reading (fault limit bytes) → (number : ℕ) → r ≡ Refused number → number ≢ 0
+refused-by limit bytes r e number t none =
+    let found = read-refused (fault limit bytes) r e number t in
     found .1 (sym (found .0) ∙ none)
 
 -- The branch's three answers: the reader's refusal, 19, and a stretch of the bytes.

@@ -1,16 +1,16 @@
 -- The children of a node, by number: the first comes right after the node, the next one where its elder's branch ends. Each node but
--- the root is the child of one node.
+-- the root is the child of one node, and what lies above it lies above that one or is it.
 use mathlib.Core.Path.{_≡_, refl, sym, ap, _∙_, subst}
 use Prim.Native.Nat.{ℕ, zero, suc, _+_, _≤_, _<_}
 use native.Mathlib.Nat.{not-suc-le-zero, le-of-suc-le-suc}
 use native.Mathlib.Omega.{arith}
-use mathlib.Core.List.{[], _∷_, _++_}
+use mathlib.Core.List.{[], _∷_, _++_, append-assoc, append-nil}
 use lib.ListN.{length, length-append}
 use Rattle.lists.proofs.Last.{split-last, last-unique}
 use Rattle.topology.specs.Tree.{Topo, Forest, node, fnil, fcons, count, kids, width, size}
-use Rattle.topology.specs.Address.{Addr, nth, child, In, sub, addr, ahead, num, subtree, childOf, depth}
+use Rattle.topology.specs.Address.{Addr, nth, child, In, sub, Above, addr, ahead, num, subtree, childOf, depth}
 use Rattle.topology.proofs.Numbering.{addr-in, num-addr, num-lt, addr-num}
-use Rattle.topology.proofs.Ancestry.{in-front, in-below, in-join, sub-append, num-append, addr-inj}
+use Rattle.topology.proofs.Ancestry.{in-front, in-below, in-join, sub-append, num-append, above-from, above-to, addr-inj}
 
 -- Child i of node n is there.
 abbrev pub HasChild : Topo → ℕ → ℕ → Type 0
@@ -63,6 +63,10 @@ childOf-next t n zero h = absurd (not-suc-le-zero (h .1))
 childOf-next t n (suc i) h =
     omega (arith, childOf-ahead t n (suc i) (h .0), childOf-ahead t n i (h .0), ahead-suc (kids (subtree t n)) i (h .2))
 
+-- a child lies in its parent's branch
+pub child-within : (t : Topo) (n i : ℕ) → HasChild t n i → childOf t n i < n + size (subtree t n)
+child-within t n i h = above-from t n (childOf t n i) (h .0) (childOf-lt t n i h) (i ∷ [], addr-childOf t n i h) .1
+
 -- a node's parent, and which of its children the node is
 pub record Parent (t : Topo) (n : ℕ) : Type 0 where
   pub node : ℕ
@@ -93,3 +97,22 @@ pub parent-unique : (t : Topo) (n i m j : ℕ) → HasChild t n i → HasChild t
 parent-unique t n i m j h g e =
     let r = last-unique (addr t n) (addr t m) i j (sym (addr-childOf t n i h) ∙ ap (addr t) e ∙ addr-childOf t m j g) in
     (addr-inj t n m (h .0) (g .0) (r .0), r .1)
+
+-- a node's address is its parent's and the child number behind it
+pub addr-under : (t : Topo) (n : ℕ) (p : Parent t n) → addr t n ≡ addr t (p .node) ++ (p .index ∷ [])
+addr-under t n p = ap (addr t) (sym (p .child)) ∙ addr-childOf t (p .node) (p .index) (p .has)
+
+-- what lies strictly above a node is its parent or lies above that
+pub above-parent : (t : Topo) (a n : ℕ) → a < n → n < size t → n < a + size (subtree t a) → (p : Parent t n)
+    → (a ≤ p .node) × (p .node < a + size (subtree t a))
+above-parent t a n l h g p =
+    let a-in : a < size t = omega arith in
+    above-from t a (p .node) a-in (p .has .0) (by-rest (above-to t a n a-in (omega arith) g))
+  where
+    by-rest : Above (addr t a) (addr t n) → Above (addr t a) (addr t (p .node))
+    by-rest ([], e) = absurd (omega (arith, addr-inj t n a h (omega arith) (e ∙ append-nil (addr t a))))
+    by-rest (k ∷ d, e) =
+        let s = split-last k d in
+        let front : (addr t a ++ s .0) ++ (s .1 ∷ []) ≡ addr t (p .node) ++ (p .index ∷ []) =
+        append-assoc (addr t a) (s .0) (s .1 ∷ []) ∙ ap (λ (r : Addr). addr t a ++ r) (sym (s .2)) ∙ sym e ∙ addr-under t n p in
+        (s .0, sym (last-unique (addr t a ++ s .0) (addr t (p .node)) (s .1) (p .index) front .0))

@@ -51,7 +51,7 @@ returns : tie.Need-returns
 returns c =
     let read = c .before .before .before .before .read .ensures in
     let number = c .before .before .number .given .1 in
-    (branch-refused _ _ _ read _ number, λ none. absurd (refused-by _ _ read _ number none))
+    (branch-refused _ _ _ read _ number, λ none. absurd (refused-by _ _ _ read _ number none))
 
 returns-2 : tie.Need-returns-2
 returns-2 c =

@@ -1,5 +1,5 @@
 -- `put_head` meets its contract: the parts of the text joined.
-use Rattle.drawing.specs.Elements.{head}
+use Rattle.drawing.specs.Elements.{opening, head}
 use Rattle.text.proofs.Writing.{puts-then}
 use borrow.Author.Needs.{needs}
 use Rattle.drawing.proofs.elements.put_head.Statement.{statement}
@@ -36,7 +36,7 @@ same-length : tie.Need-same-length
 same-length c = search needs
 
 returns : tie.Need-returns
-unfolding head
+unfolding head opening
 returns c =
     let third = c .before .before in
     let second = third .before .before .before .before .before in

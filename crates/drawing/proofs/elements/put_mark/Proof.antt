@@ -1,5 +1,5 @@
 -- `put_mark` meets its contract: the parts of the element joined.
-use Rattle.drawing.specs.Elements.{mark}
+use Rattle.drawing.specs.Elements.{numbered, mark}
 use Rattle.text.proofs.Writing.{puts-then}
 use borrow.Author.Needs.{needs}
 use Rattle.drawing.proofs.elements.put_mark.Statement.{statement}
@@ -27,7 +27,7 @@ same-length : tie.Need-same-length
 same-length c = search needs
 
 returns : tie.Need-returns
-unfolding mark
+unfolding mark numbered
 returns c =
     let rest = c .before .before in
     let class = rest .before .before .before .before .before .before in
