@@ -1,27 +1,30 @@
--- What the private functions promise that say whether a command before 04 is in turn.
+-- What the private functions promise that take one command before 04.
 use Prim.Native.Nat.{ℕ}
-use mathlib.Core.Bool.{Bool, true, false}
+use mathlib.Core.Bool.{true, false}
+use Rattle.topology.specs.Reader.{pick}
 use Rattle.commands.specs.declared.Command.{Command}
-use Rattle.commands.specs.declared.Command.the-variants.{Source, Target, Limit, Compile, Step, Push, Pop}
+use Rattle.commands.specs.declared.Command.the-variants.{Setup, Compile, Call}
 use Rattle.commands.specs.declared.Read.{Read}
 use Rattle.commands.specs.declared.Read.the-variants.{End, Next, Refused}
+use Rattle.gathering.specs.declared.Ending.{Ending}
 use Rattle.gathering.specs.declared.Ending.the-variants.{End as AtEnd, Refused as AtRefusal, Compile as AtCompile}
-use Rattle.gathering.specs.declared.turns.Found.{Found}
-use Rattle.gathering.specs.declared.turns.Found.the-variants.{Ends, Gives}
+use Rattle.gathering.specs.declared.Drawing.{Drawing}
+use Rattle.gathering.specs.declared.turns.Gathering.{Gathering}
+use Rattle.gathering.specs.Gathering.{outOfTurn}
+use Rattle.gathering.specs.Adding.{given}
 
--- a command at an offset, by whether the limit is given
-abbrev pub turnOf : Bool → ℕ → Command → ℕ → Found
-turnOf limited at (Source b) next = Gives (Source b) next
-turnOf limited at (Target b) next = Gives (Target b) next
-turnOf false at (Limit n) next = Gives (Limit n) next
-turnOf true at (Limit n) next = Ends (AtRefusal 22 at)
-turnOf false at Compile next = Ends (AtRefusal 22 at)
-turnOf true at Compile next = Ends (AtCompile at next)
-turnOf limited at (Step i r) next = Ends (AtRefusal 22 at)
-turnOf limited at (Push p r) next = Ends (AtRefusal 22 at)
-turnOf limited at Pop next = Ends (AtRefusal 22 at)
+abbrev pub stopped : Drawing → Ending → Gathering
+stopped d e = record { gathered = record { drawing = d; ending = e }; going = false }
 
-abbrev pub foundBy : Read → ℕ → Bool → Found
-foundBy End at limited = Ends AtEnd
-foundBy (Refused n offset) at limited = Ends (AtRefusal n offset)
-foundBy (Next c next) at limited = turnOf limited at c next
+-- a command in turn at an offset
+abbrev pub inTurn : Drawing → Command → ℕ → Gathering
+inTurn d (Setup c) at = record { gathered = record { drawing = given d c; ending = AtEnd }; going = true }
+inTurn d c at = stopped d (AtCompile at)
+
+abbrev pub taken : Drawing → Command → ℕ → Gathering
+taken d c at = pick (outOfTurn (d .limited) c) (stopped d (AtRefusal 22 at)) (inTurn d c at)
+
+abbrev pub added : Drawing → Read → Gathering
+added d End = stopped d AtEnd
+added d (Next c at) = taken d c at
+added d (Refused n at) = stopped d (AtRefusal n at)
