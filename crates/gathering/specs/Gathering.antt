@@ -3,11 +3,9 @@
 use mathlib.Core.Path.{_≡_}
 use Prim.Native.Nat.{ℕ, min}
 use mathlib.Core.List.{List, [], _∷_, _++_}
-use mathlib.Core.Bool.{Bool, true, false, not}
+use mathlib.Core.Bool.{Bool, true, false}
 use mathlib.Core.Option.{Option, none, some}
 use lib.ListN.{length, take}
-use Rattle.topology.specs.Reader.{pick}
-use Rattle.commands.specs.declared.Setup.{Setup as SetupCommand}
 use Rattle.commands.specs.declared.Setup.the-variants.{Source, Target, Limit}
 use Rattle.commands.specs.declared.Command.{Command}
 use Rattle.commands.specs.declared.Command.the-variants.{Setup, Compile, Call}
@@ -18,21 +16,6 @@ use Rattle.gathering.specs.declared.Ending.the-variants.{End as AtEnd, R
 use Rattle.gathering.specs.declared.Drawing.{Drawing}
 use Rattle.gathering.specs.declared.Gathered.{Gathered}
 use Rattle.commands.specs.Reading.{reads}
-
--- Out of turn before 04, by whether the limit is given: a second limit, an 04 before the limit, any call.
-abbrev pub repeated : Bool → SetupCommand → Bool
-repeated limited (Source b) = false
-repeated limited (Target b) = false
-repeated limited (Limit n) = limited
-
-abbrev pub outOfTurn : Bool → Command → Bool
-outOfTurn limited (Setup c) = repeated limited c
-outOfTurn limited Compile = not limited
-outOfTurn limited (Call c) = true
-
-abbrev pub isGiven : Option ℕ → Bool
-isGiven none = false
-isGiven (some n) = true
 
 -- what is gathered, how that ends, and what the reader finds from then on
 pub record Given : Type 0 where
@@ -45,21 +28,22 @@ pub record Given : Type 0 where
 abbrev pub ended : List ℕ → List ℕ → Option ℕ → Ending → List Read → Given
 ended s t l e rest = record { source = s; target = t; limit = l; ending = e; left = rest }
 
--- A command in turn that gives something, or 04; `more` is what is gathered from the next one on.
+-- By the command at an offset; `rest` is what the reader finds behind it, and `more` what is gathered from there.
 abbrev pub gatherBy : Command → ℕ → List Read → List ℕ → List ℕ → Option ℕ → (List ℕ → List ℕ → Option ℕ → Given) → Given
 gatherBy (Setup (Source b)) at rest s t l more = more (s ++ (b ∷ [])) t l
 gatherBy (Setup (Target b)) at rest s t l more = more s (t ++ (b ∷ [])) l
-gatherBy (Setup (Limit n)) at rest s t l more = more s t (some n)
-gatherBy c at rest s t l more = ended s t l (AtCompile at) rest
+gatherBy (Setup (Limit n)) at rest s t none more = more s t (some n)
+gatherBy (Setup (Limit n)) at rest s t (some m) more = ended s t (some m) (AtRefusal 22 at) rest
+gatherBy Compile at rest s t none more = ended s t none (AtRefusal 22 at) rest
+gatherBy Compile at rest s t (some n) more = ended s t (some n) (AtCompile at) rest
+gatherBy (Call c) at rest s t l more = ended s t l (AtRefusal 22 at) rest
 
 -- What is gathered from a list of reads, behind the bytes s and t and the limit l. The reader stays where it finds no command.
 abbrev pub gatherReads : List Read → List ℕ → List ℕ → Option ℕ → Given
 gatherReads [] s t l = ended s t l AtEnd []
 gatherReads (End ∷ rest) s t l = ended s t l AtEnd (End ∷ rest)
+gatherReads (Next c at ∷ rest) s t l = gatherBy c at rest s t l (λ s t l. gatherReads rest s t l)
 gatherReads (Refused n at ∷ rest) s t l = ended s t l (AtRefusal n at) (Refused n at ∷ rest)
-gatherReads (Next c at ∷ rest) s t l =
-    let inTurn = gatherBy c at rest s t l (λ s t l. gatherReads rest s t l) in
-    pick (outOfTurn (isGiven l) c) (ended s t l (AtRefusal 22 at) rest) inTurn
 
 unfoldable pub gathered : List ℕ → Given
 gathered script = gatherReads (reads script 0) [] [] none

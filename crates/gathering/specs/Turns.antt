@@ -1,7 +1,9 @@
 -- What the private functions promise that take one command before 04.
 use Prim.Native.Nat.{ℕ}
-use mathlib.Core.Bool.{true, false}
+use mathlib.Core.Bool.{Bool, true, false, not}
 use Rattle.topology.specs.Reader.{pick}
+use Rattle.commands.specs.declared.Setup.{Setup as SetupCommand}
+use Rattle.commands.specs.declared.Setup.the-variants.{Source, Target, Limit}
 use Rattle.commands.specs.declared.Command.{Command}
 use Rattle.commands.specs.declared.Command.the-variants.{Setup, Compile, Call}
 use Rattle.commands.specs.declared.Read.{Read}
@@ -10,16 +12,27 @@ use Rattle.gathering.specs.declared.Ending.{Ending}
 use Rattle.gathering.specs.declared.Ending.the-variants.{End as AtEnd, Refused as AtRefusal, Compile as AtCompile}
 use Rattle.gathering.specs.declared.Drawing.{Drawing}
 use Rattle.gathering.specs.declared.turns.Gathering.{Gathering}
-use Rattle.gathering.specs.Gathering.{outOfTurn}
 use Rattle.gathering.specs.Adding.{given}
 
 abbrev pub stopped : Drawing → Ending → Gathering
 stopped d e = record { gathered = record { drawing = d; ending = e }; going = false }
 
--- a command in turn at an offset
+-- whether a command is out of turn, by whether the limit is given
+abbrev pub repeated : Bool → SetupCommand → Bool
+repeated limited (Source b) = false
+repeated limited (Target b) = false
+repeated limited (Limit n) = limited
+
+abbrev pub outOfTurn : Bool → Command → Bool
+outOfTurn limited (Setup c) = repeated limited c
+outOfTurn limited Compile = not limited
+outOfTurn limited (Call c) = true
+
+-- a command in turn at an offset; no call is
 abbrev pub inTurn : Drawing → Command → ℕ → Gathering
 inTurn d (Setup c) at = record { gathered = record { drawing = given d c; ending = AtEnd }; going = true }
-inTurn d c at = stopped d (AtCompile at)
+inTurn d Compile at = stopped d (AtCompile at)
+inTurn d (Call c) at = stopped d (AtCompile at)
 
 abbrev pub taken : Drawing → Command → ℕ → Gathering
 taken d c at = pick (outOfTurn (d .limited) c) (stopped d (AtRefusal 22 at)) (inTurn d c at)

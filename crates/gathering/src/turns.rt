@@ -8,9 +8,8 @@ use commands::Read;
 use commands::Setup;
 ghost use mathlib.Core.Path.{_≡_};
 ghost use mathlib.Core.Bool.{true};
-ghost use Rattle.gathering.specs.Gathering.{repeated, outOfTurn};
 ghost use Rattle.gathering.specs.Adding.{Undrawn};
-ghost use Rattle.gathering.specs.Turns.{stopped, taken, added};
+ghost use Rattle.gathering.specs.Turns.{repeated, outOfTurn, stopped, taken, added};
 
 // What is gathered so far; the ending counts where it does not go on.
 pub(crate) struct Gathering {
