@@ -11,9 +11,6 @@ use borrow.Author.Tests.{leb-true}
 use Rattle.topology.specs.Reader.{pick}
 use Rattle.topology.proofs.Cases.{clash}
 use Rattle.commands.specs.declared.Command.{Command}
-use Rattle.commands.specs.declared.Command.the-variants.{Setup, Compile, Call}
-use Rattle.commands.specs.declared.Setup.the-variants.{Source, Target, Limit}
-use Rattle.commands.specs.declared.Call.the-variants.{Step, Push, Pop}
 use Rattle.commands.specs.declared.Read.{Read}
 use Rattle.commands.specs.declared.Read.the-variants.{End, Next, Refused}
 use Rattle.commands.specs.Reading.{sizeOf, sized, commandBy, commandOf, readAt, behind, nextAt}

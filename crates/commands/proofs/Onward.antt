@@ -1,14 +1,13 @@
 -- What a reader finds from an offset on: what stands there, and where that is a command, what it finds from the next one on. The bound on
 -- the number of commands does not matter (`same`).
-use mathlib.Core.Path.{_≡_, refl, sym, ap, _∙_}
+use mathlib.Core.Path.{_≡_, refl, ap}
 use Prim.Native.Nat.{ℕ, zero, suc, _+_, _<_}
 use native.Mathlib.Omega.{arith}
-use mathlib.Core.List.{List, [], _∷_}
+use mathlib.Core.List.{List}
 use lib.ListN.{length}
 use Rattle.commands.specs.declared.Read.{Read}
 use Rattle.commands.specs.declared.Read.the-variants.{End, Next, Refused}
 use Rattle.commands.specs.Reading.{readAt, nextAt, readsBy, readsFrom, reads}
-use Rattle.commands.proofs.Numbers.{read-end}
 use Rattle.commands.proofs.Found.{further}
 
 module _ (script : List ℕ) where

@@ -2,8 +2,8 @@
 use Prim.Native.Nat.{ℕ, zero, suc}
 use mathlib.Core.List.{List, [], _∷_, map}
 use Rattle.commands.specs.declared.Read.{Read}
+use Rattle.commands.specs.declared.Read.the-variants.{End, Next, Refused}
 use Rattle.commands.specs.declared.Slot.{Slot}
-use Rattle.commands.specs.declared.Batch.{Batch}
 use Rattle.commands.specs.Reading.{readAt, nextAt}
 
 -- what it finds, and the offset of its next command then
@@ -15,5 +15,12 @@ abbrev pub after : ℕ → List ℕ → ℕ → ℕ
 after zero script at = at
 after (suc n) script at = after n script (nextAt script at)
 
-abbrev pub readsIn : Batch → List Read
-readsIn b = map (λ (s : Slot). s .read) (b .slots)
+abbrev pub readsOf : List Slot → List Read
+readsOf slots = map (λ (s : Slot). s .read) slots
+
+-- none of them is the end or a refusal
+abbrev pub AllCommands : List Read → Type 0
+AllCommands [] = Unit
+AllCommands (End ∷ rs) = ⊥
+AllCommands (Next c at ∷ rs) = AllCommands rs
+AllCommands (Refused n at ∷ rs) = ⊥

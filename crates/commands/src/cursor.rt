@@ -7,9 +7,8 @@ use super::Setup;
 use super::Slot;
 use super::operands::command_at;
 ghost use mathlib.Core.Path.{_≡_};
-ghost use Prim.Native.Nat.{_≤_};
 ghost use Rattle.commands.specs.Reading.{setupSize, callSize, sizeOf, readAt, nextAt};
-ghost use Rattle.commands.specs.Batches.{finds, after, readsIn};
+ghost use Rattle.commands.specs.Batches.{finds, after, readsOf};
 
 // What is read at an offset, and the offset of the next command.
 pub(crate) struct Found {
@@ -69,7 +68,7 @@ pub(crate) fn found_at(script: &[u8], at: usize) -> Found
 }
 
 pub(crate) fn batch_at(script: &[u8], at: usize) -> FoundBatch
-    ensures { λ r. ⌜ (readsIn (r .batch) ≡ finds 256 (now (script .entry)) at) × (r .next ≡ after 256 (now (script .entry)) at) ⌝ }
+    ensures { λ r. ⌜ (readsOf (r .batch .slots) ≡ finds 256 (now (script .entry)) at) × (r .next ≡ after 256 (now (script .entry)) at) ⌝ }
 {
     let mut slots = [Slot { read: Read::End }; 256];
     let mut next = at;

@@ -4,7 +4,7 @@ mod operands;
 
 ghost use mathlib.Core.Path.{_≡_};
 ghost use Rattle.commands.specs.Reading.{readAt, nextAt};
-ghost use Rattle.commands.specs.Batches.{finds, after, readsIn};
+ghost use Rattle.commands.specs.Batches.{finds, after, readsOf};
 
 // What a script gives before 04.
 pub enum Setup {
@@ -74,7 +74,7 @@ impl<'a> Reader<'a> {
 
     // The next 256 reads at once: a caller whose own values are large passes them on once for all of these.
     pub fn next_batch(&mut self) -> Batch
-        ensures { λ r. ⌜ (readsIn r ≡ finds 256 (now (now (self .entry) .script)) (now (self .entry) .at)) × (now (self .exit) .script ≡ now (self .entry) .script) × (now (self .exit) .at ≡ after 256 (now (now (self .entry) .script)) (now (self .entry) .at)) ⌝ }
+        ensures { λ r. ⌜ (readsOf (r .slots) ≡ finds 256 (now (now (self .entry) .script)) (now (self .entry) .at)) × (now (self .exit) .script ≡ now (self .entry) .script) × (now (self .exit) .at ≡ after 256 (now (now (self .entry) .script)) (now (self .entry) .at)) ⌝ }
     {
         let found = cursor::batch_at(self.script, self.at);
         self.at = found.next;

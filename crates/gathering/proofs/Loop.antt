@@ -1,7 +1,7 @@
 -- What the loop of `gather` knows: while it goes on, the code has what is gathered so far, and what is gathered from here on completes the
 -- definition; once it stops, it has all, and the reader finds what the definition says is left. `turn` is one command.
-use mathlib.Core.Path.{_≡_, refl, sym, ap, _∙_, subst}
-use Prim.Native.Nat.{ℕ, zero, suc, _+_, _≤_, _<_}
+use mathlib.Core.Path.{_≡_, refl, sym, ap, _∙_}
+use Prim.Native.Nat.{ℕ, zero, suc, _+_, _<_}
 use native.Mathlib.Omega.{arith}
 use mathlib.Core.List.{List, [], _∷_, _++_}
 use mathlib.Core.Bool.{Bool, true, false}

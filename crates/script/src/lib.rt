@@ -15,19 +15,27 @@ use pair_state::Pair;
 use queue_push::Path;
 use queue_state::Answer;
 use turns::Turn;
+ghost use mathlib.Core.Path.{_≡_};
+ghost use mathlib.Core.Bool.{true};
 ghost use Prim.Native.Nat.{_≤_};
 ghost use lib.ListN.{length};
 ghost use Rattle.text.specs.Text.{Puts};
+ghost use Rattle.commands.specs.Batches.{readsOf, AllCommands};
 ghost use Rattle.script.specs.Output.{output};
+ghost use Rattle.script.specs.Parts.{openingText, drawn, chip, startText, batchText, Fits, Ready, Comes, Begun, Stops};
 
-// What a script has come to after 04: the drawings, both trees and the map, the steps gathered for the next push, where the text so far ends,
-// and whether the script goes on.
-struct Progress {
-    pub drawing: Drawing,
-    pub pair: Pair,
-    pub path: Path,
+// Where the text so far ends, and whether the script goes on.
+struct Printed {
     pub end: usize,
     pub going: bool,
+}
+
+// What a script has come to after 04: what it has printed, the steps gathered for the next push, the drawings, and both trees with the map.
+struct Progress {
+    pub printed: Printed,
+    pub path: Path,
+    pub drawing: Drawing,
+    pub pair: Pair,
 }
 
 // Runs a script: the text that it prints goes into `out`, as far as that goes, and the answer is where it ends there. One reader reads the
@@ -38,15 +46,17 @@ pub fn run(script: &[u8], out: &mut [u8]) -> usize
     let mut reader = commands::reader_at(script, 0);
     let gathered = gathering::gather(&mut reader);
     let mut progress = start(out, gathered);
-    while progress.going {
+    while progress.printed.going {
         let batch = reader.next_batch();
         progress = serve(progress, out, batch);
     }
-    progress.end
+    progress.printed.end
 }
 
-// What a script has come to once all before 04 is gathered, and 04 with it.
+// What a script has come to with all that is gathered before 04, and 04 itself.
 fn start(out: &mut [u8], gathered: Gathered) -> Progress
+    requires { ⌜ Fits (gathered .drawing) ⌝ }
+    ensures { λ r. ⌜ Comes (startText gathered) (now (out .entry)) 0 r (now (out .exit)) ⌝ }
 {
     let drawing = gathered.drawing;
     let ending = gathered.ending;
@@ -60,50 +70,55 @@ fn start(out: &mut [u8], gathered: Gathered) -> Progress
     }
 }
 
-// A script that stops before both trees are opened.
+fn begin(drawing: Drawing, pair: Pair, end: usize, going: bool) -> Progress
+    ensures { λ r. ⌜ Begun drawing pair end going r ⌝ }
+{
+    Progress {
+        printed: Printed { end, going },
+        path: steps::no_steps(),
+        drawing,
+        pair,
+    }
+}
+
+// A script that stops before both trees are opened: they are opened for no drawing, which is refused.
 fn stop(drawing: Drawing, end: usize) -> Progress
+    ensures { λ r. ⌜ Stops end r ⌝ }
 {
     let source = drawing.source;
     let none = &source[..0];
     let both = pair_state::open(none, none, 0);
     let pair = both.pair;
-    Progress {
-        drawing,
-        pair,
-        path: steps::no_steps(),
-        end,
-        going: false,
-    }
+    begin(drawing, pair, end, false)
 }
 
 // 04 at an offset: opens both trees and prints the map, or prints its refusal.
 fn compile(out: &mut [u8], drawing: Drawing, at: usize) -> Progress
-    requires { ⌜ (drawing .nodes ≤ length (drawing .source)) × (drawing .places ≤ length (drawing .target)) ⌝ }
+    requires { ⌜ Fits drawing ⌝ }
+    ensures { λ r. ⌜ Comes (openingText (drawn drawing) (chip drawing) (drawing .limit) at) (now (out .entry)) 0 r (now (out .exit)) ⌝ }
 {
     let nodes = drawing.nodes;
     let places = drawing.places;
     let source = drawing.source;
     let target = drawing.target;
-    let both = pair_state::open(&source[..nodes], &target[..places], drawing.limit as usize);
+    let drawn = &source[..nodes];
+    let chip = &target[..places];
+    let both = pair_state::open(drawn, chip, drawing.limit as usize);
     let pair = both.pair;
-    let mut end = 0;
     if both.refusal != 0 {
-        end = lines::put_no(out, 0, both.refusal, at);
-    } else {
-        let map = pair.map;
-        end = lines::put_map(out, 0, &map[..nodes]);
+        let place = lines::put_no(out, 0, both.refusal, at);
+        return begin(drawing, pair, place, false);
     }
-    Progress {
-        drawing,
-        pair,
-        path: steps::no_steps(),
-        end,
-        going: both.refusal == 0,
-    }
+    let map = pair.map;
+    let images = &map[..nodes];
+    let end = lines::put_map(out, 0, images);
+    begin(drawing, pair, end, true)
 }
 
-// The commands of a batch after 04.
+// A batch of what is read after 04.
 fn serve(progress: Progress, out: &mut [u8], batch: Batch) -> Progress
+    requires { ⌜ Ready progress × (progress .printed .end ≤ length (now out)) × (length (batch .slots) ≡ 256) ⌝ }
+    ensures { λ r. ⌜ Comes (batchText (readsOf (batch .slots)) progress) (now (out .entry)) (progress .printed .end) r (now (out .exit)) × (r .printed .going ≡ true → AllCommands (readsOf (batch .slots))) ⌝ }
 {
     let drawing = progress.drawing;
     let nodes = drawing.nodes;
@@ -118,14 +133,15 @@ fn serve(progress: Progress, out: &mut [u8], batch: Batch) -> Progress
     let mut source = pair.source;
     let mut chip = pair.chip;
     let mut path = progress.path;
-    let mut end = progress.end;
+    let mut end = progress.printed.end;
     let mut going = true;
     let slots = batch.slots;
     let mut i = 0;
     while going && i < 256 {
         let slot = slots[i];
         let read = slot.read;
-        match turns::turn(path.count, read) {
+        i += 1;
+        match turns::turn_of(path.count, read) {
             Turn::End => {
                 going = false;
             }
@@ -165,13 +181,11 @@ fn serve(progress: Progress, out: &mut [u8], batch: Batch) -> Progress
                 }
             },
         }
-        i += 1;
     }
     Progress {
+        printed: Printed { end, going },
+        path,
         drawing,
         pair: Pair { source, chip, map },
-        path,
-        end,
-        going,
     }
 }

@@ -3,7 +3,7 @@ use commands::Call;
 use commands::Command;
 use commands::Read;
 ghost use mathlib.Core.Path.{_≡_};
-ghost use Rattle.script.specs.Turns.{turnOf, turnBy};
+ghost use Rattle.script.specs.Turns.{isNinth, callOf, turnOf};
 
 // What is read after 04: the end of the script; a refusal, its number and its command's offset; or a call in turn and its offset.
 pub(crate) enum Turn {
@@ -14,15 +14,18 @@ pub(crate) enum Turn {
 
 // Whether a call is a step too many.
 fn is_ninth(steps: usize, call: Call) -> bool
+    ensures { λ r. ⌜ r ≡ isNinth steps call ⌝ }
 {
     match call {
-        Call::Step(_, _) => steps >= 8,
-        _ => false,
+        Call::Step(_, _) => 8 <= steps,
+        Call::Push(_, _) => false,
+        Call::Pop => false,
     }
 }
 
 // A command at an offset, by how many steps are gathered. In turn after 04 are calls, but for a ninth step.
 fn call_of(steps: usize, command: Command, offset: usize) -> Turn
+    ensures { λ r. ⌜ r ≡ callOf steps command offset ⌝ }
 {
     let Command::Call(call) = command else {
         return Turn::Refused(22, offset);
@@ -33,7 +36,8 @@ fn call_of(steps: usize, command: Command, offset: usize) -> Turn
     Turn::Call(call, offset)
 }
 
-pub(crate) fn turn(steps: usize, read: Read) -> Turn
+pub(crate) fn turn_of(steps: usize, read: Read) -> Turn
+    ensures { λ r. ⌜ r ≡ turnOf steps read ⌝ }
 {
     match read {
         Read::End => Turn::End,
