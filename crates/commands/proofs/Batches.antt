@@ -48,9 +48,10 @@ module _ (script : List ℕ) where
   pub filled-all : (at : ℕ) (slots : List Slot) (next n : ℕ) → Filled at slots next n → n ≡ 256
       → (readsOf slots ≡ finds 256 script at) × (next ≡ after 256 script at)
   filled-all at slots next n f e =
-      let all = take-all 256 slots (omega (arith, f .long)) in
-      (ap readsOf (sym all) ∙ ap (λ (k : ℕ). readsOf (take k slots)) (sym e) ∙ f .are ∙ ap (λ (k : ℕ). finds k script at) e,
-      f .moved ∙ ap (λ (k : ℕ). after k script at) e)
+      let all = take-all 256 slots (omega (arith, f .long)) in (
+        ap readsOf (sym all) ∙ ap (λ (k : ℕ). readsOf (take k slots)) (sym e) ∙ f .are ∙ ap (λ (k : ℕ). finds k script at) e,
+        f .moved ∙ ap (λ (k : ℕ). after k script at) e,
+      )
 
   -- so many commands bring the end nearer
   pub commands-further : (n at : ℕ) → AllCommands (finds (suc n) script at) → (at < after (suc n) script at) × (after (suc n) script at ≤ length script)

@@ -150,11 +150,12 @@ pub comes : (progress : Progress) → Ready progress → (slots : List Slot) (be
     → Comes (batchText (readsOf slots) progress) before (progress .printed .end)
     (record { printed = record { end = end; going = going }; path = p; drawing = progress .drawing; pair = record { source = s; chip = t; map = progress .pair .map } }) after
     × (going ≡ true → AllCommands (readsOf slots))
-comes progress r slots before after s t p end going i g over =
-    (record {
-      text = g .text;
-      puts = g .puts;
-      ready = λ e. record { fits = r .fits; images = r .images; served = g .served e };
-      follows = done-text _ _ _ slots _ _ before _ after s t p end going i g over;
-    },
-    done-commands _ _ _ slots _ _ before _ after s t p end going i g over)
+comes progress r slots before after s t p end going i g over = (
+  record {
+    text = g .text;
+    puts = g .puts;
+    ready = λ e. record { fits = r .fits; images = r .images; served = g .served e };
+    follows = done-text _ _ _ slots _ _ before _ after s t p end going i g over;
+  },
+  done-commands _ _ _ slots _ _ before _ after s t p end going i g over,
+)

@@ -84,22 +84,24 @@ module _ (script : List ℕ) where
         → (p′ : Progress) (out′ : List ℕ) → Comes (batchText (readsOf slots) p) out (p .printed .end) p′ out′ → (p′ .printed .going ≡ true → AllCommands (readsOf slots))
         → (m : ℕ) × (m < n) × Inv m (after 256 script at) p′ out′
     turn zero at p out go i slots e p′ out′ c all = absurd (omega (arith, i .enough go .1))
-    turn (suc m) at p out go i slots e p′ out′ c all =
-        (m, omega arith,
-        record {
-          text = i .text ++ c .text;
-          puts = puts-then (i .puts) (c .puts);
-          ready = c .ready;
-          rest =
-              append-assoc (i .text) (c .text) (pick (p′ .printed .going) (textOf (reads script (after 256 script at)) (sheetIn p′)) [])
-              ∙ ap (λ (l : List ℕ). i .text ++ l)
-              (sym (c .follows (reads script (after 256 script at)))
-              ∙ ap (λ (l : List Read). textOf (l ++ reads script (after 256 script at)) (sheetIn p)) e
-              ∙ sym (batch-text 256 at (sheetIn p)))
-              ∙ sym (ap (λ (b : Bool). i .text ++ pick b (textOf (reads script at) (sheetIn p)) []) go)
-              ∙ i .rest;
-          enough = λ go′.
-              let f = commands-further script 255 at (rw (← e) (all go′)) in
-              let h = i .enough go in
-              (omega (arith, f, h), omega (arith, f, h));
-        })
+    turn (suc m) at p out go i slots e p′ out′ c all = (
+      m,
+      omega arith,
+      record {
+        text = i .text ++ c .text;
+        puts = puts-then (i .puts) (c .puts);
+        ready = c .ready;
+        rest =
+            append-assoc (i .text) (c .text) (pick (p′ .printed .going) (textOf (reads script (after 256 script at)) (sheetIn p′)) [])
+            ∙ ap (λ (l : List ℕ). i .text ++ l)
+            (sym (c .follows (reads script (after 256 script at)))
+            ∙ ap (λ (l : List Read). textOf (l ++ reads script (after 256 script at)) (sheetIn p)) e
+            ∙ sym (batch-text 256 at (sheetIn p)))
+            ∙ sym (ap (λ (b : Bool). i .text ++ pick b (textOf (reads script at) (sheetIn p)) []) go)
+            ∙ i .rest;
+        enough = λ go′.
+            let f = commands-further script 255 at (rw (← e) (all go′)) in
+            let h = i .enough go in
+            (omega (arith, f, h), omega (arith, f, h));
+      },
+    )

@@ -88,7 +88,7 @@ enum-known-call-2 : tie.Need-enum-known-call-2 Inv-loop μ-loop
 enum-known-call-2 c = search needs
 
 add-step-requires : tie.Need-add-step-requires Inv-loop μ-loop
-add-step-requires c κs = 
+add-step-requires c κs =
     let g = still _ _ _ _ _ _ _ _ _ _ _ _ _ _ _ (c .before .before .before .before .before .before .before .before .before .loop-test .taken) (c .before .before .before .before .before .before .before .before .before .before .loop .inv .0) in
     (omega (arith, g .served refl .few), g .served refl .places)
 
