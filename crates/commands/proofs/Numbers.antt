@@ -13,10 +13,12 @@ use borrow.Author.Tests.{leb-true, leb-false, le-leb, lt-leb, ne-eqb}
 use mathlib.Core.Logic.{_≢_}
 use Rattle.topology.specs.Reader.{pick}
 use Rattle.commands.specs.declared.Command.{Command}
-use Rattle.commands.specs.declared.Command.the-variants.{Source, Target, Limit, Compile, Step, Push, Pop}
+use Rattle.commands.specs.declared.Command.the-variants.{Setup, Compile, Call}
+use Rattle.commands.specs.declared.Setup.the-variants.{Source, Target, Limit}
+use Rattle.commands.specs.declared.Call.the-variants.{Step, Push, Pop}
 use Rattle.commands.specs.declared.Read.the-variants.{End, Next, Refused}
 use Rattle.commands.specs.declared.Read.{Read}
-use Rattle.commands.specs.Reading.{number, operand, sized, commandBy, readAt}
+use Rattle.commands.specs.Reading.{number, operand, sizeOf, sized, commandBy, readAt}
 use Rattle.commands.specs.Operands.{byteAt, wordAt, Below}
 use Rattle.commands.specs.declared.operands.Byte.{Byte}
 use Rattle.commands.specs.declared.operands.Byte.the-variants.{Is as IsByte, Missing as NoByte}
@@ -117,14 +119,14 @@ below (Is m) n most h e = let q : m ≡ n = cc in rw (← q) h
 below Missing n most h e = let z : _≡_ {A = ℕ} 0 1 = cc in absurd (omega arith)
 
 -- The reader's answer by the command's first byte: cut short, or with its operands.
-module _ (size : ℕ) (bytes : List ℕ) (at : ℕ) (command : Command) where
-  complete : size ≤ length bytes → Next command (at + size) ≡ sized size bytes at command
+module _ (bytes : List ℕ) (at : ℕ) (command : Command) where
+  complete : sizeOf command ≤ length bytes → Next command at ≡ sized bytes at command
   unfolding sized
-  complete h = simp (le-leb size (length bytes) h)
+  complete h = simp (le-leb (sizeOf command) (length bytes) h)
 
-  cut : length bytes < size → Refused 21 at ≡ sized size bytes at command
+  cut : length bytes < sizeOf command → Refused 21 at ≡ sized bytes at command
   unfolding sized
-  cut h = simp (lt-leb size (length bytes) h)
+  cut h = simp (lt-leb (sizeOf command) (length bytes) h)
 
 module _ (code : ℕ) (bytes : List ℕ) (at : ℕ) where
   pub unknown : code ≢ 1 → code ≢ 2 → code ≢ 3 → code ≢ 4 → code ≢ 5 → code ≢ 6 → code ≢ 7 → Refused 20 at ≡ commandBy code bytes at
@@ -133,51 +135,51 @@ module _ (code : ℕ) (bytes : List ℕ) (at : ℕ) where
 
   pub source-cut : code ≡ 1 → length bytes < 2 → Refused 21 at ≡ commandBy code bytes at
   unfolding commandBy
-  source-cut e h = rw e (cut 2 bytes at _ h)
+  source-cut e h = rw e (cut bytes at _ h)
 
-  pub source-read : (m : ℕ) → code ≡ 1 → There 1 1 bytes m → Next (Source m) (at + 2) ≡ commandBy code bytes at
+  pub source-read : (m : ℕ) → code ≡ 1 → There 1 1 bytes m → Next (Setup (Source m)) at ≡ commandBy code bytes at
   unfolding commandBy
-  source-read m e tm = rw (e, tm .is) (complete 2 bytes at _ (tm .fits))
+  source-read m e tm = rw (e, tm .is) (complete bytes at _ (tm .fits))
 
   pub target-cut : code ≡ 2 → length bytes < 2 → Refused 21 at ≡ commandBy code bytes at
   unfolding commandBy
-  target-cut e h = rw e (cut 2 bytes at _ h)
+  target-cut e h = rw e (cut bytes at _ h)
 
-  pub target-read : (m : ℕ) → code ≡ 2 → There 1 1 bytes m → Next (Target m) (at + 2) ≡ commandBy code bytes at
+  pub target-read : (m : ℕ) → code ≡ 2 → There 1 1 bytes m → Next (Setup (Target m)) at ≡ commandBy code bytes at
   unfolding commandBy
-  target-read m e tm = rw (e, tm .is) (complete 2 bytes at _ (tm .fits))
+  target-read m e tm = rw (e, tm .is) (complete bytes at _ (tm .fits))
 
   pub limit-cut : code ≡ 3 → length bytes < 3 → Refused 21 at ≡ commandBy code bytes at
   unfolding commandBy
-  limit-cut e h = rw e (cut 3 bytes at _ h)
+  limit-cut e h = rw e (cut bytes at _ h)
 
-  pub limit-read : (m : ℕ) → code ≡ 3 → There 2 1 bytes m → Next (Limit m) (at + 3) ≡ commandBy code bytes at
+  pub limit-read : (m : ℕ) → code ≡ 3 → There 2 1 bytes m → Next (Setup (Limit m)) at ≡ commandBy code bytes at
   unfolding commandBy
-  limit-read m e tm = rw (e, tm .is) (complete 3 bytes at _ (tm .fits))
+  limit-read m e tm = rw (e, tm .is) (complete bytes at _ (tm .fits))
 
-  pub compile-read : code ≡ 4 → 0 < length bytes → Next Compile (at + 1) ≡ commandBy code bytes at
+  pub compile-read : code ≡ 4 → 0 < length bytes → Next Compile at ≡ commandBy code bytes at
   unfolding commandBy
-  compile-read e h = rw e (complete 1 bytes at _ h)
+  compile-read e h = rw e (complete bytes at _ h)
 
   pub step-cut : (n : ℕ) → n ≤ 6 → code ≡ 5 → length bytes < n → Refused 21 at ≡ commandBy code bytes at
   unfolding commandBy
-  step-cut n l e h = rw e (cut 6 bytes at _ (omega arith))
+  step-cut n l e h = rw e (cut bytes at _ (omega arith))
 
-  pub step-read : (m n : ℕ) → code ≡ 5 → There 1 1 bytes m → There 4 2 bytes n → Next (Step m n) (at + 6) ≡ commandBy code bytes at
+  pub step-read : (m n : ℕ) → code ≡ 5 → There 1 1 bytes m → There 4 2 bytes n → Next (Call (Step m n)) at ≡ commandBy code bytes at
   unfolding commandBy
-  step-read m n e tm tn = rw (e, tm .is, tn .is) (complete 6 bytes at _ (tn .fits))
+  step-read m n e tm tn = rw (e, tm .is, tn .is) (complete bytes at _ (tn .fits))
 
   pub push-cut : (n : ℕ) → n ≤ 9 → code ≡ 6 → length bytes < n → Refused 21 at ≡ commandBy code bytes at
   unfolding commandBy
-  push-cut n l e h = rw e (cut 9 bytes at _ (omega arith))
+  push-cut n l e h = rw e (cut bytes at _ (omega arith))
 
-  pub push-read : (m n : ℕ) → code ≡ 6 → There 4 1 bytes m → There 4 5 bytes n → Next (Push m n) (at + 9) ≡ commandBy code bytes at
+  pub push-read : (m n : ℕ) → code ≡ 6 → There 4 1 bytes m → There 4 5 bytes n → Next (Call (Push m n)) at ≡ commandBy code bytes at
   unfolding commandBy
-  push-read m n e tm tn = rw (e, tm .is, tn .is) (complete 9 bytes at _ (tn .fits))
+  push-read m n e tm tn = rw (e, tm .is, tn .is) (complete bytes at _ (tn .fits))
 
-  pub pop-read : code ≡ 7 → 0 < length bytes → Next Pop (at + 1) ≡ commandBy code bytes at
+  pub pop-read : code ≡ 7 → 0 < length bytes → Next (Call Pop) at ≡ commandBy code bytes at
   unfolding commandBy
-  pop-read e h = rw e (complete 1 bytes at _ h)
+  pop-read e h = rw e (complete bytes at _ h)
 
 drop-all : (n : ℕ) (l : List ℕ) → length l ≤ n → drop n l ≡ []
 drop-all zero [] h = refl

@@ -1,11 +1,15 @@
 -- Which commands the bytes of a script are: paper 01, "Scripts for gatewalk". A command is its byte and then its operands, big-endian.
-use Prim.Native.Nat.{ℕ, _+_, _*_}
+use Prim.Native.Nat.{ℕ, zero, suc, _+_, _*_}
 use mathlib.Core.List.{List, [], _∷_}
 use lib.ListN.{length, take, drop}
 use lib.Dec.{eqb, leb}
 use Rattle.topology.specs.Reader.{pick}
+use Rattle.commands.specs.declared.Setup.{Setup as SetupCommand}
+use Rattle.commands.specs.declared.Setup.the-variants.{Source, Target, Limit}
+use Rattle.commands.specs.declared.Call.{Call as CallCommand}
+use Rattle.commands.specs.declared.Call.the-variants.{Step, Push, Pop}
 use Rattle.commands.specs.declared.Command.{Command}
-use Rattle.commands.specs.declared.Command.the-variants.{Source, Target, Limit, Compile, Step, Push, Pop}
+use Rattle.commands.specs.declared.Command.the-variants.{Setup, Compile, Call}
 use Rattle.commands.specs.declared.Read.{Read}
 use Rattle.commands.specs.declared.Read.the-variants.{End, Next, Refused}
 
@@ -18,25 +22,67 @@ number before (b ∷ bs) = number (before * 256 + b) bs
 unfoldable pub operand : ℕ → ℕ → List ℕ → ℕ
 operand place count bytes = number 0 (take count (drop place bytes))
 
--- A command of so many bytes, with the offset of the next; 21 where the script ends before it does.
-unfoldable pub sized : ℕ → List ℕ → ℕ → Command → Read
-sized size bytes at c = pick (leb size (length bytes)) (Next c (at + size)) (Refused 21 at)
+-- how many bytes a command has
+abbrev pub setupSize : SetupCommand → ℕ
+setupSize (Source b) = 2
+setupSize (Target b) = 2
+setupSize (Limit n) = 3
 
--- The command that stands at an offset, where `bytes` is the script from there on: by its first byte, in the order of the tests 20, 21.
+abbrev pub callSize : CallCommand → ℕ
+callSize (Step i r) = 6
+callSize (Push p r) = 9
+callSize Pop = 1
+
+abbrev pub sizeOf : Command → ℕ
+sizeOf (Setup c) = setupSize c
+sizeOf Compile = 1
+sizeOf (Call c) = callSize c
+
+-- a command at an offset, where the script from there on is `bytes`; 21 where it ends before the command does
+unfoldable pub sized : List ℕ → ℕ → Command → Read
+sized bytes at c = pick (leb (sizeOf c) (length bytes)) (Next c at) (Refused 21 at)
+
+-- the command by its first byte, in the order of the tests 20, 21
 unfoldable pub commandBy : ℕ → List ℕ → ℕ → Read
 commandBy code bytes at =
-    let f7 = pick (eqb code 7) (sized 1 bytes at Pop) (Refused 20 at) in
-    let f6 = pick (eqb code 6) (sized 9 bytes at (Push (operand 1 4 bytes) (operand 5 4 bytes))) f7 in
-    let f5 = pick (eqb code 5) (sized 6 bytes at (Step (operand 1 1 bytes) (operand 2 4 bytes))) f6 in
-    let f4 = pick (eqb code 4) (sized 1 bytes at Compile) f5 in
-    let f3 = pick (eqb code 3) (sized 3 bytes at (Limit (operand 1 2 bytes))) f4 in
-    let f2 = pick (eqb code 2) (sized 2 bytes at (Target (operand 1 1 bytes))) f3 in
-    pick (eqb code 1) (sized 2 bytes at (Source (operand 1 1 bytes))) f2
+    let f7 = pick (eqb code 7) (sized bytes at (Call Pop)) (Refused 20 at) in
+    let f6 = pick (eqb code 6) (sized bytes at (Call (Push (operand 1 4 bytes) (operand 5 4 bytes)))) f7 in
+    let f5 = pick (eqb code 5) (sized bytes at (Call (Step (operand 1 1 bytes) (operand 2 4 bytes)))) f6 in
+    let f4 = pick (eqb code 4) (sized bytes at Compile) f5 in
+    let f3 = pick (eqb code 3) (sized bytes at (Setup (Limit (operand 1 2 bytes)))) f4 in
+    let f2 = pick (eqb code 2) (sized bytes at (Setup (Target (operand 1 1 bytes)))) f3 in
+    pick (eqb code 1) (sized bytes at (Setup (Source (operand 1 1 bytes)))) f2
 
 abbrev pub commandOf : List ℕ → ℕ → Read
 commandOf [] at = End
 commandOf (code ∷ rest) at = commandBy code (code ∷ rest) at
 
--- what the script's reader finds at an offset
+-- what stands at an offset
 unfoldable pub readAt : List ℕ → ℕ → Read
 readAt script at = commandOf (drop at script) at
+
+-- where the next command begins: behind the one at an offset, or there where none is
+abbrev pub behind : ℕ → Read → ℕ
+behind at End = at
+behind at (Next c offset) = at + sizeOf c
+behind at (Refused n offset) = at
+
+unfoldable pub nextAt : List ℕ → ℕ → ℕ
+nextAt script at = behind at (readAt script at)
+
+-- What a reader finds from an offset on, up to and with the end of the script or a refusal by 20 or 21; `more` is what it finds behind the
+-- first command.
+abbrev pub readsBy : Read → List Read → List Read
+readsBy End more = End ∷ []
+readsBy (Next c at) more = Next c at ∷ more
+readsBy (Refused n at) more = Refused n at ∷ []
+
+abbrev pub readsFrom : ℕ → List ℕ → ℕ → List Read
+readsFrom zero script at = []
+readsFrom (suc most) script at =
+    let more = readsFrom most script (nextAt script at) in
+    readsBy (readAt script at) more
+
+-- A script of n bytes has at most n commands, and its end is one read more.
+unfoldable pub reads : List ℕ → ℕ → List Read
+reads script at = readsFrom (suc (length script)) script at

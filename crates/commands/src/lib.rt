@@ -1,17 +1,22 @@
 // The reader of a script's commands.
+mod cursor;
 mod operands;
 
 ghost use mathlib.Core.Path.{_≡_};
-ghost use Rattle.commands.specs.Reading.{readAt};
+ghost use Rattle.commands.specs.Reading.{readAt, nextAt};
+ghost use Rattle.commands.specs.Batches.{finds, after, readsOf};
 
-// A command with its operands.
-pub enum Command {
+// What a script gives before 04.
+pub enum Setup {
     // a node of the source, and of the target: its number of children
     Source(u8),
     Target(u8),
     // the packet limit
     Limit(u32),
-    Compile,
+}
+
+// What a script asks after 04.
+pub enum Call {
     // a step's child and rank
     Step(u8, u32),
     // a push's packet and leaf rank
@@ -19,37 +24,60 @@ pub enum Command {
     Pop,
 }
 
-// What the reader finds: the end of the script; a command, and the offset of the next; or a refusal's number and the command's offset.
+// A command with its operands.
+pub enum Command {
+    Setup(Setup),
+    Compile,
+    Call(Call),
+}
+
+// What a reader finds: the end of the script; a command and its offset; or a refusal's number and its command's offset.
 pub enum Read {
     End,
     Next(Command, usize),
     Refused(u8, usize),
 }
 
+// As a field an array of enums is not covered by the prover, so that each of them stands in a struct.
+pub struct Slot {
+    pub read: Read,
+}
+
+// What a reader finds in 256 reads, one behind the other.
+pub struct Batch {
+    pub slots: [Slot; 256],
+}
+
 // The script reader: the script, and the offset of its next command. A function over a struct that holds a slice is proved by hand, so
-// the two over this one are thin, and `operands::command_at`, on the slice and the number, does the work.
-struct Reader<'a> {
+// those over this one are thin, and the functions of `cursor`, on the slice and the number, do the work.
+pub struct Reader<'a> {
     pub script: &'a [u8],
     pub at: usize,
 }
 
 // A reader whose next command is at an offset.
-fn reader_at<'a>(script: &'a [u8], at: usize) -> Reader<'a>
+pub fn reader_at<'a>(script: &'a [u8], at: usize) -> Reader<'a>
     ensures { λ r. ⌜ (r .script ≡ script .entry) × (r .at ≡ at) ⌝ }
 {
     Reader { script, at }
 }
 
-// The reader's next command.
-fn next<'a>(reader: Reader<'a>) -> Read
-    ensures { λ r. ⌜ r ≡ readAt (now (reader .entry .script)) (reader .entry .at) ⌝ }
-{
-    operands::command_at(reader.script, reader.at)
-}
+impl<'a> Reader<'a> {
+    // The next command. The reader moves behind it, and stays where there is none.
+    pub fn next(&mut self) -> Read
+        ensures { λ r. ⌜ (r ≡ readAt (now (now (self .entry) .script)) (now (self .entry) .at)) × (now (self .exit) .script ≡ now (self .entry) .script) × (now (self .exit) .at ≡ nextAt (now (now (self .entry) .script)) (now (self .entry) .at)) ⌝ }
+    {
+        let found = cursor::found_at(self.script, self.at);
+        self.at = found.next;
+        found.read
+    }
 
-// The command at an offset of a script.
-pub fn read_at(script: &[u8], at: usize) -> Read
-    ensures { λ r. ⌜ r ≡ readAt (now (script .entry)) at ⌝ }
-{
-    next(reader_at(script, at))
+    // The next 256 reads at once: a caller whose own values are large passes them on once for all of these.
+    pub fn next_batch(&mut self) -> Batch
+        ensures { λ r. ⌜ (readsOf (r .slots) ≡ finds 256 (now (now (self .entry) .script)) (now (self .entry) .at)) × (now (self .exit) .script ≡ now (self .entry) .script) × (now (self .exit) .at ≡ after 256 (now (now (self .entry) .script)) (now (self .entry) .at)) ⌝ }
+    {
+        let found = cursor::batch_at(self.script, self.at);
+        self.at = found.next;
+        found.batch
+    }
 }

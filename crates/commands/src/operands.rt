@@ -1,8 +1,10 @@
 // The command at an offset of a script, and its operands.
+use super::Call;
 use super::Command;
 use super::Read;
+use super::Setup;
 ghost use mathlib.Core.Path.{_≡_};
-ghost use Prim.Native.Nat.{_+_, _<_, _≤_, _^_};
+ghost use Prim.Native.Nat.{_<_, _≤_};
 ghost use lib.ListN.{length};
 ghost use Rattle.commands.specs.Reading.{readAt, commandBy};
 ghost use Rattle.commands.specs.Operands.{byteAt, wordAt, Below};
@@ -60,7 +62,7 @@ fn word_at(bytes: &[u8], place: usize) -> Word
 
 // The command whose first byte is `code`, where `bytes` is the script from its offset on.
 fn command_by(code: u8, bytes: &[u8], at: usize) -> Read
-    requires { ⌜ (0 < length (now bytes)) × (at + length (now bytes) < 2 ^ 64) ⌝ }
+    requires { ⌜ 0 < length (now bytes) ⌝ }
     ensures { λ r. ⌜ r ≡ commandBy code (now (bytes .entry)) at ⌝ }
 {
     match code {
@@ -68,21 +70,21 @@ fn command_by(code: u8, bytes: &[u8], at: usize) -> Read
             let Byte::Is(node) = byte_at(bytes, 1) else {
                 return Read::Refused(21, at);
             };
-            Read::Next(Command::Source(node), at + 2)
+            Read::Next(Command::Setup(Setup::Source(node)), at)
         }
         2 => {
             let Byte::Is(node) = byte_at(bytes, 1) else {
                 return Read::Refused(21, at);
             };
-            Read::Next(Command::Target(node), at + 2)
+            Read::Next(Command::Setup(Setup::Target(node)), at)
         }
         3 => {
             let Word::Is(limit) = half_at(bytes, 1) else {
                 return Read::Refused(21, at);
             };
-            Read::Next(Command::Limit(limit), at + 3)
+            Read::Next(Command::Setup(Setup::Limit(limit)), at)
         }
-        4 => Read::Next(Command::Compile, at + 1),
+        4 => Read::Next(Command::Compile, at),
         5 => {
             let Byte::Is(child) = byte_at(bytes, 1) else {
                 return Read::Refused(21, at);
@@ -90,7 +92,7 @@ fn command_by(code: u8, bytes: &[u8], at: usize) -> Read
             let Word::Is(rank) = word_at(bytes, 2) else {
                 return Read::Refused(21, at);
             };
-            Read::Next(Command::Step(child, rank), at + 6)
+            Read::Next(Command::Call(Call::Step(child, rank)), at)
         }
         6 => {
             let Word::Is(packet) = word_at(bytes, 1) else {
@@ -99,9 +101,9 @@ fn command_by(code: u8, bytes: &[u8], at: usize) -> Read
             let Word::Is(leaf_rank) = word_at(bytes, 5) else {
                 return Read::Refused(21, at);
             };
-            Read::Next(Command::Push(packet, leaf_rank), at + 9)
+            Read::Next(Command::Call(Call::Push(packet, leaf_rank)), at)
         }
-        7 => Read::Next(Command::Pop, at + 1),
+        7 => Read::Next(Command::Call(Call::Pop), at),
         _ => Read::Refused(20, at),
     }
 }

@@ -30,13 +30,13 @@ use Rattle.embedding_search.proofs.Found.{faultless, images-pass}
 use Rattle.pair_state.proofs.Kept.{both-found}
 use Rattle.pair_state.proofs.Numbers.{both-most}
 use Rattle.gathering.specs.Gathering.{gathered}
+use Rattle.gathering.proofs.Endings.{Inside, ends-inside}
 use Rattle.gathering.specs.declared.Ending.{Ending}
 use Rattle.gathering.specs.declared.Ending.the-variants.{End, Refused, Compile}
 use Rattle.drawing.specs.Elements.{opening, head, limb, numbered, mark, join, note}
 use Rattle.drawing.specs.Sheet.{column, row, each, limbOf, className, nodeOf, treeOf, joinOf, joinsOf, titles, pairOf}
 use Rattle.drawing.specs.Sheet.{foot, refusedEnd, refusal, refusedSheet, nothing, sheet, limitIn, sheetBy, scriptSheet}
 use Rattle.drawing.proofs.Sheets.{unmapped-trees, sheet-mapped, sheet-refused}
-use Rattle.drawing.proofs.Endings.{Inside, ends-inside}
 
 -- ---- the elements at their largest numbers
 
@@ -268,5 +268,5 @@ sheet-fits script h = by-ending (gathered script .ending) (ends-inside script)
     by-ending : (e : Ending) → Inside (length script) e → length (sheetBy e (gathered script)) ≤ 19333
     by-ending End i = omega (arith, nothing-length)
     by-ending (Refused n offset) i = omega (arith, refusal-length n offset (i .0) (omega (arith, i .1)))
-    by-ending (Compile at next) i =
+    by-ending (Compile at) i =
         sheet-length (gathered script .source) (gathered script .target) (limitIn (gathered script .limit)) at (omega (arith, i))

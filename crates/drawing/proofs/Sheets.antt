@@ -95,13 +95,13 @@ module _ (script : List ℕ) where
   pub ends-refused : (n offset : ℕ) → gathered script .ending ≡ Refused n offset → refusal n offset ≡ scriptSheet script
   ends-refused n offset q = by-ending (Refused n offset) q
 
-  pub ends-compiled : (d : Drawing) (at next : ℕ) → Draws d (gathered script .source) (gathered script .target) (gathered script .limit)
-      → gathered script .ending ≡ Compile at next
+  pub ends-compiled : (d : Drawing) (at : ℕ) → Draws d (gathered script .source) (gathered script .target) (gathered script .limit)
+      → gathered script .ending ≡ Compile at
       → sheet (take (d .nodes) (d .source)) (take (d .places) (d .target)) (d .limit) at ≡ scriptSheet script
-  ends-compiled d at next w q =
-      let n = limited script at next q in
+  ends-compiled d at w q =
+      let n = limited script at q in
       rw (w .source .are, w .target .are, limit-is (d .limited) (d .limit) (gathered script .limit) (n .0) (w .limit) (n .1))
-      (sheet-kept (gathered script .source) (gathered script .target) (limitIn (gathered script .limit)) at ∙ by-ending (Compile at next) q)
+      (sheet-kept (gathered script .source) (gathered script .target) (limitIn (gathered script .limit)) at ∙ by-ending (Compile at) q)
     where
       limit-is : (b : Bool) (m : ℕ) (l : Option ℕ) (n : ℕ) → limitOf b m ≡ l → l ≡ some n → m ≡ limitIn l
       limit-is true m l n e f = rw (← e) refl

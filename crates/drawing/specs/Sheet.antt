@@ -104,7 +104,7 @@ limitIn (some n) = n
 abbrev pub sheetBy : Ending → Given → List ℕ
 sheetBy End g = nothing
 sheetBy (Refused n offset) g = refusal n offset
-sheetBy (Compile at next) g = sheet (g .source) (g .target) (limitIn (g .limit)) at
+sheetBy (Compile at) g = sheet (g .source) (g .target) (limitIn (g .limit)) at
 
 -- The drawing of a script, by how the commands before 04 end: of what 04 compiles, of a refusal before it, or of nothing.
 unfoldable pub scriptSheet : List ℕ → List ℕ

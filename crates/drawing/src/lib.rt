@@ -242,12 +242,12 @@ fn draw_kept(drawing: Drawing, at: usize, out: &mut [u8]) -> usize
 pub fn draw_script(script: &[u8], out: &mut [u8]) -> usize
     ensures { λ r. ⌜ Puts (now (out .entry)) 0 (scriptSheet (now (script .entry))) (now (out .exit)) r ⌝ }
 {
-    let gathered = gathering::gather(script);
+    let gathered = gathering::gathered_of(script);
     let drawing = gathered.drawing;
     let ending = gathered.ending;
     match ending {
         Ending::End => draw_nothing(out, 0),
         Ending::Refused(number, offset) => draw_refusal(number, offset, out, 0),
-        Ending::Compile(at, _) => draw_kept(drawing, at, out),
+        Ending::Compile(at) => draw_kept(drawing, at, out),
     }
 }

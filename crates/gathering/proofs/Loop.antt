@@ -1,148 +1,110 @@
--- What the loop of `gather` knows: the code has what is gathered so far, and what is gathered from here on completes the definition. A
--- command that gives something is added to both sides (`gives-on`); any other ends both (`ends-at`).
+-- What the loop of `gather` knows: while it goes on, the code has what is gathered so far, and what is gathered from here on completes the
+-- definition; once it stops, it has all, and the reader finds what the definition says is left. `turn` is one command.
 use mathlib.Core.Path.{_≡_, refl, sym, ap, _∙_}
-use Prim.Native.Nat.{ℕ, zero, suc, _+_, _-_, _<_}
+use Prim.Native.Nat.{ℕ, zero, suc, _+_, _<_}
 use native.Mathlib.Omega.{arith}
 use mathlib.Core.List.{List, [], _∷_, _++_}
 use mathlib.Core.Bool.{Bool, true, false}
 use mathlib.Core.Option.{Option, none, some}
 use lib.ListN.{length}
+use Rattle.topology.specs.Reader.{pick}
+use Rattle.topology.proofs.Cases.{clash}
+use Rattle.commands.specs.declared.Setup.the-variants.{Source, Target, Limit}
 use Rattle.commands.specs.declared.Command.{Command}
-use Rattle.commands.specs.declared.Command.the-variants.{Source, Target, Limit, Compile, Step, Push, Pop}
+use Rattle.commands.specs.declared.Command.the-variants.{Setup, Compile, Call}
 use Rattle.commands.specs.declared.Read.{Read}
 use Rattle.commands.specs.declared.Read.the-variants.{End, Next, Refused}
+use Rattle.commands.specs.Reading.{readAt, nextAt, readsBy, reads}
+use Rattle.commands.proofs.Found.{further, next-is}
+use Rattle.commands.proofs.Onward.{reads-by}
 use Rattle.gathering.specs.declared.Ending.{Ending}
 use Rattle.gathering.specs.declared.Ending.the-variants.{End as AtEnd, Refused as AtRefusal, Compile as AtCompile}
 use Rattle.gathering.specs.declared.Drawing.{Drawing}
-use Rattle.gathering.specs.declared.turns.Found.the-variants.{Ends, Gives}
-use Rattle.commands.specs.Reading.{readAt}
-use Rattle.gathering.specs.Gathering.{Given, ended, gatherBy, gatherFrom, gathered, limitOf, Draws, Gathers}
-use Rattle.gathering.specs.Turns.{turnOf, foundBy}
+use Rattle.gathering.specs.declared.Gathered.{Gathered}
+use Rattle.gathering.specs.declared.turns.Gathering.{Gathering}
+use Rattle.gathering.specs.Gathering.{Given, ended, gatherBy, gatherReads, gathered, limitOf, Draws, Gathers}
+use Rattle.gathering.specs.Turns.{outOfTurn, stopped, inTurn, added}
 use Rattle.gathering.specs.Adding.{Undrawn, given}
-use Rattle.commands.proofs.Numbers.{read-end}
-use Rattle.topology.proofs.Cases.{clash}
-use Rattle.commands.proofs.Found.{further, next-inside}
 use Rattle.gathering.proofs.Keeping.{undrawn, draws-source, draws-target, draws-limit}
 
--- a command that gives something: what is gathered then
-record On (r : Read) (at : ℕ) (s t : List ℕ) (l : Option ℕ) (d : Drawing) (c : Command) (next : ℕ) : Type 0 where
-  source : List ℕ
-  target : List ℕ
-  limit : Option ℕ
-  is : r ≡ Next c next
-  draws : Draws (given d c) source target limit
-  goes : (more : ℕ → List ℕ → List ℕ → Option ℕ → Given) → gatherBy r at s t l more ≡ more next source target limit
+module _ (script : List ℕ) (total : Given) where
+  -- while the loop goes on, with at most n reads to come from an offset on
+  pub record Going (n at : ℕ) (d : Drawing) : Type 0 where
+    pub source : List ℕ
+    pub target : List ℕ
+    pub limit : Option ℕ
+    pub draws : Draws d source target limit
+    pub rest : gatherReads (reads script at) source target limit ≡ total
+    pub enough : length script < at + n
+    pub some : 0 < n
 
-module _ (at : ℕ) (s t : List ℕ) (l : Option ℕ) (d : Drawing) (w : Draws d s t l) where
-  limit-is : (b : Bool) → d .limited ≡ b → limitOf b (d .limit) ≡ l
-  limit-is b q = rw (← q) (w .limit)
+  -- once it stops
+  pub record Over (at : ℕ) (g : Gathering) : Type 0 where
+    pub gathers : Gathers total (g .gathered)
+    pub left : reads script at ≡ total .left
 
-  gives-on : (c : Command) (next : ℕ) (r : Read) → foundBy r at (d .limited) ≡ Gives c next → On r at s t l d c next
-  gives-on c next End e = absurd (clash (cc))
-  gives-on c next (Refused n offset) e = absurd (clash (cc))
-  gives-on c next (Next (Source b) after) e =
-      let q : c ≡ Source b = cc in
-      let p : after ≡ next = cc in
-      record { source = s ++ (b ∷ []); target = t; limit = l; is = rw (q, p) refl; draws = rw q (draws-source d s t l w b); goes = λ more. rw p refl }
-  gives-on c next (Next (Target b) after) e =
-      let q : c ≡ Target b = cc in
-      let p : after ≡ next = cc in
-      record { source = s; target = t ++ (b ∷ []); limit = l; is = rw (q, p) refl; draws = rw q (draws-target d s t l w b); goes = λ more. rw p refl }
-  gives-on c next (Next (Limit n) after) e = by-limit (d .limited) refl e
-    where
-      by-limit : (b : Bool) → d .limited ≡ b → turnOf b at (Limit n) after ≡ Gives c next → On (Next (Limit n) after) at s t l d c next
-      by-limit true f e = absurd (clash (cc))
-      by-limit false f e =
-          let q : c ≡ Limit n = cc in
-          let p : after ≡ next = cc in
-          record {
-            source = s;
-            target = t;
-            limit = some n;
-            is = rw (q, p) refl;
-            draws = rw q (draws-limit d s t l w n);
-            goes = λ more. rw (← limit-is false f, p) refl;
-          }
-  gives-on c next (Next Compile after) e = by-limit (d .limited) e
-    where
-      by-limit : (b : Bool) → turnOf b at Compile after ≡ Gives c next → On (Next Compile after) at s t l d c next
-      by-limit true e = absurd (clash (cc))
-      by-limit false e = absurd (clash (cc))
-  gives-on c next (Next (Step i x) after) e = absurd (clash (cc))
-  gives-on c next (Next (Push p x) after) e = absurd (clash (cc))
-  gives-on c next (Next Pop after) e = absurd (clash (cc))
+  pub record Inv (n at : ℕ) (g : Gathering) : Type 0 where
+    pub goes : g .going ≡ true → Going n at (g .gathered .drawing)
+    pub over : g .going ≡ false → Over at g
 
-  ends-at : (g : Ending) (r : Read) (more : ℕ → List ℕ → List ℕ → Option ℕ → Given) → foundBy r at (d .limited) ≡ Ends g
-      → gatherBy r at s t l more ≡ ended s t l g
-  ends-at g End more e = let q : g ≡ AtEnd = cc in rw q refl
-  ends-at g (Refused n offset) more e = let q : g ≡ AtRefusal n offset = cc in rw q refl
-  ends-at g (Next (Source b) after) more e = absurd (clash (cc))
-  ends-at g (Next (Target b) after) more e = absurd (clash (cc))
-  ends-at g (Next (Limit n) after) more e = by-limit (d .limited) refl e
-    where
-      by-limit : (b : Bool) → d .limited ≡ b → turnOf b at (Limit n) after ≡ Ends g → gatherBy (Next (Limit n) after) at s t l more ≡ ended s t l g
-      by-limit true f e = let q : g ≡ AtRefusal 22 at = cc in rw (← limit-is true f, q) refl
-      by-limit false f e = absurd (clash (cc))
-  ends-at g (Next Compile after) more e = by-limit (d .limited) refl e
-    where
-      by-limit : (b : Bool) → d .limited ≡ b → turnOf b at Compile after ≡ Ends g → gatherBy (Next Compile after) at s t l more ≡ ended s t l g
-      by-limit true f e = let q : g ≡ AtCompile at after = cc in rw (← limit-is true f, q) refl
-      by-limit false f e = let q : g ≡ AtRefusal 22 at = cc in rw (← limit-is false f, q) refl
-  ends-at g (Next (Step i x) after) more e = let q : g ≡ AtRefusal 22 at = cc in rw q refl
-  ends-at g (Next (Push p x) after) more e = let q : g ≡ AtRefusal 22 at = cc in rw q refl
-  ends-at g (Next Pop after) more e = let q : g ≡ AtRefusal 22 at = cc in rw q refl
+  stops : (n at : ℕ) (d : Drawing) (s t : List ℕ) (l : Option ℕ) → Draws d s t l → (e : Ending) (rest : List Read) → ended s t l e rest ≡ total
+      → reads script at ≡ rest → Inv n at (stopped d e)
+  stops n at d s t l w e rest q f =
+      record { goes = λ g. absurd (clash (cc)); over = λ _. rw (← q) (record { gathers = record { draws = w; ending = refl }; left = f }) }
 
--- the loop's invariant
-pub record Going (script : List ℕ) (d : Drawing) (at : ℕ) : Type 0 where
-  pub source : List ℕ
-  pub target : List ℕ
-  pub limit : Option ℕ
-  pub draws : Draws d source target limit
-  pub commands : ℕ
-  pub enough : length script < at + commands
-  pub rest : gatherFrom script commands at source target limit ≡ gathered script
+  goes-on : (n at : ℕ) (d : Drawing) (s t : List ℕ) (l : Option ℕ) → Draws d s t l → gatherReads (reads script at) s t l ≡ total
+      → length script < at + n → 0 < n → Inv n at (record { gathered = record { drawing = d; ending = AtEnd }; going = true })
+  goes-on n at d s t l w q e z =
+      record {
+        goes = λ _. record { source = s; target = t; limit = l; draws = w; rest = q; enough = e; some = z };
+        over = λ g. absurd (clash (cc));
+      }
 
-pub start : (script : List ℕ) (d : Drawing) → Undrawn d → Going script d 0
+  -- a command that was read at `offset`, where the reader now stands at `at`, by whether the limit is given
+  module _ (n at : ℕ) (e : length script < at + n) (z : 0 < n) (d : Drawing) (s t : List ℕ) (k offset : ℕ) where
+    by-command : (c : Command) (b : Bool) → Draws d s t (limitOf b k)
+        → gatherBy c offset (reads script at) s t (limitOf b k) (λ s t l. gatherReads (reads script at) s t l) ≡ total
+        → Inv n at (pick (outOfTurn b c) (stopped d (AtRefusal 22 offset)) (inTurn d c offset))
+    by-command (Setup (Source x)) b w q = goes-on n at (given d (Source x)) (s ++ (x ∷ [])) t (limitOf b k) (draws-source d s t (limitOf b k) w x) q e z
+    by-command (Setup (Target x)) b w q = goes-on n at (given d (Target x)) s (t ++ (x ∷ [])) (limitOf b k) (draws-target d s t (limitOf b k) w x) q e z
+    by-command (Setup (Limit m)) true w q = stops n at d s t (some k) w (AtRefusal 22 offset) (reads script at) q refl
+    by-command (Setup (Limit m)) false w q = goes-on n at (given d (Limit m)) s t (some m) (draws-limit d s t none w m) q e z
+    by-command Compile true w q = stops n at d s t (some k) w (AtCompile offset) (reads script at) q refl
+    by-command Compile false w q = stops n at d s t none w (AtRefusal 22 offset) (reads script at) q refl
+    by-command (Call c) b w q = stops n at d s t (limitOf b k) w (AtRefusal 22 offset) (reads script at) q refl
+
+  -- what was read, where the reader stood at `at`
+  by-read : (d : Drawing) (s t : List ℕ) (l : Option ℕ) → Draws d s t l → (n at : ℕ) → length script < at + suc n → (r : Read) → readAt script at ≡ r
+      → gatherReads (readsBy r (reads script (nextAt script at))) s t l ≡ total → Inv n (nextAt script at) (added d r)
+  by-read d s t l w n at e End f q =
+      let same : nextAt script at ≡ at = sym (next-is script at End f) in
+      stops n (nextAt script at) d s t l w AtEnd (End ∷ []) q (ap (reads script) same ∙ reads-by script at ∙ rw f refl)
+  by-read d s t l w n at e (Refused m offset) f q =
+      let same : nextAt script at ≡ at = sym (next-is script at (Refused m offset) f) in
+      stops n (nextAt script at) d s t l w (AtRefusal m offset) (Refused m offset ∷ []) q (ap (reads script) same ∙ reads-by script at ∙ rw f refl)
+  by-read d s t l w n at e (Next c offset) f q =
+      let g = further script at c offset f in
+      by-command n (nextAt script at) (omega (arith, g, e)) (omega (arith, g, e)) d s t (d .limit) offset c (d .limited)
+      (rw (w .limit) w) (rw (w .limit) q)
+
+  pub turn : (n at : ℕ) (g : Gathering) → g .going ≡ true → Inv n at g → (r : Read) → r ≡ readAt script at
+      → (g′ : Gathering) → g′ ≡ added (g .gathered .drawing) r → (m : ℕ) × (m < n) × Inv m (nextAt script at) g′
+  turn zero at g go i r e g′ e′ = absurd (omega (arith, i .goes go .some))
+  turn (suc m) at g go i r e g′ e′ =
+      let h = i .goes go in
+      let next =
+      by-read (g .gathered .drawing) (h .source) (h .target) (h .limit) (h .draws) m at (h .enough) (readAt script at) refl
+      (ap (λ (l : List Read). gatherReads l (h .source) (h .target) (h .limit)) (sym (reads-by script at)) ∙ h .rest) in
+      (m, omega arith, rw (e′, e) next)
+
+pub begins : (script : List ℕ) (at : ℕ) (g : Gathering) → Undrawn (g .gathered .drawing) × (g .going ≡ true)
+    → Inv script (gatherReads (reads script at) [] [] none) (suc (length script)) at g
+begins script at g u =
+    record {
+      goes = λ _. record { source = []; target = []; limit = none; draws = undrawn (g .gathered .drawing) (u .0); rest = refl; enough = omega arith; some = omega arith };
+      over = λ q. absurd (clash (let z : true ≡ false = sym (u .1) ∙ q in cc));
+    }
+
+pub of-script : (script : List ℕ) (r : Gathered) → Gathers (gatherReads (reads script 0) [] [] none) r → Gathers (gathered script) r
 unfolding gathered
-start script d u =
-    record { source = []; target = []; limit = none; draws = undrawn d u; commands = suc (length script); enough = omega arith; rest = refl }
-
-module _ (script : List ℕ) (d : Drawing) (at : ℕ) (g : Going script d at) where
-  pub finish : (e : Ending) → foundBy (readAt script at) at (d .limited) ≡ Ends e → Gathers (gathered script) (record { drawing = d; ending = e })
-  finish e f =
-      rw (sym (g .rest) ∙ last (g .commands) (g .enough)) (record { draws = g .draws; ending = refl })
-    where
-      last : (k : ℕ) → length script < at + k → gatherFrom script k at (g .source) (g .target) (g .limit) ≡ ended (g .source) (g .target) (g .limit) e
-      last zero h =
-          let end = read-end script at (omega arith) in
-          let q : Ends AtEnd ≡ Ends e = ap (λ (r : Read). foundBy r at (d .limited)) end ∙ f in
-          let p : e ≡ AtEnd = cc in
-          rw p refl
-      last (suc k) h = ends-at at (g .source) (g .target) (g .limit) d (g .draws) e (readAt script at) (λ next s t l. gatherFrom script k next s t l) f
-
-  module _ (c : Command) (next : ℕ) (f : foundBy (readAt script at) at (d .limited) ≡ Gives c next) where
-    on : On (readAt script at) at (g .source) (g .target) (g .limit) d c next
-    on = gives-on at (g .source) (g .target) (g .limit) d (g .draws) c next (readAt script at) f
-
-    pub again : Going script (given d c) next
-    again = by-commands (g .commands) (g .enough) refl
-      where
-        by-commands : (k : ℕ) → length script < at + k → g .commands ≡ k → Going script (given d c) next
-        by-commands zero h q = absurd (omega (arith, next-inside script at c next (on .is)))
-        by-commands (suc k) h q =
-            record {
-              source = on .source;
-              target = on .target;
-              limit = on .limit;
-              draws = on .draws;
-              commands = k;
-              enough = omega (arith, further script at c next (on .is));
-              rest =
-                  sym (on .goes (λ next s t l. gatherFrom script k next s t l))
-                  ∙ ap (λ (k : ℕ). gatherFrom script k at (g .source) (g .target) (g .limit)) (sym q)
-                  ∙ g .rest;
-            }
-
-    -- each command brings the end nearer
-    pub nearer : length script - next < length script - at
-    nearer = omega (arith, further script at c next (on .is), next-inside script at c next (on .is))
+of-script script r g = g

@@ -1,34 +1,24 @@
--- What a `match` with a last arm `_` knows there of a command: it is one of those that no arm before names.
+-- A command in turn, by whether it gives something; the `else` of a `let` knows that it does not.
 use mathlib.Core.Path.{_≡_, refl}
 use Prim.Native.Nat.{ℕ}
 use mathlib.Core.List.{[], _∷_}
-use mathlib.Core.Bool.{Bool}
+use mathlib.Core.Bool.{true}
 use types.Run.{OneOf, miss}
 use denote.Enum.Declared.{tagOf}
+use Rattle.commands.specs.declared.Setup.{Setup as SetupCommand}
 use Rattle.commands.specs.declared.Command.{Command}
-use Rattle.commands.specs.declared.Command.the-variants.{Source, Target, Limit, Compile, Step, Push, Pop}
-use Rattle.gathering.specs.declared.Ending.the-variants.{Refused as AtRefusal}
-use Rattle.gathering.specs.declared.Drawing.{Drawing}
-use Rattle.gathering.specs.declared.turns.Found.the-variants.{Ends}
-use Rattle.gathering.specs.Turns.{turnOf}
-use Rattle.gathering.specs.Adding.{given}
+use Rattle.commands.specs.declared.Command.the-variants.{Setup, Compile, Call}
 use Rattle.commands.proofs.Command.{the-type}
+use Rattle.gathering.specs.declared.Ending.the-variants.{End as AtEnd, Compile as AtCompile}
+use Rattle.gathering.specs.declared.Drawing.{Drawing}
+use Rattle.gathering.specs.Turns.{stopped, inTurn}
+use Rattle.gathering.specs.Adding.{given}
 
-pub calls-early : (limited : Bool) (at : ℕ) (c : Command) (next : ℕ) → OneOf (4 ∷ 5 ∷ 6 ∷ []) (tagOf the-type c)
-    → Ends (AtRefusal 22 at) ≡ turnOf limited at c next
-calls-early limited at (Source b) next h = absurd (miss (4 ∷ 5 ∷ 6 ∷ []) 0 tt h)
-calls-early limited at (Target b) next h = absurd (miss (4 ∷ 5 ∷ 6 ∷ []) 1 tt h)
-calls-early limited at (Limit n) next h = absurd (miss (4 ∷ 5 ∷ 6 ∷ []) 2 tt h)
-calls-early limited at Compile next h = absurd (miss (4 ∷ 5 ∷ 6 ∷ []) 3 tt h)
-calls-early limited at (Step i r) next h = refl
-calls-early limited at (Push p r) next h = refl
-calls-early limited at Pop next h = refl
+pub gives : (d : Drawing) (c : Command) (s : SetupCommand) (at : ℕ) (n : Drawing) → c ≡ Setup s → n ≡ given d s
+    → record { gathered = record { drawing = n; ending = AtEnd }; going = true } ≡ inTurn d c at
+gives d c s at n e f = rw (e, f) refl
 
-pub gives-none : (d : Drawing) (c : Command) → OneOf (3 ∷ 4 ∷ 5 ∷ 6 ∷ []) (tagOf the-type c) → d ≡ given d c
-gives-none d (Source b) h = absurd (miss (3 ∷ 4 ∷ 5 ∷ 6 ∷ []) 0 tt h)
-gives-none d (Target b) h = absurd (miss (3 ∷ 4 ∷ 5 ∷ 6 ∷ []) 1 tt h)
-gives-none d (Limit n) h = absurd (miss (3 ∷ 4 ∷ 5 ∷ 6 ∷ []) 2 tt h)
-gives-none d Compile h = refl
-gives-none d (Step i r) h = refl
-gives-none d (Push p r) h = refl
-gives-none d Pop h = refl
+pub compiles : (d : Drawing) (c : Command) (at : ℕ) → OneOf (1 ∷ 2 ∷ []) (tagOf the-type c) → stopped d (AtCompile at) ≡ inTurn d c at
+compiles d (Setup s) at h = absurd (miss (1 ∷ 2 ∷ []) 0 tt h)
+compiles d Compile at h = refl
+compiles d (Call c) at h = refl

@@ -1,39 +1,38 @@
 -- Where what a script gives ends with an 04 in turn, the limit is given.
 use mathlib.Core.Path.{_≡_, refl}
-use Prim.Native.Nat.{ℕ, zero, suc}
+use Prim.Native.Nat.{ℕ}
 use mathlib.Core.List.{List, [], _∷_, _++_}
 use mathlib.Core.Option.{Option, none, some}
-use lib.ListN.{length}
-use Rattle.commands.specs.declared.Command.the-variants.{Source, Target, Limit, Compile, Step, Push, Pop}
+use Rattle.topology.proofs.Cases.{clash}
+use Rattle.commands.specs.declared.Setup.the-variants.{Source, Target, Limit}
+use Rattle.commands.specs.declared.Command.{Command}
+use Rattle.commands.specs.declared.Command.the-variants.{Setup, Compile, Call}
 use Rattle.commands.specs.declared.Read.{Read}
 use Rattle.commands.specs.declared.Read.the-variants.{End, Next, Refused}
+use Rattle.commands.specs.Reading.{reads}
 use Rattle.gathering.specs.declared.Ending.the-variants.{Compile as AtCompile}
-use Rattle.commands.specs.Reading.{readAt}
-use Rattle.gathering.specs.Gathering.{Given, gatherBy, gatherFrom, gathered}
-use Rattle.topology.proofs.Cases.{clash}
+use Rattle.gathering.specs.Gathering.{Given, gatherBy, gatherReads, gathered}
 
 abbrev Limited : Given → Type 0
-Limited g = (at next : ℕ) → g .ending ≡ AtCompile at next → (n : ℕ) × (g .limit ≡ some n)
+Limited g = (at : ℕ) → g .ending ≡ AtCompile at → (n : ℕ) × (g .limit ≡ some n)
 
-by-read : (at : ℕ) (s t : List ℕ) (l : Option ℕ) (r : Read) (more : ℕ → List ℕ → List ℕ → Option ℕ → Given)
-    → ((next : ℕ) (s t : List ℕ) (l : Option ℕ) → Limited (more next s t l)) → Limited (gatherBy r at s t l more)
-by-read at s t l End more h a n e = absurd (clash (cc))
-by-read at s t l (Refused f offset) more h a n e = absurd (clash (cc))
-by-read at s t l (Next (Source b) next) more h a n e = h next (s ++ (b ∷ [])) t l a n e
-by-read at s t l (Next (Target b) next) more h a n e = h next s (t ++ (b ∷ [])) l a n e
-by-read at s t none (Next (Limit m) next) more h a n e = h next s t (some m) a n e
-by-read at s t (some k) (Next (Limit m) next) more h a n e = absurd (clash (cc))
-by-read at s t none (Next Compile next) more h a n e = absurd (clash (cc))
-by-read at s t (some k) (Next Compile next) more h a n e = (k, refl)
-by-read at s t l (Next (Step i x) next) more h a n e = absurd (clash (cc))
-by-read at s t l (Next (Push p x) next) more h a n e = absurd (clash (cc))
-by-read at s t l (Next Pop next) more h a n e = absurd (clash (cc))
+by-command : (c : Command) (at : ℕ) (rest : List Read) (s t : List ℕ) (l : Option ℕ) (more : List ℕ → List ℕ → Option ℕ → Given)
+    → ((s t : List ℕ) (l : Option ℕ) → Limited (more s t l)) → Limited (gatherBy c at rest s t l more)
+by-command (Setup (Source b)) at rest s t l more h a e = h (s ++ (b ∷ [])) t l a e
+by-command (Setup (Target b)) at rest s t l more h a e = h s (t ++ (b ∷ [])) l a e
+by-command (Setup (Limit n)) at rest s t none more h a e = h s t (some n) a e
+by-command (Setup (Limit n)) at rest s t (some m) more h a e = absurd (clash (cc))
+by-command Compile at rest s t none more h a e = absurd (clash (cc))
+by-command Compile at rest s t (some n) more h a e = (n, refl)
+by-command (Call c) at rest s t l more h a e = absurd (clash (cc))
 
-limited-from : (script : List ℕ) (k at : ℕ) (s t : List ℕ) (l : Option ℕ) → Limited (gatherFrom script k at s t l)
-limited-from script zero at s t l a n e = absurd (clash (cc))
-limited-from script (suc k) at s t l a n e =
-    by-read at s t l (readAt script at) (λ next s t l. gatherFrom script k next s t l) (λ next s t l. limited-from script k next s t l) a n e
+limited-by : (rs : List Read) (s t : List ℕ) (l : Option ℕ) → Limited (gatherReads rs s t l)
+limited-by [] s t l a e = absurd (clash (cc))
+limited-by (End ∷ rest) s t l a e = absurd (clash (cc))
+limited-by (Next c at ∷ rest) s t l a e =
+    by-command c at rest s t l (λ s t l. gatherReads rest s t l) (λ s t l. limited-by rest s t l) a e
+limited-by (Refused n at ∷ rest) s t l a e = absurd (clash (cc))
 
 pub limited : (script : List ℕ) → Limited (gathered script)
 unfolding gathered
-limited script = limited-from script (suc (length script)) 0 [] [] none
+limited script = limited-by (reads script 0) [] [] none

@@ -5,8 +5,8 @@ use mathlib.Core.Bool.{true, false}
 use lib.ListN.{length, set}
 use lib.Dec.{ltb}
 use Rattle.topology.specs.Reader.{pick}
-use Rattle.commands.specs.declared.Command.{Command}
-use Rattle.commands.specs.declared.Command.the-variants.{Source, Target, Limit, Compile, Step, Push, Pop}
+use Rattle.commands.specs.declared.Setup.{Setup}
+use Rattle.commands.specs.declared.Setup.the-variants.{Source, Target, Limit}
 use Rattle.gathering.specs.declared.Drawing.{Drawing}
 
 pub record Undrawn (d : Drawing) : Type 0 where
@@ -32,11 +32,7 @@ unfoldable pub limitGiven : Drawing → ℕ → Drawing
 limitGiven d n = record { source = d .source; nodes = d .nodes; target = d .target; places = d .places; limit = n; limited = true }
 
 -- the drawing with what a command gives
-abbrev pub given : Drawing → Command → Drawing
+abbrev pub given : Drawing → Setup → Drawing
 given d (Source b) = sourceAdded d b
 given d (Target b) = targetAdded d b
 given d (Limit n) = limitGiven d n
-given d Compile = d
-given d (Step i r) = d
-given d (Push p r) = d
-given d Pop = d

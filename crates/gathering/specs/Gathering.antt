@@ -1,50 +1,52 @@
 -- What a script gives before 04: paper 01, "Scripts for gatewalk". The bytes of the source and of the target, the limit, and how that ends:
 -- with the script; with a refusal, 20 or 21 of the reader or 22 out of turn, and its command's offset; or with an 04 that is in turn.
 use mathlib.Core.Path.{_≡_}
-use Prim.Native.Nat.{ℕ, zero, suc, min}
+use Prim.Native.Nat.{ℕ, min}
 use mathlib.Core.List.{List, [], _∷_, _++_}
 use mathlib.Core.Bool.{Bool, true, false}
 use mathlib.Core.Option.{Option, none, some}
 use lib.ListN.{length, take}
-use Rattle.commands.specs.declared.Command.the-variants.{Source, Target, Limit, Compile, Step, Push, Pop}
+use Rattle.commands.specs.declared.Setup.the-variants.{Source, Target, Limit}
+use Rattle.commands.specs.declared.Command.{Command}
+use Rattle.commands.specs.declared.Command.the-variants.{Setup, Compile, Call}
 use Rattle.commands.specs.declared.Read.{Read}
 use Rattle.commands.specs.declared.Read.the-variants.{End, Next, Refused}
 use Rattle.gathering.specs.declared.Ending.{Ending}
 use Rattle.gathering.specs.declared.Ending.the-variants.{End as AtEnd, Refused as AtRefusal, Compile as AtCompile}
 use Rattle.gathering.specs.declared.Drawing.{Drawing}
 use Rattle.gathering.specs.declared.Gathered.{Gathered}
-use Rattle.commands.specs.Reading.{readAt}
+use Rattle.commands.specs.Reading.{reads}
 
+-- what is gathered, how that ends, and what the reader finds from then on
 pub record Given : Type 0 where
   pub source : List ℕ
   pub target : List ℕ
   pub limit : Option ℕ
   pub ending : Ending
+  pub left : List Read
 
-abbrev pub ended : List ℕ → List ℕ → Option ℕ → Ending → Given
-ended s t l e = record { source = s; target = t; limit = l; ending = e }
+abbrev pub ended : List ℕ → List ℕ → Option ℕ → Ending → List Read → Given
+ended s t l e rest = record { source = s; target = t; limit = l; ending = e; left = rest }
 
--- By what is read at an offset; `more` is what is gathered from the next command on.
-abbrev pub gatherBy : Read → ℕ → List ℕ → List ℕ → Option ℕ → (ℕ → List ℕ → List ℕ → Option ℕ → Given) → Given
-gatherBy End at s t l more = ended s t l AtEnd
-gatherBy (Refused n offset) at s t l more = ended s t l (AtRefusal n offset)
-gatherBy (Next (Source b) next) at s t l more = more next (s ++ (b ∷ [])) t l
-gatherBy (Next (Target b) next) at s t l more = more next s (t ++ (b ∷ [])) l
-gatherBy (Next (Limit n) next) at s t none more = more next s t (some n)
-gatherBy (Next (Limit n) next) at s t (some m) more = ended s t (some m) (AtRefusal 22 at)
-gatherBy (Next Compile next) at s t none more = ended s t none (AtRefusal 22 at)
-gatherBy (Next Compile next) at s t (some n) more = ended s t (some n) (AtCompile at next)
-gatherBy (Next (Step i r) next) at s t l more = ended s t l (AtRefusal 22 at)
-gatherBy (Next (Push p r) next) at s t l more = ended s t l (AtRefusal 22 at)
-gatherBy (Next Pop next) at s t l more = ended s t l (AtRefusal 22 at)
+-- By the command at an offset; `rest` is what the reader finds behind it, and `more` what is gathered from there.
+abbrev pub gatherBy : Command → ℕ → List Read → List ℕ → List ℕ → Option ℕ → (List ℕ → List ℕ → Option ℕ → Given) → Given
+gatherBy (Setup (Source b)) at rest s t l more = more (s ++ (b ∷ [])) t l
+gatherBy (Setup (Target b)) at rest s t l more = more s (t ++ (b ∷ [])) l
+gatherBy (Setup (Limit n)) at rest s t none more = more s t (some n)
+gatherBy (Setup (Limit n)) at rest s t (some m) more = ended s t (some m) (AtRefusal 22 at) rest
+gatherBy Compile at rest s t none more = ended s t none (AtRefusal 22 at) rest
+gatherBy Compile at rest s t (some n) more = ended s t (some n) (AtCompile at) rest
+gatherBy (Call c) at rest s t l more = ended s t l (AtRefusal 22 at) rest
 
--- What is gathered from an offset on; a script of n bytes has at most n commands.
-abbrev pub gatherFrom : List ℕ → ℕ → ℕ → List ℕ → List ℕ → Option ℕ → Given
-gatherFrom script zero at s t l = ended s t l AtEnd
-gatherFrom script (suc commands) at s t l = gatherBy (readAt script at) at s t l (λ next s t l. gatherFrom script commands next s t l)
+-- What is gathered from a list of reads, behind the bytes s and t and the limit l. The reader stays where it finds no command.
+abbrev pub gatherReads : List Read → List ℕ → List ℕ → Option ℕ → Given
+gatherReads [] s t l = ended s t l AtEnd []
+gatherReads (End ∷ rest) s t l = ended s t l AtEnd (End ∷ rest)
+gatherReads (Next c at ∷ rest) s t l = gatherBy c at rest s t l (λ s t l. gatherReads rest s t l)
+gatherReads (Refused n at ∷ rest) s t l = ended s t l (AtRefusal n at) (Refused n at ∷ rest)
 
 unfoldable pub gathered : List ℕ → Given
-gathered script = gatherFrom script (suc (length script)) 0 [] [] none
+gathered script = gatherReads (reads script 0) [] [] none
 
 -- An array that has as many of the bytes as it has places, `most`; `count` of them stand there.
 pub record Kept (array : List ℕ) (count most : ℕ) (bytes : List ℕ) : Type 0 where

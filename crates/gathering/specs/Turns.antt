@@ -1,27 +1,43 @@
--- What the private functions promise that say whether a command before 04 is in turn.
+-- What the private functions promise that take one command before 04.
 use Prim.Native.Nat.{ℕ}
-use mathlib.Core.Bool.{Bool, true, false}
+use mathlib.Core.Bool.{Bool, true, false, not}
+use Rattle.topology.specs.Reader.{pick}
+use Rattle.commands.specs.declared.Setup.{Setup as SetupCommand}
+use Rattle.commands.specs.declared.Setup.the-variants.{Source, Target, Limit}
 use Rattle.commands.specs.declared.Command.{Command}
-use Rattle.commands.specs.declared.Command.the-variants.{Source, Target, Limit, Compile, Step, Push, Pop}
+use Rattle.commands.specs.declared.Command.the-variants.{Setup, Compile, Call}
 use Rattle.commands.specs.declared.Read.{Read}
 use Rattle.commands.specs.declared.Read.the-variants.{End, Next, Refused}
+use Rattle.gathering.specs.declared.Ending.{Ending}
 use Rattle.gathering.specs.declared.Ending.the-variants.{End as AtEnd, Refused as AtRefusal, Compile as AtCompile}
-use Rattle.gathering.specs.declared.turns.Found.{Found}
-use Rattle.gathering.specs.declared.turns.Found.the-variants.{Ends, Gives}
+use Rattle.gathering.specs.declared.Drawing.{Drawing}
+use Rattle.gathering.specs.declared.turns.Gathering.{Gathering}
+use Rattle.gathering.specs.Adding.{given}
 
--- a command at an offset, by whether the limit is given
-abbrev pub turnOf : Bool → ℕ → Command → ℕ → Found
-turnOf limited at (Source b) next = Gives (Source b) next
-turnOf limited at (Target b) next = Gives (Target b) next
-turnOf false at (Limit n) next = Gives (Limit n) next
-turnOf true at (Limit n) next = Ends (AtRefusal 22 at)
-turnOf false at Compile next = Ends (AtRefusal 22 at)
-turnOf true at Compile next = Ends (AtCompile at next)
-turnOf limited at (Step i r) next = Ends (AtRefusal 22 at)
-turnOf limited at (Push p r) next = Ends (AtRefusal 22 at)
-turnOf limited at Pop next = Ends (AtRefusal 22 at)
+abbrev pub stopped : Drawing → Ending → Gathering
+stopped d e = record { gathered = record { drawing = d; ending = e }; going = false }
 
-abbrev pub foundBy : Read → ℕ → Bool → Found
-foundBy End at limited = Ends AtEnd
-foundBy (Refused n offset) at limited = Ends (AtRefusal n offset)
-foundBy (Next c next) at limited = turnOf limited at c next
+-- whether a command is out of turn, by whether the limit is given
+abbrev pub repeated : Bool → SetupCommand → Bool
+repeated limited (Source b) = false
+repeated limited (Target b) = false
+repeated limited (Limit n) = limited
+
+abbrev pub outOfTurn : Bool → Command → Bool
+outOfTurn limited (Setup c) = repeated limited c
+outOfTurn limited Compile = not limited
+outOfTurn limited (Call c) = true
+
+-- a command in turn at an offset; no call is
+abbrev pub inTurn : Drawing → Command → ℕ → Gathering
+inTurn d (Setup c) at = record { gathered = record { drawing = given d c; ending = AtEnd }; going = true }
+inTurn d Compile at = stopped d (AtCompile at)
+inTurn d (Call c) at = stopped d (AtCompile at)
+
+abbrev pub taken : Drawing → Command → ℕ → Gathering
+taken d c at = pick (outOfTurn (d .limited) c) (stopped d (AtRefusal 22 at)) (inTurn d c at)
+
+abbrev pub added : Drawing → Read → Gathering
+added d End = stopped d AtEnd
+added d (Next c at) = taken d c at
+added d (Refused n at) = stopped d (AtRefusal n at)

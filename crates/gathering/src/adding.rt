@@ -1,6 +1,6 @@
 // What a command before 04 adds to the drawings and the limit.
 use super::Drawing;
-use commands::Command;
+use commands::Setup;
 ghost use mathlib.Core.Path.{_≡_};
 ghost use Rattle.gathering.specs.Adding.{Undrawn, sourceAdded, targetAdded, limitGiven, given};
 
@@ -51,13 +51,12 @@ fn give_limit(drawing: Drawing, limit: u32) -> Drawing
 }
 
 // The drawing with what a command gives.
-pub(crate) fn with(drawing: Drawing, command: Command) -> Drawing
-    ensures { λ r. ⌜ r ≡ given drawing command ⌝ }
+pub(crate) fn with(drawing: Drawing, setup: Setup) -> Drawing
+    ensures { λ r. ⌜ r ≡ given drawing setup ⌝ }
 {
-    match command {
-        Command::Source(node) => add_source(drawing, node),
-        Command::Target(node) => add_target(drawing, node),
-        Command::Limit(limit) => give_limit(drawing, limit),
-        _ => drawing,
+    match setup {
+        Setup::Source(node) => add_source(drawing, node),
+        Setup::Target(node) => add_target(drawing, node),
+        Setup::Limit(limit) => give_limit(drawing, limit),
     }
 }

@@ -2,8 +2,12 @@
 mod adding;
 mod turns;
 
-use turns::Found;
-ghost use Rattle.gathering.specs.Gathering.{gathered, Gathers};
+use commands::Reader;
+ghost use mathlib.Core.Path.{_≡_};
+ghost use Rattle.commands.specs.Reading.{reads};
+ghost use Rattle.gathering.specs.Gathering.{gatherReads, gathered, Gathers};
+ghost use mathlib.Core.List.{[]};
+ghost use mathlib.Core.Option.{none};
 
 // The drawings and the limit. Of each drawing one byte is kept more than a tree may have: the reader of topologies has met a fault by then.
 pub struct Drawing {
@@ -15,12 +19,12 @@ pub struct Drawing {
     pub limited: bool,
 }
 
-// How the commands before 04 end: with the script; with a refusal, its number and its command's offset; or with an 04 that is in turn, its
-// offset and the next command's.
+// How the commands before 04 end: with the script; with a refusal, its number and its command's offset; or with an 04 that is in turn, and
+// its offset.
 pub enum Ending {
     End,
     Refused(u8, usize),
-    Compile(usize, usize),
+    Compile(usize),
 }
 
 pub struct Gathered {
@@ -28,19 +32,22 @@ pub struct Gathered {
     pub ending: Ending,
 }
 
-// What a script gives before 04, and how that ends.
-pub fn gather(script: &[u8]) -> Gathered
+// What a reader's commands give before 04, and how that ends. The reader then stands behind the 04 that is in turn.
+pub fn gather<'s, 'a>(reader: &'s mut Reader<'a>) -> Gathered
+    ensures { λ r. ⌜ Gathers (gatherReads (reads (now (now (reader .entry) .script)) (now (reader .entry) .at)) [] [] none) r × (now (reader .exit) .script ≡ now (reader .entry) .script) × (reads (now (now (reader .entry) .script)) (now (reader .exit) .at) ≡ gatherReads (reads (now (now (reader .entry) .script)) (now (reader .entry) .at)) [] [] none .left) ⌝ }
+{
+    let mut state = turns::start();
+    while state.going {
+        let read = reader.next();
+        state = turns::add(state, read);
+    }
+    state.gathered
+}
+
+// The same of a whole script, for a caller that asks for no more of it.
+pub fn gathered_of(script: &[u8]) -> Gathered
     ensures { λ r. ⌜ Gathers (gathered (now (script .entry))) r ⌝ }
 {
-    let mut drawing = adding::undrawn();
-    let mut at = 0;
-    loop {
-        match turns::found_at(script, at, drawing.limited) {
-            Found::Ends(ending) => return Gathered { drawing, ending },
-            Found::Gives(command, next) => {
-                drawing = adding::with(drawing, command);
-                at = next;
-            }
-        }
-    }
+    let mut reader = commands::reader_at(script, 0);
+    gather(&mut reader)
 }

@@ -1,46 +1,94 @@
-// One command before 04: whether it is in turn.
+// One command before 04: whether it is in turn, and what it does.
+use super::Drawing;
 use super::Ending;
+use super::Gathered;
+use super::adding;
 use commands::Command;
 use commands::Read;
+use commands::Setup;
 ghost use mathlib.Core.Path.{_≡_};
-ghost use Rattle.commands.specs.Reading.{readAt};
-ghost use Rattle.gathering.specs.Turns.{turnOf, foundBy};
+ghost use mathlib.Core.Bool.{true};
+ghost use Rattle.gathering.specs.Adding.{Undrawn};
+ghost use Rattle.gathering.specs.Turns.{repeated, outOfTurn, stopped, taken, added};
 
-// What stands at an offset before 04: the end of what is gathered, or a command that gives something, with the offset of the next.
-pub(crate) enum Found {
-    Ends(Ending),
-    Gives(Command, usize),
+// What is gathered so far; the ending counts where it does not go on.
+pub(crate) struct Gathering {
+    pub gathered: Gathered,
+    pub going: bool,
 }
 
-// A command before 04, by whether the limit is given: `at` is its offset and `next` the next one's.
-fn turn(limited: bool, at: usize, command: Command, next: usize) -> Found
-    ensures { λ r. ⌜ r ≡ turnOf limited at command next ⌝ }
+pub(crate) fn start() -> Gathering
+    ensures { λ r. ⌜ Undrawn (r .gathered .drawing) × (r .going ≡ true) ⌝ }
 {
-    match command {
-        Command::Source(_) => Found::Gives(command, next),
-        Command::Target(_) => Found::Gives(command, next),
-        Command::Limit(_) => {
-            if limited {
-                return Found::Ends(Ending::Refused(22, at));
-            }
-            Found::Gives(command, next)
-        }
-        Command::Compile => {
-            if limited {
-                return Found::Ends(Ending::Compile(at, next));
-            }
-            Found::Ends(Ending::Refused(22, at))
-        }
-        _ => Found::Ends(Ending::Refused(22, at)),
+    let drawing = adding::undrawn();
+    Gathering {
+        gathered: Gathered {
+            drawing,
+            ending: Ending::End,
+        },
+        going: true,
     }
 }
 
-pub(crate) fn found_at(script: &[u8], at: usize, limited: bool) -> Found
-    ensures { λ r. ⌜ r ≡ foundBy (readAt (now (script .entry)) at) at limited ⌝ }
+fn stop(drawing: Drawing, ending: Ending) -> Gathering
+    ensures { λ r. ⌜ r ≡ stopped drawing ending ⌝ }
 {
-    match commands::read_at(script, at) {
-        Read::End => Found::Ends(Ending::End),
-        Read::Refused(number, offset) => Found::Ends(Ending::Refused(number, offset)),
-        Read::Next(command, next) => turn(limited, at, command, next),
+    Gathering {
+        gathered: Gathered { drawing, ending },
+        going: false,
+    }
+}
+
+// Whether a command is out of turn before 04, by whether the limit is given.
+fn out_of_turn(limited: bool, command: Command) -> bool
+    ensures { λ r. ⌜ r ≡ outOfTurn limited command ⌝ }
+{
+    match command {
+        Command::Setup(setup) => repeats(limited, setup),
+        Command::Compile => !limited,
+        Command::Call(_) => true,
+    }
+}
+
+fn repeats(limited: bool, setup: Setup) -> bool
+    ensures { λ r. ⌜ r ≡ repeated limited setup ⌝ }
+{
+    match setup {
+        Setup::Source(_) => false,
+        Setup::Target(_) => false,
+        Setup::Limit(_) => limited,
+    }
+}
+
+// A command at an offset. In turn are one that gives something, and 04.
+fn take(drawing: Drawing, command: Command, offset: usize) -> Gathering
+    ensures { λ r. ⌜ r ≡ taken drawing command offset ⌝ }
+{
+    if out_of_turn(drawing.limited, command) {
+        return stop(drawing, Ending::Refused(22, offset));
+    }
+    let Command::Setup(setup) = command else {
+        return stop(drawing, Ending::Compile(offset));
+    };
+    let next = adding::with(drawing, setup);
+    Gathering {
+        gathered: Gathered {
+            drawing: next,
+            ending: Ending::End,
+        },
+        going: true,
+    }
+}
+
+// What is gathered with what was read.
+pub(crate) fn add(state: Gathering, read: Read) -> Gathering
+    ensures { λ r. ⌜ r ≡ added (state .gathered .drawing) read ⌝ }
+{
+    let gathered = state.gathered;
+    let drawing = gathered.drawing;
+    match read {
+        Read::End => stop(drawing, Ending::End),
+        Read::Refused(number, offset) => stop(drawing, Ending::Refused(number, offset)),
+        Read::Next(command, offset) => take(drawing, command, offset),
     }
 }

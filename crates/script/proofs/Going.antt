@@ -1,100 +1,161 @@
--- What the loop over the commands after 04 knows: what the code has, the text printed so far, and that the text from here on completes the
--- whole. A command that lets the script go on adds its line; one that stops it makes the text whole.
-use mathlib.Core.Path.{_≡_, refl, sym, ap, _∙_}
-use Prim.Native.Nat.{ℕ, _-_, _≤_, _<_}
+-- What the loop over a batch knows: the text printed so far, that it goes before the text of the reads that are left, and while the script goes
+-- on, what the code has. A call that lets the script go on adds its line; one that stops it, the end or a refusal makes the text whole.
+use mathlib.Core.Path.{_≡_, refl, sym, ap, _∙_, subst}
+use mathlib.Core.Logic.{_⊎_, inl, inr}
+use Prim.Native.Nat.{ℕ, _+_, _≤_}
 use native.Mathlib.Omega.{arith}
-use mathlib.Core.List.{List, [], _++_, append-assoc, append-nil}
-use mathlib.Core.Bool.{true, false}
-use lib.ListN.{length}
+use native.Mathlib.Numerals.{add-one}
+use mathlib.Core.List.{List, [], _∷_, _++_, append-assoc, append-nil}
+use mathlib.Core.Bool.{Bool, true, false, not}
+use lib.ListN.{length, take, drop, getD, drop-of-length-le}
+use lib.Seq.{drop-cons}
+use lib.Dec.{ltb}
+use borrow.Author.Tests.{ltb-true}
 use Rattle.topology.specs.Reader.{pick}
-use Rattle.queue_state.specs.State.{machine}
-use Rattle.queue_push.specs.Calls.{stepsOf}
+use Rattle.topology.proofs.Cases.{clash}
 use Rattle.queue_push.specs.declared.Path.{Path}
+use Rattle.queue_state.specs.State.{machine}
 use Rattle.queue_state.specs.declared.State.{State}
-use Rattle.pair_step.specs.Step.{InStep}
+use Rattle.queue_push.specs.Calls.{stepsOf}
 use Rattle.text.specs.Text.{Puts}
 use Rattle.lines.specs.Lines.{noLine}
-use Rattle.text.proofs.Writing.{puts-none, puts-length, puts-then}
-use Rattle.commands.specs.declared.Command.{Command}
-use Rattle.commands.specs.declared.Read.the-variants.{Next}
-use Rattle.commands.specs.Reading.{readAt}
-use Rattle.commands.proofs.Found.{further, next-inside}
-use Rattle.script.specs.declared.turns.Turn.the-variants.{End as AtEnd, Refused as No}
-use Rattle.script.specs.Turns.{turnBy}
-use Rattle.script.specs.Sheet.{serving, Reply, silent, stops}
-use Rattle.script.specs.Output.{lineOf}
-use Rattle.script.specs.Parts.{textAt}
-use Rattle.script.proofs.Keeping.{no-steps}
-use Rattle.script.proofs.Texts.{text-next}
-use Rattle.script.proofs.Serving.{sheetOf, Served, Turned, count, says}
-
--- the text from an offset on, with the drawn tree just opened
-abbrev pub whole : List ℕ → State → ℕ → List ℕ
-whole script s first = textAt script first (serving (machine s) [])
+use Rattle.text.proofs.Writing.{puts-none, puts-still, puts-then}
+use Rattle.commands.specs.declared.Call.{Call as CallCommand}
+use Rattle.commands.specs.declared.Call.the-variants.{Step as StepTo}
+use Rattle.commands.specs.declared.Read.{Read}
+use Rattle.commands.specs.declared.Slot.{Slot}
+use Rattle.commands.specs.Batches.{readsOf, AllCommands}
+use Rattle.script.specs.declared.Progress.{Progress}
+use Rattle.script.specs.declared.turns.Turn.the-variants.{End as AtEnd, Refused as No, Call as InTurn}
+use Rattle.script.specs.Turns.{turnOf}
+use Rattle.script.specs.Steps.{stepAdded}
+use Rattle.script.specs.Sheet.{Reply, silent, stops}
+use Rattle.script.specs.Output.{lineOf, printed, textOf}
+use Rattle.script.specs.Parts.{drawn, chip, sheetOf, batchText, Served, Ready, Comes}
+use Rattle.script.proofs.Serving.{Turned, count, says, step-turned}
 
 -- the loop's invariant
-pub record Going (source target images script before : List ℕ) (place : ℕ) (all after : List ℕ) (s t : State) (p : Path) (at end : ℕ) : Type 0 where
-  pub served : Served source target images s t p
+pub record Going (source target images : List ℕ) (slots : List Slot) (s₀ : State) (p₀ : Path) (before : List ℕ) (place : ℕ) (after : List ℕ)
+    (s t : State) (p : Path) (end : ℕ) (going : Bool) (i : ℕ) : Type 0 where
   pub text : List ℕ
   pub puts : Puts before place text after end
-  pub rest : text ++ textAt script at (sheetOf s p) ≡ all
+  pub served : going ≡ true → Served source target images s t p
+  pub commands : going ≡ true → AllCommands (readsOf (drop i slots)) → AllCommands (readsOf slots)
+  pub follows : (rest : List Read) → textOf (readsOf slots ++ rest) (sheetOf s₀ p₀) ≡ text ++ pick going (textOf (readsOf (drop i slots) ++ rest) (sheetOf s p)) []
 
-pub start : (source target images script out : List ℕ) (place : ℕ) (s t : State) (p : Path) (first : ℕ) → InStep source target images s t → place ≤ length out
-    → p .count ≡ 0 → length (p .steps) ≡ 9 → Going source target images script out place (whole script s first) out s t p first place
-start source target images script out place s t p first i h n l =
-    record {
-      served = record { in-step = i; few = omega arith; places = l };
-      text = [];
-      puts = puts-none out place place (omega arith);
-      rest = ap (λ (ss : _). textAt script first (serving (machine s) ss)) (no-steps p n);
-    }
+pub start : (source target images : List ℕ) (slots : List Slot) (before : List ℕ) (place : ℕ) (s t : State) (p : Path) → Served source target images s t p
+    → place ≤ length before → Going source target images slots s p before place before s t p place true 0
+start source target images slots before place s t p h l =
+    record { text = []; puts = puts-none before place place (omega arith); served = λ _. h; commands = λ _ c. c; follows = λ rest. refl }
 
-module _ (source target images script before : List ℕ) (place : ℕ) (all after : List ℕ) (s t : State) (p : Path) (at end : ℕ)
-    (g : Going source target images script before place all after s t p at end) where
-  same-long : length after ≡ length before
-  same-long = puts-length (g .puts)
+pub still : (source target images : List ℕ) (slots : List Slot) (s₀ : State) (p₀ : Path) (before : List ℕ) (place : ℕ) (after : List ℕ) (s t : State)
+    (p : Path) (end : ℕ) (going : Bool) (i : ℕ) → going ≡ true → Going source target images slots s₀ p₀ before place after s t p end going i
+    → Going source target images slots s₀ p₀ before place after s t p end true i
+still source target images slots s₀ p₀ before place after s t p end going i e g =
+    subst (λ (b : Bool). Going source target images slots s₀ p₀ before place after s t p end b i) e g
 
-  nothing-more : Puts after end [] after end
-  nothing-more = puts-none after end end (omega (arith, g .puts .next, same-long))
+exchanged : (b : Bool) (a c : List ℕ) → pick (not b) a c ≡ pick b c a
+exchanged true a c = refl
+exchanged false a c = refl
 
-  pub at-end : turnBy (readAt script at) at (p .count) ≡ AtEnd → Puts before place all after end
-  at-end e =
-      rw (sym (g .rest) ∙ ap (λ (l : List ℕ). g .text ++ l) (says script at (p .count) AtEnd e (sheetOf s p)) ∙ append-nil (g .text)) (g .puts)
+module _ (source target images : List ℕ) (slots : List Slot) (s₀ : State) (p₀ : Path) (before : List ℕ) (place : ℕ) (after : List ℕ)
+    (s t : State) (p : Path) (end : ℕ) (i : ℕ) (d : Slot) (h : ltb i 256 ≡ true) (k : length slots ≡ 256)
+    (g : Going source target images slots s₀ p₀ before place after s t p end true i) where
+  abbrev read : Read
+  read = getD slots i d .read
 
-  pub at-fault : (n offset : ℕ) (out : List ℕ) (last : ℕ) → turnBy (readAt script at) at (p .count) ≡ No n offset → Puts after end (noLine n offset) out last
-      → Puts before place all out last
+  abbrev Next′ : List ℕ → State → State → Path → ℕ → Bool → Type 0
+  Next′ after′ s′ t′ p′ end′ going = Going source target images slots s₀ p₀ before place after′ s′ t′ p′ end′ going (i + 1)
+
+  left : readsOf (drop i slots) ≡ read ∷ readsOf (drop (i + 1) slots)
+  left = rw add-one (ap readsOf (drop-cons slots i d (omega (arith, ltb-true i 256 h, k))))
+
+  split : (rest : List Read) → textOf (readsOf slots ++ rest) (sheetOf s₀ p₀) ≡ g .text ++ textOf (read ∷ (readsOf (drop (i + 1) slots) ++ rest)) (sheetOf s p)
+  split rest = g .follows rest ∙ ap (λ (l : List Read). g .text ++ textOf (l ++ rest) (sheetOf s p)) left
+
+  -- the script stops, and `line` is its last text
+  stops-here : (line out : List ℕ) (s′ t′ : State) (p′ : Path) (last : ℕ) → Puts after end line out last
+      → ((rest : List Read) → textOf (read ∷ (readsOf (drop (i + 1) slots) ++ rest)) (sheetOf s p) ≡ line) → Next′ out s′ t′ p′ last false
+  stops-here line out s′ t′ p′ last q e =
+      record {
+        text = g .text ++ line;
+        puts = puts-then (g .puts) q;
+        served = λ f. absurd (clash (cc));
+        commands = λ f. absurd (clash (cc));
+        follows = λ rest. split rest ∙ ap (λ (l : List ℕ). g .text ++ l) (e rest) ∙ sym (append-nil (g .text ++ line));
+      }
+
+  pub at-end : turnOf (p .count) read ≡ AtEnd → Next′ after s t p end false
+  at-end e = stops-here [] after s t p end (puts-still (g .puts)) (λ rest. rw (says [] (p .count) read AtEnd e) refl)
+
+  pub at-fault : (n offset : ℕ) (out : List ℕ) (last : ℕ) → turnOf (p .count) read ≡ No n offset → Puts after end (noLine n offset) out last
+      → Next′ out s t p last false
   at-fault n offset out last e q =
-      let line = says script at (p .count) (No n offset) e (machine s) (stepsOf p) (count source target images s t p (g .served)) in
-      rw (sym (g .rest) ∙ ap (λ (l : List ℕ). g .text ++ l) line) (puts-then (g .puts) q)
+      stops-here (noLine n offset) out s t p last q
+      (λ rest. says (readsOf (drop (i + 1) slots) ++ rest) (p .count) read (No n offset) e (machine s) (stepsOf p) (count source target images s t p (g .served refl)))
 
-  module _ (c : Command) (next : ℕ) (e : readAt script at ≡ Next c next) (r : Reply) (s′ t′ : State) (p′ : Path)
+  module _ (c : CallCommand) (at : ℕ) (e : turnOf (p .count) read ≡ InTurn c at) (r : Reply) (s′ t′ : State) (p′ : Path)
       (u : Turned source target images s p c r s′ t′ p′) where
-    -- the text from here on: the reply's line, and the text from the next command on
-    split : textAt script at (sheetOf s p) ≡ lineOf r at ++ pick (stops r) [] (textAt script next (sheetOf s′ p′))
-    split = text-next script at (sheetOf s p) c next r (sheetOf s′ p′) e (u .is)
+    called : (rest : List Read) → textOf (read ∷ (readsOf (drop (i + 1) slots) ++ rest)) (sheetOf s p)
+        ≡ printed r at (textOf (readsOf (drop (i + 1) slots) ++ rest) (sheetOf s′ p′))
+    called rest = rw (says [] (p .count) read (InTurn c at) e .0, u .is) refl
 
-    pub goes-on : (out : List ℕ) (last : ℕ) → stops r ≡ false → Puts after end (lineOf r at) out last
-        → Going source target images script before place all out s′ t′ p′ next last
-    goes-on out last f q =
+    on : (out : List ℕ) (last : ℕ) (b : Bool) → stops r ≡ b → Puts after end (lineOf r at) out last → Next′ out s′ t′ p′ last (not b)
+    on out last b f q =
         record {
-          served = u .served;
           text = g .text ++ lineOf r at;
           puts = puts-then (g .puts) q;
-          rest =
-              append-assoc (g .text) (lineOf r at) (textAt script next (sheetOf s′ p′))
-              ∙ ap (λ (l : List ℕ). g .text ++ l) (sym (split ∙ rw f refl))
-              ∙ g .rest;
+          served = λ _. u .served;
+          commands = λ _ all. g .commands refl (rw (left, says [] (p .count) read (InTurn c at) e .0) all);
+          follows =
+              λ rest. split rest
+              ∙ ap (λ (l : List ℕ). g .text ++ l) (called rest)
+              ∙ sym (append-assoc (g .text) (lineOf r at) (pick (stops r) [] (textOf (readsOf (drop (i + 1) slots) ++ rest) (sheetOf s′ p′))))
+              ∙ ap (λ (l : List ℕ). (g .text ++ lineOf r at) ++ l)
+              (ap (λ (z : Bool). pick z [] (textOf (readsOf (drop (i + 1) slots) ++ rest) (sheetOf s′ p′))) f
+              ∙ sym (exchanged b (textOf (readsOf (drop (i + 1) slots) ++ rest) (sheetOf s′ p′)) []));
         }
 
-    pub stopped : (out : List ℕ) (last : ℕ) → stops r ≡ true → Puts after end (lineOf r at) out last → Puts before place all out last
-    stopped out last h q =
-        let end : lineOf r at ++ pick (stops r) [] (textAt script next (sheetOf s′ p′)) ≡ lineOf r at = rw h (append-nil (lineOf r at)) in
-        rw (sym (g .rest) ∙ ap (λ (l : List ℕ). g .text ++ l) (split ∙ end)) (puts-then (g .puts) q)
+  pub replied-on : (c d : CallCommand) (at : ℕ) → turnOf (p .count) read ≡ InTurn c at → c ≡ d → (r : Reply) (s′ t′ : State) (p′ : Path)
+      → Turned source target images s p d r s′ t′ p′ → (out : List ℕ) (last : ℕ) (b : Bool) → b ≡ stops r → Puts after end (lineOf r at) out last
+      → Next′ out s′ t′ p′ last (not b)
+  replied-on c d at e f r s′ t′ p′ u out last b q w = on d at (rw (← f) e) r s′ t′ p′ u out last b (sym q) w
 
-  pub silently : (c : Command) (next : ℕ) → readAt script at ≡ Next c next → (s′ t′ : State) (p′ : Path)
-      → Turned source target images s p c silent s′ t′ p′ → Going source target images script before place all after s′ t′ p′ next end
-  silently c next e s′ t′ p′ u = goes-on c next e silent s′ t′ p′ u after end refl nothing-more
+  pub stepped : (c : CallCommand) (at x r : ℕ) → turnOf (p .count) read ≡ InTurn c at → c ≡ StepTo x r → (b : Bool) → b ≡ true
+      → Next′ after s t (stepAdded p x r) end b
+  stepped c at x r e f b q =
+      let called : turnOf (p .count) read ≡ InTurn (StepTo x r) at = rw (← f) e in
+      let u = step-turned source target images s t p (g .served refl) x r (says [] (p .count) read (InTurn (StepTo x r) at) called .1) in
+      subst (Next′ after s t (stepAdded p x r) end) (sym q)
+      (on (StepTo x r) at called silent s t (stepAdded p x r) u after end false refl (puts-still (g .puts)))
 
--- each command brings the end nearer
-pub nearer : (script : List ℕ) (at : ℕ) (c : Command) (next : ℕ) → readAt script at ≡ Next c next → length script - next < length script - at
-nearer script at c next e = omega (arith, further script at c next e, next-inside script at c next e)
+-- After the loop: the script does not go on, or no read is left.
+module _ (source target images : List ℕ) (slots : List Slot) (s₀ : State) (p₀ : Path) (before : List ℕ) (place : ℕ) (after : List ℕ)
+    (s t : State) (p : Path) (end : ℕ) (going : Bool) (i : ℕ)
+    (g : Going source target images slots s₀ p₀ before place after s t p end going i) where
+  pub done-text : (going ≡ false) ⊎ (length slots ≤ i)
+      → (rest : List Read) → textOf (readsOf slots ++ rest) (sheetOf s₀ p₀) ≡ g .text ++ pick going (textOf rest (sheetOf s p)) []
+  done-text (inl f) rest = g .follows rest ∙ rw f refl
+  done-text (inr l) rest = g .follows rest ∙ rw (drop-of-length-le slots l) refl
+
+  pub done-commands : (going ≡ false) ⊎ (length slots ≤ i) → going ≡ true → AllCommands (readsOf slots)
+  done-commands (inl f) e = absurd (clash (let z : false ≡ true = sym f ∙ e in cc))
+  done-commands (inr l) e = g .commands e (rw (drop-of-length-le slots l) tt)
+
+-- the contract of `serve`
+pub comes : (progress : Progress) → Ready progress → (slots : List Slot) (before after : List ℕ) (s t : State) (p : Path) (end : ℕ) (going : Bool) (i : ℕ)
+    → Going (drawn (progress .drawing)) (chip (progress .drawing)) (take (progress .drawing .nodes) (progress .pair .map)) slots (progress .pair .source)
+    (progress .path) before (progress .printed .end) after s t p end going i
+    → (going ≡ false) ⊎ (length slots ≤ i)
+    → Comes (batchText (readsOf slots) progress) before (progress .printed .end)
+    (record { printed = record { end = end; going = going }; path = p; drawing = progress .drawing; pair = record { source = s; chip = t; map = progress .pair .map } }) after
+    × (going ≡ true → AllCommands (readsOf slots))
+comes progress r slots before after s t p end going i g over = (
+  record {
+    text = g .text;
+    puts = g .puts;
+    ready = λ e. record { fits = r .fits; images = r .images; served = g .served e };
+    follows = done-text _ _ _ slots _ _ before _ after s t p end going i g over;
+  },
+  done-commands _ _ _ slots _ _ before _ after s t p end going i g over,
+)

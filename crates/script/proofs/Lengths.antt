@@ -31,13 +31,16 @@ use Rattle.text.specs.Text.{decimal, hex8}
 use Rattle.lines.specs.Lines.{allSpaced, inLine, outLine, noLine, mapLine}
 use Rattle.text.proofs.Digits.{length-decimal, length-hex8}
 use Rattle.commands.specs.declared.Command.{Command}
-use Rattle.commands.specs.declared.Command.the-variants.{Source, Target, Limit, Compile, Step as StepTo, Push, Pop}
+use Rattle.commands.specs.declared.Command.the-variants.{Setup, Compile, Call as Calling}
+use Rattle.commands.specs.declared.Setup.the-variants.{Source, Target, Limit}
+use Rattle.commands.specs.declared.Call.the-variants.{Step as StepTo, Push, Pop}
 use Rattle.commands.specs.declared.Read.{Read}
 use Rattle.commands.specs.declared.Read.the-variants.{End, Next, Refused}
-use Rattle.commands.specs.Reading.{readAt}
+use Rattle.commands.specs.Reading.{readAt, nextAt, readsBy, reads}
 use Rattle.script.specs.Sheet.{Sheet, drawing, serving, Reply, silent, no-by, stops, compiled, served, obey}
-use Rattle.script.specs.Output.{lineOf, textBy, textFrom, output}
-use Rattle.commands.proofs.Found.{further, told, next-inside, refused-inside}
+use Rattle.script.specs.Output.{lineOf, textOf, output}
+use Rattle.commands.proofs.Found.{within as command-within, told, further}
+use Rattle.commands.proofs.Onward.{reads-by}
 
 -- ---- the lines
 
@@ -135,56 +138,57 @@ module _ (at : ℕ) (h : at < 65536) where
 
   short : (sheet : Sheet) (c : Command) → Good sheet → Short at sheet (obey sheet c)
   unfolding obey
-  short (drawing s t l) (Source b) g = record { good = tt; line = omega arith }
-  short (drawing s t l) (Target b) g = record { good = tt; line = omega arith }
-  short (drawing s t none) (Limit n) g = record { good = tt; line = omega arith }
-  short (drawing s t (some m)) (Limit n) g = out-of-turn (drawing s t (some m)) g
+  short (drawing s t l) (Setup (Source b)) g = record { good = tt; line = omega arith }
+  short (drawing s t l) (Setup (Target b)) g = record { good = tt; line = omega arith }
+  short (drawing s t none) (Setup (Limit n)) g = record { good = tt; line = omega arith }
+  short (drawing s t (some m)) (Setup (Limit n)) g = out-of-turn (drawing s t (some m)) g
   short (drawing s t none) Compile g = out-of-turn (drawing s t none) g
   short (drawing s t (some n)) Compile g = short-compiled s t n (bothFault s t n) refl
-  short (drawing s t l) (StepTo i r) g = out-of-turn (drawing s t l) g
-  short (drawing s t l) (Push p r) g = out-of-turn (drawing s t l) g
-  short (drawing s t l) Pop g = out-of-turn (drawing s t l) g
-  short (serving m steps) (Source b) g = out-of-turn (serving m steps) g
-  short (serving m steps) (Target b) g = out-of-turn (serving m steps) g
-  short (serving m steps) (Limit n) g = out-of-turn (serving m steps) g
+  short (drawing s t l) (Calling c) g = out-of-turn (drawing s t l) g
+  short (serving m steps) (Setup c) g = out-of-turn (serving m steps) g
   short (serving m steps) Compile g = out-of-turn (serving m steps) g
-  short (serving m steps) (StepTo i r) g = by-test (ltb (length steps) 8)
+  short (serving m steps) (Calling (StepTo i r)) g = by-test (ltb (length steps) 8)
     where
       by-test : (b : Bool) → Short at (serving m steps) (pick b (silent, serving m (steps ++ (step i r ∷ []))) (no-by 22, serving m steps))
       by-test true = record { good = g; line = omega arith }
       by-test false = out-of-turn (serving m steps) g
-  short (serving m steps) (Push p r) g = short-served m steps [] (pushing steps r p) (g .0) (g .1)
-  short (serving m steps) Pop g = short-served m steps steps popping (g .0) (g .1)
+  short (serving m steps) (Calling (Push p r)) g = short-served m steps [] (pushing steps r p) (g .0) (g .1)
+  short (serving m steps) (Calling Pop) g = short-served m steps steps popping (g .0) (g .1)
 
 -- ---- the whole text
 
 module _ (script : List ℕ) (h : length script ≤ 65536) where
-  from-length : (commands at : ℕ) (sheet : Sheet) → Good sheet → length (textFrom script commands at sheet) ≤ 13 * (length script - at) + room sheet
-  from-length zero at sheet g = omega arith
-  from-length (suc commands) at sheet g = by-read (readAt script at) refl (λ next s. from-length commands next s)
-    where
-      by-read : (r : Read) → readAt script at ≡ r
-          → ((next : ℕ) (s : Sheet) → Good s → length (textFrom script commands next s) ≤ 13 * (length script - next) + room s)
-          → length (textBy r at sheet (λ next s. textFrom script commands next s)) ≤ 13 * (length script - at) + room sheet
-      by-read End e more = omega arith
-      by-read (Refused n offset) e more =
-          let t = told script at n offset e in
-          let i = refused-inside script at n offset e in
-          omega (arith, no-length n offset (omega (arith, t .0)) (omega (arith, t .1, i, h)), i)
-      by-read (Next c next) e more =
-          let i = next-inside script at c next e in
-          let f = further script at c next e in
-          let s = short at (omega (arith, i, h)) sheet c g in
-          let r = obey sheet c in
-          let rest = textFrom script commands next (r .1) in
-          by-stop (stops (r .0)) (r .0) (r .1) rest (s .line) (more next (r .1) (s .good)) i f
-        where
-          by-stop : (b : Bool) (reply : Reply) (after : Sheet) (rest : List ℕ) → length (lineOf reply at) + room after ≤ 13 + room sheet
-              → length rest ≤ 13 * (length script - next) + room after → at < length script → at < next
-              → length (lineOf reply at ++ pick b [] rest) ≤ 13 * (length script - at) + room sheet
-          by-stop true reply after rest l k i f = omega (arith, length-append (lineOf reply at) [], l, i)
-          by-stop false reply after rest l k i f = omega (arith, length-append (lineOf reply at) rest, l, k, i, f)
+  by-stop : (at next : ℕ) (sheet after : Sheet) (b : Bool) (line rest : List ℕ) → length line + room after ≤ 13 + room sheet
+      → length rest ≤ 13 * (length script - next) + room after → at < next → next ≤ length script
+      → length (line ++ pick b [] rest) ≤ 13 * (length script - at) + room sheet
+  by-stop at next sheet after true line rest l k f i = omega (arith, length-append line [], l, i)
+  by-stop at next sheet after false line rest l k f i = omega (arith, length-append line rest, l, k, i, f)
+
+  by-read : (at : ℕ) (sheet : Sheet) → Good sheet → (r : Read) → readAt script at ≡ r
+      → (at < nextAt script at → nextAt script at ≤ length script → (s : Sheet) → Good s
+      → length (textOf (reads script (nextAt script at)) s) ≤ 13 * (length script - nextAt script at) + room s)
+      → length (textOf (readsBy r (reads script (nextAt script at))) sheet) ≤ 13 * (length script - at) + room sheet
+  by-read at sheet g End e more = omega arith
+  by-read at sheet g (Refused n offset) e more =
+      let t = told script at n offset e in
+      omega (arith, no-length n offset (omega (arith, t .0)) (omega (arith, t .1, t .2, h)), t .2)
+  by-read at sheet g (Next c offset) e more =
+      let f = further script at c offset e in
+      let w = command-within script at c offset e in
+      let s = short offset (omega (arith, w .is-at, f, h)) sheet c g in
+      let r = obey sheet c in
+      by-stop at (nextAt script at) sheet (r .1) (stops (r .0)) (lineOf (r .0) offset) (textOf (reads script (nextAt script at)) (r .1)) (s .line)
+      (more (f .0) (f .1) (r .1) (s .good)) (f .0) (f .1)
+
+  -- the text from an offset on, by how many bytes are left at the most
+  from-length : (bytes at : ℕ) (sheet : Sheet) → length script ≤ at + bytes → Good sheet
+      → length (textOf (reads script at) sheet) ≤ 13 * (length script - at) + room sheet
+  from-length zero at sheet l g =
+      rw (reads-by script at) (by-read at sheet g (readAt script at) refl (λ f i s k. absurd (omega (arith, f, i, l))))
+  from-length (suc bytes) at sheet l g =
+      rw (reads-by script at)
+      (by-read at sheet g (readAt script at) refl (λ f i s k. from-length bytes (nextAt script at) s (omega (arith, f, l)) k))
 
   pub output-fits : length (output script) ≤ 852068
   unfolding output
-  output-fits = omega (arith, from-length (suc (length script)) 0 (drawing [] [] none) tt, h)
+  output-fits = omega (arith, from-length (length script) 0 (drawing [] [] none) (omega arith) tt, h)

@@ -1,10 +1,11 @@
 pub mod Examples
 pub mod Stopping
 pub mod Keeping
-pub mod Texts
 pub mod Opening
 pub mod Before
 pub mod Serving
 pub mod Others
 pub mod Going
+pub mod Loop
+pub mod Again
 pub mod Lengths

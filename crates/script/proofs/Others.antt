@@ -1,21 +1,23 @@
--- What a `match` with a last arm `_` knows there of a command: it is one of those that no arm before names.
+-- A command after 04, by whether it is a call; the `else` of a `let` knows that it is none.
 use mathlib.Core.Path.{_≡_, refl}
 use Prim.Native.Nat.{ℕ}
 use mathlib.Core.List.{[], _∷_}
+use mathlib.Core.Bool.{Bool}
 use types.Run.{OneOf, miss}
 use denote.Enum.Declared.{tagOf}
+use Rattle.topology.specs.Reader.{pick}
+use Rattle.commands.specs.declared.Call.{Call as CallCommand}
 use Rattle.commands.specs.declared.Command.{Command}
-use Rattle.commands.specs.declared.Command.the-variants.{Source, Target, Limit, Compile, Step, Push, Pop}
+use Rattle.commands.specs.declared.Command.the-variants.{Setup, Compile, Call}
 use Rattle.commands.proofs.Command.{the-type}
-use Rattle.script.specs.declared.turns.Turn.the-variants.{Refused as No}
-use Rattle.script.specs.Turns.{turnOf}
+use Rattle.script.specs.declared.turns.Turn.the-variants.{Refused as No, Call as InTurn}
+use Rattle.script.specs.Turns.{isNinth, callOf}
 
--- what gathers a drawing comes too late
-pub gathers-late : (steps at : ℕ) (c : Command) (next : ℕ) → OneOf (0 ∷ 1 ∷ 2 ∷ 3 ∷ []) (tagOf the-type c) → No 22 at ≡ turnOf steps at c next
-gathers-late steps at (Source b) next h = refl
-gathers-late steps at (Target b) next h = refl
-gathers-late steps at (Limit n) next h = refl
-gathers-late steps at Compile next h = refl
-gathers-late steps at (Step i r) next h = absurd (miss (0 ∷ 1 ∷ 2 ∷ 3 ∷ []) 4 tt h)
-gathers-late steps at (Push p r) next h = absurd (miss (0 ∷ 1 ∷ 2 ∷ 3 ∷ []) 5 tt h)
-gathers-late steps at Pop next h = absurd (miss (0 ∷ 1 ∷ 2 ∷ 3 ∷ []) 6 tt h)
+pub no-call : (steps : ℕ) (c : Command) (at : ℕ) → OneOf (0 ∷ 1 ∷ []) (tagOf the-type c) → No 22 at ≡ callOf steps c at
+no-call steps (Setup c) at h = refl
+no-call steps Compile at h = refl
+no-call steps (Call c) at h = absurd (miss (0 ∷ 1 ∷ []) 2 tt h)
+
+pub in-turn : (steps : ℕ) (c : Command) (call : CallCommand) (at : ℕ) (b : Bool) → c ≡ Call call → b ≡ isNinth steps call
+    → pick b (No 22 at) (InTurn call at) ≡ callOf steps c at
+in-turn steps c call at b e f = rw (e, f) refl

@@ -1,14 +1,14 @@
--- What the code has after 04, and what each command in turn does to it: the reply is the definition's, and the code then has what it should
+-- What each call in turn does to what the code has after 04: the reply is the definition's, and the code then has what it should
 -- for the sheet after it.
 use mathlib.Core.Path.{_≡_, refl, sym, ap, _∙_}
 use mathlib.Core.Logic.{_≢_}
-use Prim.Native.Nat.{ℕ, _≤_, _<_}
+use Prim.Native.Nat.{ℕ, _<_}
 use native.Mathlib.Omega.{arith}
-use mathlib.Core.List.{List, [], _∷_, _++_}
+use mathlib.Core.List.{List, [], _∷_, _++_, append-nil}
 use mathlib.Core.Bool.{Bool, true, false}
 use lib.ListN.{length, length-set}
-use lib.Dec.{ltb}
-use borrow.Author.Tests.{ltb-true, lt-ltb}
+use lib.Dec.{leb}
+use borrow.Author.Tests.{leb-true, leb-false, lt-ltb, le-ltb}
 use Rattle.topology.specs.Reader.{pick}
 use Rattle.pifo.specs.Tree.{Step, step}
 use Rattle.pifo.specs.Machine.{Machine, Call, pushing, Answer, serve}
@@ -25,62 +25,48 @@ use Rattle.paired.proofs.Sides.{source-serves, chip-pushed, chip-refused, next}
 use Rattle.translator.specs.Carry.{Carries}
 use Rattle.translator.specs.declared.Carried.{Carried}
 use Rattle.lines.specs.Lines.{noLine}
-use Rattle.commands.specs.declared.Command.{Command}
-use Rattle.commands.specs.declared.Command.the-variants.{Source, Target, Limit, Compile, Step as StepTo, Push, Pop}
+use Rattle.commands.specs.declared.Call.{Call as CallCommand}
+use Rattle.commands.specs.declared.Call.the-variants.{Step as StepTo, Push, Pop}
+use Rattle.commands.specs.declared.Command.the-variants.{Setup, Compile, Call as Calling}
 use Rattle.commands.specs.declared.Read.{Read}
 use Rattle.commands.specs.declared.Read.the-variants.{End, Next, Refused as Unread}
-use Rattle.commands.specs.Reading.{readAt}
 use Rattle.script.specs.declared.turns.Turn.{Turn}
-use Rattle.script.specs.declared.turns.Turn.the-variants.{End as AtEnd, Refused as No, Step as ToStep, Push as ToPush, Pop as ToPop}
-use Rattle.script.specs.Turns.{turnBy}
+use Rattle.script.specs.declared.turns.Turn.the-variants.{End as AtEnd, Refused as No, Call as InTurn}
+use Rattle.script.specs.Turns.{isNinth, turnOf}
 use Rattle.script.specs.Steps.{stepAdded, endedBy}
-use Rattle.script.specs.Sheet.{Sheet, serving, Reply, silent, replied, obey}
-use Rattle.script.specs.Parts.{textAt}
+use Rattle.script.specs.Sheet.{serving, Reply, silent, replied, obey}
+use Rattle.script.specs.Output.{textOf}
+use Rattle.script.specs.Parts.{sheetOf, Served}
 use Rattle.script.proofs.Keeping.{no-steps, steps-count, steps-added}
-use Rattle.script.proofs.Texts.{text-end, text-refused, out-of-turn}
 
--- the sheet that the code has
-abbrev pub sheetOf : State → Path → Sheet
-sheetOf s p = serving (machine s) (stepsOf p)
-
--- both trees in step, for a drawing, a chip and the images of a map, and the steps gathered
-pub record Served (source target images : List ℕ) (s t : State) (p : Path) : Type 0 where
-  pub in-step : InStep source target images s t
-  pub few : p .count ≤ 8
-  pub places : length (p .steps) ≡ 9
-
--- a command in turn: its reply, and what the code has then
-pub record Turned (source target images : List ℕ) (s : State) (p : Path) (c : Command) (r : Reply) (s′ t′ : State) (p′ : Path) : Type 0 where
-  pub is : obey (sheetOf s p) c ≡ (r, sheetOf s′ p′)
+-- a call in turn: its reply, and what the code has then
+pub record Turned (source target images : List ℕ) (s : State) (p : Path) (c : CallCommand) (r : Reply) (s′ t′ : State) (p′ : Path) : Type 0 where
+  pub is : obey (sheetOf s p) (Calling c) ≡ (r, sheetOf s′ p′)
   pub served : Served source target images s′ t′ p′
 
--- What the test of turns says of an offset, where k steps are gathered: the text there, or the command that is in turn.
-module _ (script : List ℕ) (at k : ℕ) where
-  abbrev pub Says : Turn → Type 0
-  Says AtEnd = (sheet : Sheet) → textAt script at sheet ≡ []
-  Says (No n offset) = (m : Machine Packet) (ss : List Step) → length ss ≡ k → textAt script at (serving m ss) ≡ noLine n offset
-  Says (ToStep i x next) = (readAt script at ≡ Next (StepTo i x) next) × (k < 8)
-  Says (ToPush p x next) = readAt script at ≡ Next (Push p x) next
-  Says (ToPop next) = readAt script at ≡ Next Pop next
+-- What the test of turns says of what is read, where k steps are gathered: the text from there on, or the call that is in turn.
+module _ (rest : List Read) (k : ℕ) where
+  abbrev pub Says : Turn → Read → Type 0
+  Says AtEnd r = r ≡ End
+  Says (No n offset) r = (m : Machine Packet) (ss : List Step) → length ss ≡ k → textOf (r ∷ rest) (serving m ss) ≡ noLine n offset
+  Says (InTurn c at) r = (r ≡ Next (Calling c) at) × (isNinth k c ≡ false)
 
-  says-by : (r : Read) → readAt script at ≡ r → Says (turnBy r at k)
+  says-by : (r : Read) → Says (turnOf k r) r
   unfolding obey
-  says-by End e = λ sheet. text-end script at sheet e
-  says-by (Unread n offset) e = λ m ss h. text-refused script at (serving m ss) n offset e
-  says-by (Next (Source b) next) e = λ m ss h. out-of-turn script at (serving m ss) (Source b) next e refl
-  says-by (Next (Target b) next) e = λ m ss h. out-of-turn script at (serving m ss) (Target b) next e refl
-  says-by (Next (Limit n) next) e = λ m ss h. out-of-turn script at (serving m ss) (Limit n) next e refl
-  says-by (Next Compile next) e = λ m ss h. out-of-turn script at (serving m ss) Compile next e refl
-  says-by (Next (StepTo i x) next) e = by-test (ltb k 8) refl
+  says-by End = refl
+  says-by (Unread n offset) = λ m ss h. refl
+  says-by (Next (Setup c) at) = λ m ss h. append-nil (noLine 22 at)
+  says-by (Next Compile at) = λ m ss h. append-nil (noLine 22 at)
+  says-by (Next (Calling (StepTo i x)) at) = by-test (leb 8 k) refl
     where
-      by-test : (b : Bool) → ltb k 8 ≡ b → Says (pick b (ToStep i x next) (No 22 at))
-      by-test true t = (e, ltb-true k 8 t)
-      by-test false t = λ m ss h. out-of-turn script at (serving m ss) (StepTo i x) next e (rw (h, t) refl)
-  says-by (Next (Push p x) next) e = e
-  says-by (Next Pop next) e = e
+      by-test : (b : Bool) → leb 8 k ≡ b → Says (pick b (No 22 at) (InTurn (StepTo i x) at)) (Next (Calling (StepTo i x)) at)
+      by-test true t = λ m ss h. rw (le-ltb (length ss) 8 (omega (arith, leb-true 8 k t, h))) (append-nil (noLine 22 at))
+      by-test false t = (refl, t)
+  says-by (Next (Calling (Push p x)) at) = (refl, refl)
+  says-by (Next (Calling Pop) at) = (refl, refl)
 
-  pub says : (t : Turn) → turnBy (readAt script at) at k ≡ t → Says t
-  says t e = rw (← e) (says-by (readAt script at) refl)
+  pub says : (r : Read) (t : Turn) → turnOf k r ≡ t → Says t r
+  says r t e = rw (← e) (says-by r)
 
 -- The chip's side of a push: with the path carried over, and where the carrying is refused.
 module _ (source target images : List ℕ) (t : State) (path : Path) (x : Packet) (c : Carried) (e : Carries source target images path c) (b : CodeAnswer) (y : State) where
@@ -91,7 +77,7 @@ module _ (source target images : List ℕ) (t : State) (path : Path) (x : Packet
   pub unsent : c .refusal ≢ 0 → y ≡ t → b ≡ Refused (c .refusal) → ChipCall source target images t (push path x) (answerOf b) y
   unsent n i j = rw (i, j) (chip-refused source target images t path x c e n)
 
-step-in : (m : Machine Packet) (ss : List Step) (i r : ℕ) → length ss < 8 → obey (serving m ss) (StepTo i r) ≡ (silent, serving m (ss ++ (step i r ∷ [])))
+step-in : (m : Machine Packet) (ss : List Step) (i r : ℕ) → length ss < 8 → obey (serving m ss) (Calling (StepTo i r)) ≡ (silent, serving m (ss ++ (step i r ∷ [])))
 unfolding obey
 step-in m ss i r h = rw (lt-ltb (length ss) 8 h) refl
 
@@ -99,17 +85,18 @@ module _ (source target images : List ℕ) (s t : State) (p : Path) (h : Served 
   pub count : length (stepsOf p) ≡ p .count
   count = steps-count p (omega (arith, h .few)) (h .places)
 
-  pub step-turned : (i r : ℕ) → p .count < 8 → Turned source target images s p (StepTo i r) silent s t (stepAdded p i r)
+  pub step-turned : (i r : ℕ) → isNinth (p .count) (StepTo i r) ≡ false → Turned source target images s p (StepTo i r) silent s t (stepAdded p i r)
   unfolding stepAdded
-  step-turned i r less =
+  step-turned i r e =
+      let less = leb-false 8 (p .count) e in
       record {
         is =
-            step-in (machine s) (stepsOf p) i r (omega (arith, count))
-            ∙ ap (λ (ss : List Step). (silent, serving (machine s) ss)) (sym (steps-added p i r (omega arith) (h .places)));
+            step-in (machine s) (stepsOf p) i r (omega (arith, count, less))
+            ∙ ap (λ (ss : List Step). (silent, serving (machine s) ss)) (sym (steps-added p i r (omega (arith, less)) (h .places)));
         served =
             record {
               in-step = h .in-step;
-              few = omega arith;
+              few = omega (arith, less);
               places = length-set (p .steps) (p .count) (record { child = i; rank = r }) ∙ h .places;
             };
       }

@@ -13,7 +13,9 @@ use Rattle.embedding_laws.specs.Least.{searchMap}
 use Rattle.queue_state.specs.State.{Packet}
 use Rattle.pair_state.specs.Opening.{bothFault}
 use Rattle.commands.specs.declared.Command.{Command}
-use Rattle.commands.specs.declared.Command.the-variants.{Source, Target, Limit, Compile, Step as StepTo, Push, Pop}
+use Rattle.commands.specs.declared.Command.the-variants.{Setup, Compile, Call}
+use Rattle.commands.specs.declared.Setup.the-variants.{Source, Target, Limit}
+use Rattle.commands.specs.declared.Call.the-variants.{Step as StepTo, Push, Pop}
 
 pub data Sheet : Type 0 where
   -- before 04: the bytes of the source and of the target, and the limit once it is given
@@ -57,22 +59,19 @@ replied (full n c) = no-by n
 abbrev pub served : Answer Packet × Machine Packet → List Step → Reply × Sheet
 served (a, m) steps = (replied a, serving m steps)
 
--- the reply to a command, and the sheet after it
+-- The reply to a command, and the sheet after it. Out of turn before 04 are a second limit, 04 without a limit and any call; after it all but
+-- calls, and a ninth step.
 unfoldable pub obey : Sheet → Command → Reply × Sheet
-obey (drawing s t l) (Source b) = (silent, drawing (s ++ (b ∷ [])) t l)
-obey (drawing s t l) (Target b) = (silent, drawing s (t ++ (b ∷ [])) l)
-obey (drawing s t none) (Limit n) = (silent, drawing s t (some n))
-obey (drawing s t (some m)) (Limit n) = outOfTurn (drawing s t (some m))
+obey (drawing s t l) (Setup (Source b)) = (silent, drawing (s ++ (b ∷ [])) t l)
+obey (drawing s t l) (Setup (Target b)) = (silent, drawing s (t ++ (b ∷ [])) l)
+obey (drawing s t none) (Setup (Limit n)) = (silent, drawing s t (some n))
+obey (drawing s t (some m)) (Setup (Limit n)) = outOfTurn (drawing s t (some m))
 obey (drawing s t none) Compile = outOfTurn (drawing s t none)
 obey (drawing s t (some n)) Compile = compiled (bothFault s t n) s t n
-obey (drawing s t l) (StepTo i r) = outOfTurn (drawing s t l)
-obey (drawing s t l) (Push p r) = outOfTurn (drawing s t l)
-obey (drawing s t l) Pop = outOfTurn (drawing s t l)
-obey (serving m steps) (Source b) = outOfTurn (serving m steps)
-obey (serving m steps) (Target b) = outOfTurn (serving m steps)
-obey (serving m steps) (Limit n) = outOfTurn (serving m steps)
+obey (drawing s t l) (Call c) = outOfTurn (drawing s t l)
+obey (serving m steps) (Setup c) = outOfTurn (serving m steps)
 obey (serving m steps) Compile = outOfTurn (serving m steps)
-obey (serving m steps) (StepTo i r) =
+obey (serving m steps) (Call (StepTo i r)) =
     pick (ltb (length steps) 8) (silent, serving m (steps ++ (step i r ∷ []))) (outOfTurn (serving m steps))
-obey (serving m steps) (Push p r) = served (serve m (pushing steps r p)) []
-obey (serving m steps) Pop = served (serve m popping) steps
+obey (serving m steps) (Call (Push p r)) = served (serve m (pushing steps r p)) []
+obey (serving m steps) (Call Pop) = served (serve m popping) steps

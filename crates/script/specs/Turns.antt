@@ -1,25 +1,30 @@
 -- What the private functions promise that take one command after 04.
 use Prim.Native.Nat.{ℕ}
-use lib.Dec.{ltb}
+use mathlib.Core.Bool.{Bool, false}
+use lib.Dec.{leb}
 use Rattle.topology.specs.Reader.{pick}
+use Rattle.commands.specs.declared.Call.{Call as CallCommand}
+use Rattle.commands.specs.declared.Call.the-variants.{Step, Push, Pop}
 use Rattle.commands.specs.declared.Command.{Command}
-use Rattle.commands.specs.declared.Command.the-variants.{Source, Target, Limit, Compile, Step, Push, Pop}
+use Rattle.commands.specs.declared.Command.the-variants.{Setup, Compile, Call}
 use Rattle.commands.specs.declared.Read.{Read}
 use Rattle.commands.specs.declared.Read.the-variants.{End, Next, Refused}
 use Rattle.script.specs.declared.turns.Turn.{Turn}
-use Rattle.script.specs.declared.turns.Turn.the-variants.{End as AtEnd, Refused as No, Step as ToStep, Push as ToPush, Pop as ToPop}
+use Rattle.script.specs.declared.turns.Turn.the-variants.{End as AtEnd, Refused as No, Call as InTurn}
 
--- a command at an offset, by how many steps are gathered
-abbrev pub turnOf : ℕ → ℕ → Command → ℕ → Turn
-turnOf steps at (Source b) next = No 22 at
-turnOf steps at (Target b) next = No 22 at
-turnOf steps at (Limit n) next = No 22 at
-turnOf steps at Compile next = No 22 at
-turnOf steps at (Step i r) next = pick (ltb steps 8) (ToStep i r next) (No 22 at)
-turnOf steps at (Push p r) next = ToPush p r next
-turnOf steps at Pop next = ToPop next
+-- whether a call is a step too many, by how many are gathered
+abbrev pub isNinth : ℕ → CallCommand → Bool
+isNinth steps (Step i r) = leb 8 steps
+isNinth steps (Push p r) = false
+isNinth steps Pop = false
 
-abbrev pub turnBy : Read → ℕ → ℕ → Turn
-turnBy End at steps = AtEnd
-turnBy (Refused n offset) at steps = No n offset
-turnBy (Next c next) at steps = turnOf steps at c next
+-- a command at an offset
+abbrev pub callOf : ℕ → Command → ℕ → Turn
+callOf steps (Setup c) at = No 22 at
+callOf steps Compile at = No 22 at
+callOf steps (Call c) at = pick (isNinth steps c) (No 22 at) (InTurn c at)
+
+abbrev pub turnOf : ℕ → Read → Turn
+turnOf steps End = AtEnd
+turnOf steps (Next c at) = callOf steps c at
+turnOf steps (Refused n at) = No n at

@@ -1,43 +1,47 @@
 // One command after 04: whether it is in turn.
+use commands::Call;
 use commands::Command;
 use commands::Read;
 ghost use mathlib.Core.Path.{_≡_};
-ghost use Rattle.commands.specs.Reading.{readAt};
-ghost use Rattle.script.specs.Turns.{turnOf, turnBy};
+ghost use Rattle.script.specs.Turns.{isNinth, callOf, turnOf};
 
-// What stands at an offset after 04: the end of the script; a refusal, its number and its command's offset; or a command in turn, its
-// operands and the offset of the next.
+// What is read after 04: the end of the script; a refusal, its number and its command's offset; or a call in turn and its offset.
 pub(crate) enum Turn {
     End,
     Refused(u8, usize),
-    Step(u8, u32, usize),
-    Push(u32, u32, usize),
-    Pop(usize),
+    Call(Call, usize),
 }
 
-// A command, by how many steps are gathered: `at` is its offset and `next` the next one's.
-fn turn_of(steps: usize, at: usize, command: Command, next: usize) -> Turn
-    ensures { λ r. ⌜ r ≡ turnOf steps at command next ⌝ }
+// Whether a call is a step too many.
+fn is_ninth(steps: usize, call: Call) -> bool
+    ensures { λ r. ⌜ r ≡ isNinth steps call ⌝ }
 {
-    match command {
-        Command::Step(child, rank) => {
-            if steps < 8 {
-                return Turn::Step(child, rank, next);
-            }
-            Turn::Refused(22, at)
-        }
-        Command::Push(packet, leaf_rank) => Turn::Push(packet, leaf_rank, next),
-        Command::Pop => Turn::Pop(next),
-        _ => Turn::Refused(22, at),
+    match call {
+        Call::Step(_, _) => 8 <= steps,
+        Call::Push(_, _) => false,
+        Call::Pop => false,
     }
 }
 
-pub(crate) fn turn_at(script: &[u8], at: usize, steps: usize) -> Turn
-    ensures { λ r. ⌜ r ≡ turnBy (readAt (now (script .entry)) at) at steps ⌝ }
+// A command at an offset, by how many steps are gathered. In turn after 04 are calls, but for a ninth step.
+fn call_of(steps: usize, command: Command, offset: usize) -> Turn
+    ensures { λ r. ⌜ r ≡ callOf steps command offset ⌝ }
 {
-    match commands::read_at(script, at) {
+    let Command::Call(call) = command else {
+        return Turn::Refused(22, offset);
+    };
+    if is_ninth(steps, call) {
+        return Turn::Refused(22, offset);
+    }
+    Turn::Call(call, offset)
+}
+
+pub(crate) fn turn_of(steps: usize, read: Read) -> Turn
+    ensures { λ r. ⌜ r ≡ turnOf steps read ⌝ }
+{
+    match read {
         Read::End => Turn::End,
         Read::Refused(number, offset) => Turn::Refused(number, offset),
-        Read::Next(command, next) => turn_of(steps, at, command, next),
+        Read::Next(command, offset) => call_of(steps, command, offset),
     }
 }

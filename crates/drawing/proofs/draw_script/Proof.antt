@@ -6,8 +6,8 @@ use borrow.Author.Needs.{needs}
 use Rattle.drawing.proofs.draw_script.Statement.{statement}
 use Rattle.drawing.proofs.draw_script.Tie as tie
 
-gather-requires : tie.Need-gather-requires
-gather-requires c κs = search needs
+gathered-of-requires : tie.Need-gathered-of-requires
+gathered-of-requires c κs = search needs
 
 enum-told : tie.Need-enum-told
 enum-told c = search needs
@@ -33,7 +33,7 @@ same-length c = search needs
 returns : tie.Need-returns
 returns c =
     let told = c .before .before .before .before in
-    puts-as (ends-with-script _ (sym (told .before .before .before .gather .ensures .ending) ∙ told .enum-told .given .1)) (c .before .before .draw-nothing .ensures)
+    puts-as (ends-with-script _ (sym (told .before .before .before .gathered-of .ensures .ending) ∙ told .enum-told .given .1)) (c .before .before .draw-nothing .ensures)
 
 same-length-2 : tie.Need-same-length-2
 same-length-2 c = search needs
@@ -41,7 +41,7 @@ same-length-2 c = search needs
 returns-2 : tie.Need-returns-2
 returns-2 c =
     let told = c .before .before .before .before .before in
-    puts-as (ends-refused _ _ _ (sym (told .before .before .before .gather .ensures .ending) ∙ told .ending .given .1))
+    puts-as (ends-refused _ _ _ (sym (told .before .before .before .gathered-of .ensures .ending) ∙ told .ending .given .1))
     (c .before .before .draw-refusal .ensures)
 
 same-length-3 : tie.Need-same-length-3
@@ -50,15 +50,15 @@ same-length-3 c = search needs
 returns-3 : tie.Need-returns-3
 returns-3 c =
     let told = c .before .before .before .before .before in
-    let gathered = told .before .before .before .gather .ensures in
-    puts-as (ends-compiled _ _ _ _ (gathered .draws) (sym (gathered .ending) ∙ told .ending2 .given .1))
+    let gathered = told .before .before .before .gathered-of .ensures in
+    puts-as (ends-compiled _ _ _ (gathered .draws) (sym (gathered .ending) ∙ told .ending2 .given .1))
     (c .before .before .draw-kept .ensures)
 
 pub draw-script-spec : {M : Type 1} → statement M
 draw-script-spec =
     tie.close
     (tie.spec
-    gather-requires
+    gathered-of-requires
     enum-told
     draw-nothing-requires
     enum-known-ending

@@ -18,9 +18,6 @@ enum-told c = search needs
 returns : tie.Need-returns
 returns c = source-cut _ _ _ (c .before .before .before .match .keys1) (byte-missing _ _ _ (c .before .before .byte-at .ensures) (c .enum-told .given .1))
 
-add-t14 : tie.Need-add-t14
-add-t14 c = omega (arith, (byte-there _ _ _ _ (c .before .before .before .byte-at .ensures) (c .before .node .given .1)) .fits)
-
 byte-at-requires-2 : tie.Need-byte-at-requires-2
 byte-at-requires-2 c κs = search needs
 
@@ -33,9 +30,6 @@ enum-told-2 c = search needs
 returns-2 : tie.Need-returns-2
 returns-2 c = target-cut _ _ _ (c .before .before .before .match .keys2) (byte-missing _ _ _ (c .before .before .byte-at2 .ensures) (c .enum-told2 .given .1))
 
-add-t17 : tie.Need-add-t17
-add-t17 c = omega (arith, (byte-there _ _ _ _ (c .before .before .before .byte-at2 .ensures) (c .before .node2 .given .1)) .fits)
-
 half-at-requires : tie.Need-half-at-requires
 half-at-requires c κs = search needs
 
@@ -47,12 +41,6 @@ enum-told-3 c = search needs
 
 returns-3 : tie.Need-returns-3
 returns-3 c = limit-cut _ _ _ (c .before .before .before .match .keys3) (word-missing _ _ 2 _ (c .before .before .half-at .ensures .0) (c .enum-told3 .given .1))
-
-add-t20 : tie.Need-add-t20
-add-t20 c = omega (arith, (word-there _ _ 2 _ _ (c .before .before .before .half-at .ensures .0) (c .before .limit .given .1)) .fits)
-
-add-t22 : tie.Need-add-t22
-add-t22 c = search needs
 
 byte-at-requires-3 : tie.Need-byte-at-requires-3
 byte-at-requires-3 c κs = search needs
@@ -78,9 +66,6 @@ enum-told-5 c = search needs
 returns-5 : tie.Need-returns-5
 returns-5 c = step-cut _ _ _ 6 (omega arith) (c .before .before .before .before .before .before .before .match .keys5) (word-missing _ _ 4 _ (c .before .before .word-at .ensures) (c .enum-told5 .given .1))
 
-add-t26 : tie.Need-add-t26
-add-t26 c = omega (arith, (word-there _ _ 4 _ _ (c .before .before .before .word-at .ensures) (c .before .rank .given .1)) .fits)
-
 word-at-requires-2 : tie.Need-word-at-requires-2
 word-at-requires-2 c κs = search needs
 
@@ -105,12 +90,6 @@ enum-told-7 c = search needs
 returns-7 : tie.Need-returns-7
 returns-7 c = push-cut _ _ _ 9 (omega arith) (c .before .before .before .before .before .before .before .match .keys6) (word-missing _ _ 4 _ (c .before .before .word-at3 .ensures) (c .enum-told7 .given .1))
 
-add-t30 : tie.Need-add-t30
-add-t30 c = omega (arith, (word-there _ _ 4 _ _ (c .before .before .before .word-at3 .ensures) (c .before .leaf-rank .given .1)) .fits)
-
-add-t32 : tie.Need-add-t32
-add-t32 c = search needs
-
 returns-8 : tie.Need-returns-8
 returns-8 c = source-read _ _ _ _ (c .before .before .before .before .match .keys1) (byte-there _ _ _ _ (c .before .before .before .byte-at .ensures) (c .before .node .given .1))
 
@@ -121,7 +100,7 @@ returns-10 : tie.Need-returns-10
 returns-10 c = limit-read _ _ _ _ (c .before .before .before .before .match .keys3) (word-there _ _ 2 _ _ (c .before .before .before .half-at .ensures .0) (c .before .limit .given .1))
 
 returns-11 : tie.Need-returns-11
-returns-11 c = compile-read _ _ _ (c .match .keys4) (c .before .before .pre .0)
+returns-11 c = compile-read _ _ _ (c .match .keys4) (c .before .before .pre)
 
 returns-12 : tie.Need-returns-12
 returns-12 c = step-read _ _ _ _ _ (c .before .before .before .before .before .before .before .before .match .keys5) (byte-there _ _ _ _ (c .before .before .before .before .before .before .before .byte-at3 .ensures) (c .before .before .before .before .before .child .given .1)) (word-there _ _ 4 _ _ (c .before .before .before .word-at .ensures) (c .before .rank .given .1))
@@ -130,7 +109,7 @@ returns-13 : tie.Need-returns-13
 returns-13 c = push-read _ _ _ _ _ (c .before .before .before .before .before .before .before .before .match .keys6) (word-there _ _ 4 _ _ (c .before .before .before .before .before .before .before .word-at2 .ensures) (c .before .before .before .before .before .packet .given .1)) (word-there _ _ 4 _ _ (c .before .before .before .word-at3 .ensures) (c .before .leaf-rank .given .1))
 
 returns-14 : tie.Need-returns-14
-returns-14 c = pop-read _ _ _ (c .match .keys7) (c .before .before .pre .0)
+returns-14 c = pop-read _ _ _ (c .match .keys7) (c .before .before .pre)
 
 returns-15 : tie.Need-returns-15
 returns-15 c = unknown _ _ _ (c .match .rest .0 .0 .0 .0 .0 .0 .1) (c .match .rest .0 .0 .0 .0 .0 .1) (c .match .rest .0 .0 .0 .0 .1) (c .match .rest .0 .0 .0 .1) (c .match .rest .0 .0 .1) (c .match .rest .0 .1) (c .match .rest .1)
@@ -143,18 +122,14 @@ command-by-spec =
     enum-known-node
     enum-told
     returns
-    add-t14
     byte-at-requires-2
     enum-known-node-2
     enum-told-2
     returns-2
-    add-t17
     half-at-requires
     enum-known-limit
     enum-told-3
     returns-3
-    add-t20
-    add-t22
     byte-at-requires-3
     enum-known-child
     enum-told-4
@@ -163,7 +138,6 @@ command-by-spec =
     enum-known-rank
     enum-told-5
     returns-5
-    add-t26
     word-at-requires-2
     enum-known-packet
     enum-told-6
@@ -172,8 +146,6 @@ command-by-spec =
     enum-known-leaf-rank
     enum-told-7
     returns-7
-    add-t30
-    add-t32
     returns-8
     returns-9
     returns-10

@@ -1,44 +1,38 @@
--- The cases of the command.
+-- The cases of what was read.
 use mathlib.Core.Path.{refl}
-use borrow.Author.Tests.{lt-ltb, le-ltb}
-use Rattle.script.proofs.Others.{gathers-late}
 use borrow.Author.Needs.{needs}
 use Rattle.script.proofs.turns.turn_of.Statement.{statement}
 use Rattle.script.proofs.turns.turn_of.Tie as tie
 
-enum-known-command : tie.Need-enum-known-command
-enum-known-command c = search needs
-
-returns : tie.Need-returns
-returns c = rw (c .before .before .command .given .1, lt-ltb _ _ (c .if1 .taken)) refl
-
-enum-known-command-2 : tie.Need-enum-known-command-2
-enum-known-command-2 c = search needs
-
 enum-told : tie.Need-enum-told
 enum-told c = search needs
 
+enum-known-read : tie.Need-enum-known-read
+enum-known-read c = search needs
+
+enum-known-read-2 : tie.Need-enum-known-read-2
+enum-known-read-2 c = search needs
+
+call-of-requires : tie.Need-call-of-requires
+call-of-requires c κs = search needs
+
+returns : tie.Need-returns
+returns c = search needs
+
 returns-2 : tie.Need-returns-2
-returns-2 c = rw (c .before .before .command .given .1, le-ltb _ _ (c .if1 .left)) refl
+returns-2 c = rw (c .before .read .given .1) refl
 
 returns-3 : tie.Need-returns-3
-returns-3 c = rw (c .before .command2 .given .1) refl
-
-returns-4 : tie.Need-returns-4
-returns-4 c = rw (c .enum-told .given .1) refl
-
-returns-5 : tie.Need-returns-5
-returns-5 c = gathers-late (c .before .args .steps) (c .before .args .at) (c .before .args .command) (c .before .args .next) (c .match .keys4)
+returns-3 c = rw (c .before .before .read2 .given .1) (c .call-of .ensures)
 
 pub turn-of-spec : {M : Type 1} → statement M
 turn-of-spec =
     tie.close
     (tie.spec
-    enum-known-command
-    returns
-    enum-known-command-2
     enum-told
+    enum-known-read
+    enum-known-read-2
+    call-of-requires
+    returns
     returns-2
-    returns-3
-    returns-4
-    returns-5)
+    returns-3)
