@@ -39,7 +39,7 @@ struct Progress {
 }
 
 // Runs a script: the text that it prints goes into `out`, as far as that goes, and the answer is where it ends there. One reader reads the
-// script from its first command to its last.
+// script from its first command to its last; after 04 in batches, because both trees go in and out of `serve` by value.
 pub fn run(script: &[u8], out: &mut [u8]) -> usize
     ensures { λ r. ⌜ Puts (now (out .entry)) 0 (output (now (script .entry))) (now (out .exit)) r ⌝ }
 {

@@ -231,7 +231,8 @@ module _ {M : Type 1} (𝓤 : URA M) (H : Heap 𝓤) (A : Atoms 𝓤) (W : Given
       qed W (‵ (Loan 𝓤 H A B κ q p 0 (named 0) (reader at) ν) ∷ ‵ (flft (ν .0 ∷ κ) (PosShare·right q)) ∷ ‵ (flft κ (PosShare·left q)) ∷ []) ∵
       nothing ! $ move ! (1 ∷ 0 ∷ []) $ fjoin ! $ nothing ! $ move ! (3 ∷ 0 ∷ []) $ join ! $ move ! (2 ∷ 0 ∷ []) $ join ! $ join ! $ frame ! $ done !
 
-  -- `start` and `serve`, which are lent out for the lifetime ν under the name δ. What else they are passed is plain data, and what that owns is made anew
+  -- `start` and `serve`, which are lent out for the lifetime ν under the name δ. What else they are passed is plain data, and what that owns is
+  -- made anew
   abbrev passed-start : GName → Gathered → RefT (List ℕ) × (Gathered × Unit {0})
   passed-start δ h = (out δ ys, (h, tt))
 
@@ -367,7 +368,8 @@ module _ {M : Type 1} (𝓤 : URA M) (H : Heap 𝓤) (A : Atoms 𝓤) (W : Given
           group ! 4 $ use1 W (later (‵ (partAt B fullShare (reader (after 256 l (x .at))) l₃ 0) ⊛ ‵ (flft κ q))) (takes-back 𝓤 H A B κ q l₃ 0 W p (reader (after 256 l (x .at)))) $ await ! tt $ split ! $
           fpick ! (λ vs. fsplit ! $ spelt ! B (Is B) (shows 𝓤 H A B) (LL.vals (T.the-type α) (T′.the-laws α)) (LL.tells (T.the-type α) (T′.the-laws α)) fullShare (reader (after 256 l (x .at))) vs l₃ 0 $
           use1 W (‵ (fat fullShare (T′.mir erased) l₃ 0 (mach (after 256 l (x .at))))) (W .laws .raw-at fullShare (T′.mir erased) l₃ 0 (mach (after 256 l (x .at)))) $
-          -- [_3; what the reader owns; its token; …; …; what script owns; out's token; what out owns; _14; …; down to _4; …; that _3 dies; _2; …; _1; …; room for _0; …]
+          -- [_3; what the reader owns; its token; …; …; what script owns; out's token; what out owns; _14; …; down to _4; …; that _3 dies; _2; …;
+          -- _1; …; room for _0; …]
           assigns ! (addr ! (from ! (fld ! refl (hop ! (look-in ! 31 (sub ! 0 refl (whole !))) (stop !))))) (from ! (stop !)) (init ! 10 refl (tt, tt)) $
           assigns ! (agg ! (and-then ! (load ! (from ! (stop !)) (look ! 10 refl)) (and-then ! (load ! (from ! (fld ! refl (stop !))) (look-in ! 31 (sub ! 1 refl (whole !)))) (no-more !)))) (from ! (stop !)) (init ! 8 refl (tt, (tt, (record { fits = room .0 }, tt)))) $
           -- out is lent again
@@ -384,7 +386,8 @@ module _ {M : Type 1} (𝓤 : URA M) (H : Heap 𝓤) (A : Atoms 𝓤) (W : Given
           -- the lifetime is ended, and out comes back at that list
           split ! $ lft-end ! tt $ move ! (0 ∷ 5 ∷ 2 ∷ []) $
           use3 W (later (‵ (Out′ (us .1 .0)) ⊛ ‵ (flft κ′ q′))) (comes-sized u8 κ′ (ν ∷ []) q′ γ b o 𝓤 H A W (named 1) (named 0) (x .text) (length ys) (same-long x) δ (us .1 .0) (subst (Room u8) (sym (same-long x)) room) same) $ await ! tt $ split ! $
-          -- [what out owns; its token; …; …; …; _3; what the reader owns; its token; …; …; what script owns; _14; …; down to _4; …; that _3 dies; _2; …; _1; …; room for _0; …]
+          -- [what out owns; its token; …; …; …; _3; what the reader owns; its token; …; …; what script owns; _14; …; down to _4; …; that _3 dies;
+          -- _2; …; _1; …; room for _0; …]
           land-last ! (from ! (stop !)) (store ! 29 refl (LL.lawful Y.the-type Y′.the-laws 𝓤 H A W .typed t _ is′ .0)) $
           rewrite ! 29 (λ (y : Val). ‵ (fat fullShare Y′.mir l₅ 0 y)) (ap only (Y′.lowers .val-is t (u ∷ []) is′)) refl $
           forget ! 11 refl $ forget ! 13 refl $ forget ! 15 refl $ forget ! 17 refl $ forget ! 27 refl $
@@ -491,7 +494,8 @@ module _ {M : Type 1} (𝓤 : URA M) (H : Heap 𝓤) (A : Atoms 𝓤) (W : Given
         group ! 4 $ use1 W (later (‵ (partAt B fullShare (reader (zs .0 .at)) l₃ 0) ⊛ ‵ (flft κ q))) (takes-back 𝓤 H A B κ q l₃ 0 W p (reader (zs .0 .at))) $ await ! tt $ split ! $
         fpick ! (λ vs. fsplit ! $ spelt ! B (Is B) (shows 𝓤 H A B) (LL.vals (T.the-type α) (T′.the-laws α)) (LL.tells (T.the-type α) (T′.the-laws α)) fullShare (reader (zs .0 .at)) vs l₃ 0 $
         use1 W (‵ (fat fullShare (T′.mir erased) l₃ 0 (mach (zs .0 .at)))) (W .laws .raw-at fullShare (T′.mir erased) l₃ 0 (mach (zs .0 .at))) $
-        -- [_3; what the reader owns; its token; …; …; …; what script owns; out's token; what out owns; _14; …; down to _4; …; that _3 dies; _2; …; _1; …; room for _0; …]
+        -- [_3; what the reader owns; its token; …; …; …; what script owns; out's token; what out owns; _14; …; down to _4; …; that _3 dies; _2; …;
+        -- _1; …; room for _0; …]
         forget ! 21 refl $ forget ! 23 refl $ keep ! (1 ∷ 2 ∷ 6 ∷ 7 ∷ 8 ∷ 9 ∷ 10 ∷ 11 ∷ 12 ∷ 13 ∷ 14 ∷ 15 ∷ 16 ∷ 17 ∷ 18 ∷ 19 ∷ 20 ∷ 21 ∷ 22 ∷ 23 ∷ 24 ∷ 25 ∷ 26 ∷ 27 ∷ 28 ∷ 29 ∷ 30 ∷ 0 ∷ 31 ∷ 32 ∷ 33 ∷ 34 ∷ 35 ∷ 36 ∷ 37 ∷ []) $
         goes-from 𝓣 l₀ l₁ l₂ l₃ l₄ l₅ l₆ l₇ l₈ l₉ l₁₀ l₁₁ l₁₂ l₁₃ l₁₄ fm known-next known-serve known-start h (zs .0 .at) (e₁ .0) (e₁ .2) (subst (Is F.the-row h) (F′.lowers .val-is h (z ∷ []) is₁) is₁)))))))))))))))))))))))))))
 

@@ -1,4 +1,6 @@
--- `commands::Reader::next` meets its contract: a walk of its MIR, by hand. The borrow is opened, which gives the struct's cell and what the struct owns; the slice and the number go to `found_at`, and the number that it found is stored in the cell; the borrow is closed at the record with that number.
+-- `commands::Reader::next` meets its contract: a walk of its MIR, by hand. The borrow is opened, which gives the struct's cell and what the struct
+-- owns; the slice and the number go to `found_at`, and the number that it found is stored in the cell; the borrow is closed at the record with that
+-- number.
 -- The struct is Copy: what it owns is had twice, and one copy is kept whole. All that the proof knows of `found_at` is that it meets its contract.
 -- Assumes nothing.
 use mathlib.Core.Path.{_≡_, refl, ap, subst}
