@@ -1,0 +1,142 @@
+-- Disciplines of the nodes of a drawing (paper 02, 2.1): the ranks that they give a packet on the way to its leaf, and what they keep. Weighted is
+-- start-time fair queueing, Figure 1 of document 002, with the children of a node as its flows. All lists go by node number of the drawing; a
+-- weight and a finish are those of a node under its parent.
+use Prim.Native.Nat.{ℕ, zero, suc, _+_, _*_, _/_, max}
+use mathlib.Core.List.{List, [], _∷_}
+use mathlib.Core.Bool.{Bool, true, false, _&&_}
+use mathlib.Core.Option.{Option, none, some}
+use lib.ListN.{getD, set, replicate}
+use lib.Dec.{eqb, leb, ltb}
+use Rattle.topology.specs.Tree.{Topo, width, size}
+use Rattle.topology.specs.Address.{Addr, subtree, childOf}
+use Rattle.topology.specs.Reader.{pick}
+use Rattle.pifo.specs.Queue.{Rank}
+use Rattle.pifo.specs.Tree.{Step, step}
+use Rattle.disciplines.specs.declared.Rule.{Rule}
+use Rattle.disciplines.specs.declared.Disciplines.{Disciplines}
+
+-- a discipline by its number
+abbrev pub arrival : ℕ
+arrival = 0
+
+abbrev pub strict : ℕ
+strict = 1
+
+abbrev pub weighted : ℕ
+weighted = 2
+
+abbrev pub noRule : Rule
+noRule = record { discipline = arrival; weight = 0 }
+
+abbrev pub kindAt : List Rule → ℕ → ℕ
+kindAt rules n = getD rules n noRule .discipline
+
+abbrev pub weightAt : List Rule → ℕ → ℕ
+weightAt rules n = getD rules n noRule .weight
+
+-- ---- Figure 1, at node n for a packet to its child c
+
+-- virtual time: the rank last popped at the node; 0 before
+abbrev pub virtualAt : Disciplines → ℕ → Rank
+virtualAt d n = getD (d .«virtual_time») n 0
+
+-- the child's last finish, 0 at first
+abbrev pub finishAt : Disciplines → ℕ → Rank
+finishAt d c = getD (d .finish) c 0
+
+abbrev pub start : Disciplines → ℕ → ℕ → Rank
+start d n c = max (virtualAt d n) (finishAt d c)
+
+abbrev pub finish : Disciplines → ℕ → ℕ → ℕ → ℕ
+finish d n c length = start d n c + (length * 256) / weightAt (d .rules) c
+
+-- the largest finish
+abbrev pub mostFinish : ℕ
+mostFinish = 4294967295
+
+-- ---- what a discipline does, by its number
+
+-- the rank of an entry, with the start that the node would give and the packet's class
+abbrev pub rankBy : ℕ → Rank → ℕ → Rank
+rankBy k s class = pick (eqb k weighted) s (pick (eqb k strict) class 0)
+
+-- a weighted node's child has a new finish
+abbrev pub finishBy : ℕ → ℕ → ℕ → List Rank → List Rank
+finishBy k c f fs = pick (eqb k weighted) (set fs c f) fs
+
+-- whether the new finish, if there is one, fits
+abbrev pub fitsBy : ℕ → ℕ → Bool
+fitsBy k f = pick (eqb k weighted) (leb f mostFinish) true
+
+-- ---- a packet on its way down from node n; all starts are read from the disciplines as they were before it
+
+abbrev pub stepsDown : Topo → Disciplines → ℕ → ℕ → Addr → List Step
+stepsDown t d class n [] = []
+stepsDown t d class n (i ∷ a) =
+    let c = childOf t n i in
+    step i (rankBy (kindAt (d .rules) n) (start d n c) class) ∷ stepsDown t d class c a
+
+-- the finishes after it
+abbrev pub finishesDown : Topo → Disciplines → ℕ → ℕ → Addr → List Rank → List Rank
+finishesDown t d length n [] fs = fs
+finishesDown t d length n (i ∷ a) fs =
+    let c = childOf t n i in
+    finishesDown t d length c a (finishBy (kindAt (d .rules) n) c (finish d n c length) fs)
+
+-- whether each finish that it gives fits
+abbrev pub fitsDown : Topo → Disciplines → ℕ → ℕ → Addr → Bool
+fitsDown t d length n [] = true
+fitsDown t d length n (i ∷ a) =
+    let c = childOf t n i in
+    fitsBy (kindAt (d .rules) n) (finish d n c length) && fitsDown t d length c a
+
+-- ---- after a pop
+
+-- Only a weighted node of the drawing keeps a virtual time.
+abbrev pub keepsTime : Topo → List Rule → ℕ → Bool
+keepsTime t rules n = ltb n (size t) && eqb (kindAt rules n) weighted
+
+-- the rank that the pop took at the node, if it took one there, else the time before
+abbrev pub lastOf : Option Rank → Rank → Rank
+lastOf none v = v
+lastOf (some r) v = r
+
+-- the virtual times from node n on, where a pop took these ranks
+abbrev pub timesAfter : Topo → List Rule → (ℕ → Option Rank) → ℕ → List Rank → List Rank
+timesAfter t rules at n [] = []
+timesAfter t rules at n (v ∷ vs) = pick (keepsTime t rules n) (lastOf (at n) v) v ∷ timesAfter t rules at (suc n) vs
+
+-- ---- 24
+
+-- the first k children of node n have weights
+abbrev pub weighs : Topo → List Rule → ℕ → ℕ → Bool
+weighs t rules n zero = true
+weighs t rules n (suc k) = weighs t rules n k && ltb 0 (weightAt rules (childOf t n (suc k)))
+
+-- a weighted node has children, all with weights; any other number than these three names no discipline
+abbrev pub soundAt : Topo → List Rule → ℕ → Bool
+soundAt t rules n =
+    let w = width (subtree t n) in
+    let k = kindAt rules n in
+    pick (eqb k weighted) (ltb 0 w && weighs t rules n w) (ltb k weighted)
+
+abbrev pub allSound : Topo → List Rule → ℕ → Bool
+allSound t rules zero = true
+allSound t rules (suc n) = allSound t rules n && soundAt t rules n
+
+-- the number by which the rules of a drawing are refused: 24, or 0
+unfoldable pub ruleFault : Topo → List Rule → ℕ
+ruleFault t rules = pick (allSound t rules (size t)) 0 24
+
+-- ---- the disciplines anew
+
+abbrev pub withFinishes : Disciplines → List Rank → Disciplines
+withFinishes d fs = record { rules = d .rules; «virtual_time» = d .«virtual_time»; finish = fs }
+
+abbrev pub afterPop : Topo → Disciplines → (ℕ → Option Rank) → Disciplines
+afterPop t d at =
+    record { rules = d .rules; «virtual_time» = timesAfter t (d .rules) at 0 (d .«virtual_time»); finish = d .finish }
+
+-- as a tree is opened with them: nothing was popped and nothing finished
+abbrev pub fresh : List Rule → Disciplines
+fresh rules = record { rules = rules; «virtual_time» = replicate 64 0; finish = replicate 64 0 }
