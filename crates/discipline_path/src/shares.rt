@@ -1,0 +1,88 @@
+// What one node gives a packet on its way: the rank of its entry, and the finish of the child that it goes to.
+use queue_state::Rank;
+ghost use mathlib.Core.Path.{_≡_};
+ghost use Prim.Native.Nat.{_*_, _/_, _<_, max};
+ghost use Rattle.disciplines.specs.Figure.{finishBy};
+ghost use Rattle.discipline_path.specs.Shares.{Shares};
+
+// The largest finish.
+const MOST_FINISH: Rank = 4294967295;
+
+// A rank, and at a weighted node the child's finish where it fits.
+pub(crate) struct Share {
+    pub rank: Rank,
+    pub finish: Rank,
+    pub fits: bool,
+}
+
+fn larger(a: Rank, b: Rank) -> Rank
+    ensures { λ r. ⌜ r ≡ max a b ⌝ }
+{
+    if a < b {
+        return b;
+    }
+    a
+}
+
+// How much later than its start a packet finishes.
+fn added(length: u16, weight: u8) -> Rank
+    ensures { λ r. ⌜ r ≡ (length * 256) / weight ⌝ }
+{
+    if weight == 0 {
+        return 0;
+    }
+    (length as Rank) * 256 / (weight as Rank)
+}
+
+// Figure 1 of document 002: by the node's discipline and virtual time, and by the child's last finish and weight.
+pub(crate) fn share_of(
+    discipline: u8,
+    virtual_time: Rank,
+    finish: Rank,
+    weight: u8,
+    class: u8,
+    length: u16,
+) -> Share
+    ensures { λ r. ⌜ Shares discipline (max «virtual_time» finish) ((length * 256) / weight) class r ⌝ }
+{
+    if discipline == 2 {
+        let start = larger(virtual_time, finish);
+        let more = added(length, weight);
+        if MOST_FINISH - start < more {
+            return Share {
+                rank: start,
+                finish: 0,
+                fits: false,
+            };
+        }
+        return Share {
+            rank: start,
+            finish: start + more,
+            fits: true,
+        };
+    }
+    if discipline == 1 {
+        return Share {
+            rank: class as Rank,
+            finish: 0,
+            fits: true,
+        };
+    }
+    Share {
+        rank: 0,
+        finish: 0,
+        fits: true,
+    }
+}
+
+// The finishes with the child's new one, if the node is weighted.
+pub(crate) fn finished(finishes: [Rank; 64], discipline: u8, child: usize, finish: Rank) -> [Rank; 64]
+    requires { ⌜ child < 64 ⌝ }
+    ensures { λ r. ⌜ r ≡ finishBy discipline child finish finishes ⌝ }
+{
+    let mut after = finishes;
+    if discipline == 2 {
+        after[child] = finish;
+    }
+    after
+}
