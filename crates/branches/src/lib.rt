@@ -1,15 +1,16 @@
 // Where a tree's branches lie in its bytes.
 //
-// `branch` is the call of paper 01. `branch_end`, `child` and `is_above` serve the crates above; they take any bytes and mean what their
-// names say where `topology::read` accepts those bytes.
+// `branch` is the call of paper 01. `branch_end`, `child`, `is_above` and `toward` serve the crates above; they take any bytes and mean
+// what their names say where `topology::read` accepts those bytes.
 use topology::Found;
 use topology::Reading;
 use topology::TARGET_NODES;
+use topology::Toward;
 use topology::read;
 ghost use mathlib.Core.Path.{_≡_};
 ghost use Prim.Native.Nat.{_+_};
 ghost use denote.Ref.{ptr};
-ghost use Rattle.topology.specs.Branch.{branchEnd, childAt, isAbove, branchFault, branchPart};
+ghost use Rattle.topology.specs.Branch.{branchEnd, childAt, isAbove, towardAt, branchFault, branchPart};
 
 // One past the last node of the branch under `node`; the end of the bytes where they stop short of that.
 pub fn branch_end(bytes: &[u8], node: usize) -> usize
@@ -62,6 +63,30 @@ pub fn is_above(bytes: &[u8], a: usize, b: usize) -> bool
     } else {
         false
     }
+}
+
+// The child of node `from` that is node `to` or lies above it.
+pub fn toward(bytes: &[u8], from: usize, to: usize) -> Toward
+    ensures { λ r. ⌜ r ≡ towardAt (now (bytes .entry)) from to ⌝ }
+{
+    if bytes.len() <= from {
+        return Toward::Nowhere;
+    }
+    if to <= from {
+        return Toward::Nowhere;
+    }
+    let children = bytes[from];
+    let mut node = from + 1;
+    let mut elder = 0u8;
+    while elder < children {
+        let end = branch_end(bytes, node);
+        if to < end {
+            return Toward::Child(elder + 1, node);
+        }
+        node = end;
+        elder += 1;
+    }
+    Toward::Nowhere
 }
 
 // The branch under `node`, as the stretch of the caller's own bytes, and 0 in `refusal`; or nothing, and the refusal's number. The second

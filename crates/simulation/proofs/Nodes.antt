@@ -1,16 +1,15 @@
 -- Maps and carried paths by node number, for code: no two source nodes have one image; a child's image lies strictly below its parent's;
 -- the way down from a node begins with the one child that is the way's end or lies above it; and a path carried from node to node is the
 -- carried path.
-use mathlib.Core.Path.{_≡_, refl, sym, ap, ap₂, _∙_, subst}
+use mathlib.Core.Path.{_≡_, refl, sym, ap, ap₂, _∙_}
 use Prim.Native.Nat.{ℕ, _<_}
 use native.Mathlib.Omega.{arith}
-use mathlib.Core.List.{List, [], _∷_, _++_, append-nil, append-assoc}
+use mathlib.Core.List.{List, [], _∷_, _++_, append-assoc}
 use lib.ListN.{length, drop}
 use lib.Seq.{drop-length, drop-append-seam}
 use Rattle.topology.specs.Tree.{Topo, size}
-use Rattle.topology.specs.Address.{Addr, In, Above, addr, subtree, childOf, depth}
-use Rattle.topology.proofs.Numbering.{addr-in, num-addr, num-lt, addr-num}
-use Rattle.topology.proofs.Ancestry.{in-below, addr-inj}
+use Rattle.topology.specs.Address.{Addr, Above, addr, subtree, childOf, depth}
+use Rattle.topology.proofs.Numbering.{num-addr, num-lt, addr-num}
 use Rattle.topology.proofs.Children.{HasChild, childOf-lt, addr-childOf, subtree-childOf, childOf-after}
 use Rattle.pifo.specs.Tree.{Step, step, pathFault}
 use Rattle.pifo.proofs.Paths.{fault-step}
@@ -39,15 +38,6 @@ route-step t x y j h (d, e) =
     ap (drop (depth t x)) way
     ∙ drop-append-seam (addr t x) (j ∷ d)
     ∙ ap (λ (a : Addr). j ∷ a) (sym (ap (drop (depth t (childOf t x j))) e ∙ drop-append-seam (addr t (childOf t x j)) d))
-
--- There is such a child of every node strictly above the way's end.
-pub route-child : (t : Topo) (x y : ℕ) → x < size t → y < size t → Above (addr t x) (addr t y) → (x ≡ y → ⊥)
-    → (j : ℕ) × HasChild t x j × Above (addr t (childOf t x j)) (addr t y)
-route-child t x y h g ([], e) n = absurd (n (addr-inj t x y h g (sym (e ∙ append-nil (addr t x)))))
-route-child t x y h g (j ∷ d, e) n =
-    let i = in-below t (addr t x) (j ∷ d) (subst (In t) e (addr-in t y g)) in
-    let has : HasChild t x j = (h, i .0, i .1) in
-    (j, has, (d, e ∙ sym (append-assoc (addr t x) (j ∷ []) d) ∙ ap (λ (a : Addr). a ++ d) (sym (addr-childOf t x j has))))
 
 module _ (S T : Topo) (m : List ℕ) where
   nodes-from : (n : ℕ) (ss : List Step) → n < size S → pathFault (subtree S n) ss ≡ 0 → carryNodes S T m n ss ≡ carryFrom (imageAt S T m) (addr S n) ss

@@ -2,6 +2,7 @@
 use mathlib.Core.Path.{_≡_, refl, sym, _∙_}
 use mathlib.Core.Logic.{_≢_}
 use Prim.Native.Nat.{ℕ, zero, suc, _+_, _-_, _≤_, _<_}
+use native.Mathlib.Numerals.{add-one}
 use native.Mathlib.Omega.{arith}
 use mathlib.Core.List.{List, []}
 use mathlib.Core.Bool.{false}
@@ -9,10 +10,11 @@ use lib.ListN.{length, take, drop, getD, List·getD-eq-default}
 use lib.Dec.{ltb}
 use borrow.Author.Tests.{lt-ltb, le-ltb, le-leb, lt-leb}
 use Rattle.topology.specs.Reader.{pick, orElse, fault, reading}
-use Rattle.topology.specs.Branch.{branchEnd, start, childAt, isAbove, branchFault, unless, branchPart}
+use Rattle.topology.specs.Branch.{branchEnd, start, childAt, isAbove, towardFrom, towardAt, branchFault, unless, branchPart}
 use Rattle.topology.specs.declared.Reading.{Reading}
 use Rattle.topology.specs.declared.Reading.the-variants.{Tree, Refused}
 use Rattle.topology.specs.declared.Found.the-variants.{Node, Missing}
+use Rattle.topology.specs.declared.Toward.the-variants.{Child, Nowhere}
 
 pub clash : _≡_ {A = ℕ} 0 1 → ⊥
 clash e = omega arith
@@ -49,6 +51,48 @@ above-test bytes a b end h e = rw (le-leb a b h, e)
 pub above-not : (bytes : List ℕ) (a b : ℕ) → b < a → false ≡ isAbove bytes a b
 unfolding isAbove
 above-not bytes a b h = rw (lt-leb a b h)
+
+-- The scan over the children of node n for the one toward y: it stands at child i + 1, of k in all, which starts no later than y.
+module _ (bytes : List ℕ) (n y : ℕ) where
+  pub toward-out : length bytes ≤ n → Nowhere ≡ towardAt bytes n y
+  unfolding towardAt
+  toward-out h = rw (List·getD-eq-default bytes 0 h)
+
+  start-behind : (i : ℕ) → n < start bytes n i
+  unfolding branchEnd
+  start-behind zero = omega arith
+  start-behind (suc i) = omega (arith, start-behind i)
+
+  toward-none : (i k : ℕ) → y ≤ n → towardFrom bytes n y i k ≡ Nowhere
+  toward-none i zero h = refl
+  toward-none i (suc k) h = rw (sym (above-not bytes (start bytes n i) y (omega (arith, start-behind i)))) (toward-none (suc i) k h)
+
+  pub toward-before : y ≤ n → Nowhere ≡ towardAt bytes n y
+  unfolding towardAt
+  toward-before h = sym (toward-none 0 (getD bytes n 0) h)
+
+  pub toward-start : towardAt bytes n y ≡ towardFrom bytes n y 0 (getD bytes n 0 - 0)
+  unfolding towardAt
+  toward-start =
+      let e : getD bytes n 0 - 0 ≡ getD bytes n 0 = omega arith in
+      rw e
+
+  module _ (i k at end : ℕ) (h : i < k) (s : at ≡ start bytes n i) (l : at ≤ y) (f : end ≡ branchEnd bytes at) where
+    toward-test : towardFrom bytes n y i (k - i) ≡ pick (ltb y end) (Child (i + 1) at) (towardFrom bytes n y (i + 1) (k - (i + 1)))
+    toward-test =
+        let e : k - i ≡ suc (k - (i + 1)) = omega arith in
+        rw (e, ← s, ← above-test bytes at y end l f, add-one i)
+
+    pub toward-here : y < end → towardFrom bytes n y i (k - i) ≡ Child (i + 1) at
+    toward-here g = toward-test ∙ rw (lt-ltb y end g)
+
+    pub toward-next : end ≤ y → (end ≡ start bytes n (i + 1)) × (towardFrom bytes n y i (k - i) ≡ towardFrom bytes n y (i + 1) (k - (i + 1)))
+    toward-next g = (f ∙ rw (s, add-one i), toward-test ∙ rw (le-ltb y end g))
+
+  pub toward-end : (i k : ℕ) → k ≤ i → towardFrom bytes n y i (k - i) ≡ Nowhere
+  toward-end i k h =
+      let e : k - i ≡ 0 = omega arith in
+      rw e
 
 -- what the reader's answer says of the fault
 module _ (f : ℕ) (r : Reading) (e : r ≡ reading f) where

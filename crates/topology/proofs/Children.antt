@@ -1,6 +1,7 @@
 -- The children of a node, by number: the first comes right after the node, the next one where its elder's branch ends. Each node but
 -- the root is the child of one node, and what lies above it lies above that one or is it.
 use mathlib.Core.Path.{_≡_, refl, sym, ap, _∙_, subst}
+use mathlib.Core.Logic.{_≢_}
 use Prim.Native.Nat.{ℕ, zero, suc, _+_, _≤_, _<_}
 use native.Mathlib.Nat.{not-suc-le-zero, le-of-suc-le-suc}
 use native.Mathlib.Omega.{arith}
@@ -66,6 +67,15 @@ childOf-next t n (suc i) h =
 -- a child lies in its parent's branch
 pub child-within : (t : Topo) (n i : ℕ) → HasChild t n i → childOf t n i < n + size (subtree t n)
 child-within t n i h = above-from t n (childOf t n i) (h .0) (childOf-lt t n i h) (i ∷ [], addr-childOf t n i h) .1
+
+-- a node strictly above another has a child that is that other or lies above it
+pub child-toward : (t : Topo) (x y : ℕ) → x < size t → y < size t → Above (addr t x) (addr t y) → x ≢ y
+    → (j : ℕ) × HasChild t x j × Above (addr t (childOf t x j)) (addr t y)
+child-toward t x y h g ([], e) n = absurd (n (addr-inj t x y h g (sym (e ∙ append-nil (addr t x)))))
+child-toward t x y h g (j ∷ d, e) n =
+    let i = in-below t (addr t x) (j ∷ d) (subst (In t) e (addr-in t y g)) in
+    let has : HasChild t x j = (h, i .0, i .1) in
+    (j, has, (d, e ∙ sym (append-assoc (addr t x) (j ∷ []) d) ∙ ap (λ (a : Addr). a ++ d) (sym (addr-childOf t x j has))))
 
 -- a node's parent, and which of its children the node is
 pub record Parent (t : Topo) (n : ℕ) : Type 0 where

@@ -1,8 +1,9 @@
 -- What the definitions over bytes are where the bytes are the code of a tree: the branch's end, the branch, the children and ancestry.
-use mathlib.Core.Path.{_≡_, refl, sym, ap, _∙_}
+use mathlib.Core.Path.{_≡_, refl, sym, ap, _∙_, subst}
+use mathlib.Core.Logic.{_≢_}
 use Prim.Native.Nat.{ℕ, zero, suc, _+_, _-_, _≤_, _<_}
 use native.Mathlib.Nat.{zero-add, not-suc-le-zero}
-use native.Mathlib.Decide.{decLt}
+use native.Mathlib.Decide.{decLt, ℕ-discrete}
 use native.Mathlib.Omega.{arith}
 use mathlib.Core.List.{List, _++_, append-assoc}
 use mathlib.Core.Bool.{Bool, true, false, _&&_}
@@ -13,12 +14,14 @@ use Rattle.lists.proofs.Part.{drop-part, take-part}
 use Rattle.topology.specs.Tree.{Topo, Forest, node, fnil, fcons, count, width, code, codes, size, sizes}
 use Rattle.topology.specs.Address.{Above, addr, subtree, childOf}
 use Rattle.topology.specs.Reader.{pick, fault, tree, reading}
-use Rattle.topology.specs.Branch.{span, branchEnd, start, childAt, isAbove, branchPart}
+use Rattle.topology.specs.Branch.{span, branchEnd, start, childAt, isAbove, towardFrom, towardAt, branchPart}
 use Rattle.topology.specs.declared.Found.the-variants.{Node, Missing}
+use Rattle.topology.specs.declared.Toward.{Toward}
+use Rattle.topology.specs.declared.Toward.the-variants.{Child, Nowhere}
 use Rattle.topology.specs.declared.Reading.the-variants.{Tree}
 use Rattle.topology.proofs.Numbering.{addr-in}
 use Rattle.topology.proofs.Ancestry.{above-from, above-to, in-breadth}
-use Rattle.topology.proofs.Children.{HasChild, childOf-lt, childOf-first, childOf-next, subtree-childOf}
+use Rattle.topology.proofs.Children.{HasChild, childOf-lt, childOf-first, childOf-next, subtree-childOf, child-toward}
 use Rattle.topology.proofs.Decoding.{code-at, length-code, byte-width}
 use Rattle.topology.proofs.Scan.{span-zero}
 use Rattle.topology.proofs.Cases.{clash, child-found, branch-there}
@@ -104,6 +107,54 @@ code-above t a b h e = by-tests (leb a b) (ltb b (branchEnd (code t) a)) refl re
     by-tests true false p q e = absurd (clash (cc))
     by-tests false y p q e = absurd (clash (cc))
 
+-- Child i of node x is node n, which is node y or lies above it.
+pub record IsToward (t : Topo) (x y i n : ℕ) : Type 0 where
+  pub has : HasChild t x i
+  pub node : n ≡ childOf t x i
+  pub above : Above (addr t n) (addr t y)
+
+abbrev pub Leads : Topo → ℕ → ℕ → Toward → Type 0
+Leads t x y (Child i n) = IsToward t x y i n
+Leads t x y Nowhere = ⊥
+
+-- The scan for the child toward y comes to child `last`, which is one, if it has found none before.
+module _ (t : Topo) (x y last : ℕ) (has : HasChild t x last) (below : y < size t) (above : Above (addr t (childOf t x last)) (addr t y)) where
+  module _ (i : ℕ) (l : i < last) where
+    here : HasChild t x (suc i)
+    here = (has .0, omega arith, omega (arith, has .2))
+
+    at : start (code t) x i ≡ childOf t x (suc i)
+    at = start-code t x i (has .0) (here .2)
+
+    further : isAbove (code t) (start (code t) x i) y ≡ false → suc i < last
+    further e = by-last (ℕ-discrete (suc i) last)
+      where
+        by-last : Dec (suc i ≡ last) → suc i < last
+        by-last (yes q) =
+            let is = above-code t (childOf t x last) y (childOf-lt t x last has) below above in
+            let same = ap (λ (n : ℕ). isAbove (code t) n y) (at ∙ ap (childOf t x) q) in
+            absurd (clash (cc))
+        by-last (no q) = omega arith
+
+    toward-by : (k : ℕ) (b : Bool) → isAbove (code t) (start (code t) x i) y ≡ b
+        → (suc i < last → Leads t x y (towardFrom (code t) x y (suc i) k))
+        → Leads t x y (pick b (Child (suc i) (start (code t) x i)) (towardFrom (code t) x y (suc i) k))
+    toward-by k true e rest =
+        let lt : start (code t) x i < size t = omega (arith, at, childOf-lt t x (suc i) here) in
+        record { has = here; node = at; above = code-above t (start (code t) x i) y lt e }
+    toward-by k false e rest = rest (further e)
+
+  toward-from : (i k : ℕ) → i + k ≡ width (subtree t x) → i < last → Leads t x y (towardFrom (code t) x y i k)
+  toward-from i zero s l = absurd (omega (arith, has .2))
+  toward-from i (suc k) s l = toward-by i l k (isAbove (code t) (start (code t) x i) y) refl (toward-from (suc i) k (omega arith))
+
+-- Of a node strictly above y the code finds the child that is y or lies above it.
+pub toward-code : (t : Topo) (x y : ℕ) → x < size t → y < size t → Above (addr t x) (addr t y) → x ≢ y → Leads t x y (towardAt (code t) x y)
+unfolding towardAt
+toward-code t x y h g a n =
+    let c = child-toward t x y h g a n in
+    toward-from t x y (c .0) (c .1) g (c .2) 0 (getD (code t) x 0) (omega (arith, byte-width t x h)) (c .1 .1)
+
 -- ---- valid bytes: the same, for whoever has the bytes and no tree
 
 module _ (limit : ℕ) (bytes : List ℕ) (e : fault limit bytes ≡ 0) where
@@ -157,3 +208,9 @@ module _ (limit : ℕ) (bytes : List ℕ) (e : fault limit bytes ≡ 0) where
     where
       apart : {a : ℕ} → Missing ≡ Node a → ⊥
       apart q = clash (cc)
+
+  pub valid-toward : (x y : ℕ) → x < length bytes → y < length bytes → Above (addr (tree bytes) x) (addr (tree bytes) y) → x ≢ y
+      → Leads (tree bytes) x y (towardAt bytes x y)
+  valid-toward x y h g a n =
+      subst (λ (bs : List ℕ). Leads (tree bytes) x y (towardAt bs x y)) (drawn limit bytes e)
+      (toward-code (tree bytes) x y (omega (arith, valid-size)) (omega (arith, valid-size)) a n)

@@ -8,6 +8,8 @@ use lib.Dec.{leb, ltb}
 use Rattle.topology.specs.Reader.{pick, orElse, fault}
 use Rattle.topology.specs.declared.Found.{Found}
 use Rattle.topology.specs.declared.Found.the-variants.{Node, Missing}
+use Rattle.topology.specs.declared.Toward.{Toward}
+use Rattle.topology.specs.declared.Toward.the-variants.{Child, Nowhere}
 
 -- how many bytes are read until k trees are complete; all of them where they end before that
 abbrev pub span : ℕ → List ℕ → ℕ
@@ -32,6 +34,17 @@ childAt bytes n (suc i) = pick (ltb i (getD bytes n 0)) (Node (start bytes n i))
 -- whether node a is node b or lies above it
 unfoldable pub isAbove : List ℕ → ℕ → ℕ → Bool
 isAbove bytes a b = leb a b && ltb b (branchEnd bytes a)
+
+-- the first child of node n that is node y or lies above it, among its child i + 1 and the k - 1 that follow
+abbrev pub towardFrom : List ℕ → ℕ → ℕ → ℕ → ℕ → Toward
+towardFrom bytes n y i zero = Nowhere
+towardFrom bytes n y i (suc k) =
+    let rest = towardFrom bytes n y (suc i) k in
+    pick (isAbove bytes (start bytes n i) y) (Child (suc i) (start bytes n i)) rest
+
+-- the child of node n that is node y or lies above it
+unfoldable pub towardAt : List ℕ → ℕ → ℕ → Toward
+towardAt bytes n y = towardFrom bytes n y 0 (getD bytes n 0)
 
 -- The refusal of a branch: the topology's fault under the target's limit, then 19 for a node that is not there; 0: none.
 unfoldable pub branchFault : List ℕ → ℕ → ℕ

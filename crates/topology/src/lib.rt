@@ -25,6 +25,12 @@ pub enum Found {
     Missing,
 }
 
+// The child of a node that is another node or lies above it: which child, from 1, and its node; or the answer that there is none.
+pub enum Toward {
+    Child(u8, usize),
+    Nowhere,
+}
+
 // The nodes that the reader is still owed, level by level: counts[top..], the deepest level first. Ten levels are open at the most,
 // since a node is refused once nine lie above it.
 struct Owed {
