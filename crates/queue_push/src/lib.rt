@@ -13,7 +13,7 @@ ghost use mathlib.Core.Path.{_≡_};
 ghost use Prim.Native.Nat.{suc, min};
 ghost use Rattle.pifo.specs.Machine.{pushing, most, room as Machine·room};
 ghost use Rattle.queue_state.specs.Calls.{answerOf, Serves};
-ghost use Rattle.queue_push.specs.Calls.{stepsOf};
+ghost use Rattle.queue_push.specs.Calls.{stepsOf, extendedBy};
 
 #[repr(C)]
 pub struct Step {
@@ -27,6 +27,23 @@ pub struct Path {
     pub steps: [Step; 9],
     pub count: usize,
     pub leaf_rank: Rank,
+}
+
+// The path with one step more; as it came where its nine places are full.
+pub fn extended(path: Path, child: u8, rank: Rank) -> Path
+    ensures { λ r. ⌜ r ≡ extendedBy path child rank ⌝ }
+{
+    let count = path.count;
+    if 9 <= count {
+        return path;
+    }
+    let mut steps = path.steps;
+    steps[count] = Step { child, rank };
+    Path {
+        steps,
+        count: count + 1,
+        leaf_rank: path.leaf_rank,
+    }
 }
 
 // The largest count of refusals.
