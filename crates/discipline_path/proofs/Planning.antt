@@ -2,20 +2,27 @@
 -- the way so far, and with the way that is left it has them all (`Planning`); at the leaf nothing is left (`planning-end`).
 use mathlib.Core.Path.{_≡_, refl, sym, ap, ap₂, _∙_, subst}
 use mathlib.Core.Logic.{_≢_}
-use Prim.Native.Nat.{ℕ, suc, _+_, _≤_, _<_}
+use Prim.Native.Nat.{ℕ, zero, suc, _+_, _≤_, _<_}
 use native.Mathlib.Omega.{arith}
 use mathlib.Core.List.{List, [], _∷_, _++_, append-nil, append-assoc}
 use mathlib.Core.Bool.{Bool, true, false, _&&_}
-use lib.ListN.{length, drop, length-append}
-use Rattle.topology.specs.Tree.{Topo, size}
-use Rattle.topology.specs.Address.{Addr, Above, addr, childOf, depth}
-use Rattle.topology.specs.Reader.{fault, tree}
+use lib.ListN.{length, drop, getD, length-append}
+use lib.Dec.{eqb, leb, ltb}
+use borrow.Author.Tests.{ltb-true, leb-true}
+use Rattle.topology.specs.Tree.{Topo, width, size}
+use Rattle.topology.specs.Address.{Addr, Above, addr, subtree, depth}
+use Rattle.topology.specs.Reader.{pick, fault, tree}
+use Rattle.topology.specs.Branch.{branchEnd, start as startAt, isAbove, towardFrom, towardAt}
+use Rattle.topology.specs.declared.Toward.{Toward}
+use Rattle.topology.specs.declared.Toward.the-variants.{Child, Nowhere}
+use Rattle.topology.proofs.Cases.{clash}
 use Rattle.topology.proofs.Numbering.{addr-root, addr-in}
 use Rattle.topology.proofs.Ancestry.{size-pos, in-height}
 use Rattle.topology.proofs.Children.{HasChild, childOf-lt, depth-childOf}
-use Rattle.topology.proofs.Lookup.{valid-size, IsToward}
+use Rattle.topology.proofs.Lookup.{valid-size, valid-length, IsToward, Leads, valid-toward}
 use Rattle.topology.proofs.Reader.{within}
 use Rattle.pifo.specs.Queue.{Rank}
+use Rattle.pifo.proofs.Order.{both}
 use Rattle.pifo.specs.Tree.{Step, step}
 use Rattle.simulation.specs.Carrying.{route}
 use Rattle.simulation.proofs.Nodes.{route-self, route-step}
@@ -106,7 +113,7 @@ module _ (bytes : List ℕ) (valid : fault 64 bytes ≡ 0) (d : Disciplines) (le
           ∙ ap (λ (n : ℕ). i ∷ route t n leaf) (sym (o .node))
 
       more : r .path ≡ pathOf (stepsOf (p .path) ++ (step i (rankBy k (start d node c) class) ∷ [])) (p .path .«leaf_rank»)
-      more = z .path ∙ path-more (p .path) (w .plain) planning-room i (rankBy k (start d node c) class)
+      more = z .path ∙ path-more (p .path) i (rankBy k (start d node c) class) (w .plain) planning-room
 
       now : stepsOf (r .path) ≡ stepsOf (p .path) ++ (step i (rankBy k (start d node c) class) ∷ [])
       now = ap stepsOf more ∙ steps-path (stepsOf (p .path) ++ (step i (rankBy k (start d node c) class) ∷ [])) (p .path .«leaf_rank»)
@@ -149,3 +156,80 @@ module _ (bytes : List ℕ) (valid : fault 64 bytes ≡ 0) (d : Disciplines) (le
                 ∙ ap (λ (a : Addr). finishesDown t d len node a (p .finish)) (sym way)
                 ∙ w .finishes (first (p .fits) (fitsBy k (finish d node c len)) (sym (z .fits) ∙ f));
           }
+
+-- ---- the child toward a node comes after its parent, and is that node or comes before it
+
+start-after : (bytes : List ℕ) (n i : ℕ) → n < startAt bytes n i
+unfolding branchEnd
+start-after bytes n zero = omega arith
+start-after bytes n (suc i) = let h = start-after bytes n i in omega arith
+
+child-same : {i j m n : ℕ} → _≡_ {A = Toward} (Child i m) (Child j n) → m ≡ n
+child-same e = cc
+
+above-low : (bytes : List ℕ) (a b : ℕ) → isAbove bytes a b ≡ true → a ≤ b
+unfolding isAbove
+above-low bytes a b q = leb-true a b (both (leb a b) (ltb b (branchEnd bytes a)) q .0)
+
+toward-from : (bytes : List ℕ) (n y i k j c : ℕ) → towardFrom bytes n y i k ≡ Child j c → (n < c) × (c ≤ y)
+toward-from bytes n y i zero j c e = absurd (clash (cc))
+toward-from bytes n y i (suc k) j c e = by-test (isAbove bytes (startAt bytes n i) y) refl e (λ q. toward-from bytes n y (suc i) k j c q)
+  where
+    by-test : (b : Bool) → isAbove bytes (startAt bytes n i) y ≡ b
+        → pick b (Child (suc i) (startAt bytes n i)) (towardFrom bytes n y (suc i) k) ≡ Child j c
+        → (towardFrom bytes n y (suc i) k ≡ Child j c → (n < c) × (c ≤ y)) → (n < c) × (c ≤ y)
+    by-test true q z rest =
+        let is : startAt bytes n i ≡ c = child-same z in
+        (omega (arith, start-after bytes n i), omega (arith, above-low bytes (startAt bytes n i) y q))
+    by-test false q z rest = rest z
+
+-- ---- the loop, for any bytes: where they are a tree and the leaf is one of its leaves, it plans
+
+leaf-lt : (t : Topo) (leaf : ℕ) → isLeaf t leaf ≡ true → leaf < size t
+leaf-lt t leaf e = ltb-true leaf (size t) (both (ltb leaf (size t)) (eqb (width (subtree t leaf)) 0) e .0)
+
+-- no tree has a 65th node
+pub too-far : (bytes : List ℕ) (leaf : ℕ) → 64 ≤ leaf → fault 64 bytes ≡ 0 → isLeaf (tree bytes) leaf ≡ true → ⊥
+too-far bytes leaf h f e = omega (arith, leaf-lt (tree bytes) leaf e, valid-size 64 bytes f, valid-length 64 bytes f)
+
+module _ (bytes : List ℕ) (d : Disciplines) (leaf class len : ℕ) where
+  abbrev l : Rank
+  l = rankBy (kindAt (d .rules) leaf) 0 class
+
+  pub record Walking (node : ℕ) (p : Plan) : Type 0 where
+    pub low : node ≤ leaf
+    pub plans : (f : fault 64 bytes ≡ 0) → isLeaf (tree bytes) leaf ≡ true → Planning bytes f d leaf class len l node p
+
+  pub walking-start : (p : Plan) → p ≡ record { path = pathOf [] l; finish = d .finish; fits = true } → Walking 0 p
+  walking-start p e =
+      record {
+        low = omega arith;
+        plans = λ f is. planning-start bytes f d leaf class len l is p (ap (λ (x : Plan). x .path) e) (ap (λ (x : Plan). x .finish) e) (ap (λ (x : Plan). x .fits) e);
+      }
+
+  module _ (node : ℕ) (p : Plan) (w : Walking node p) where
+    pub walking-end : node ≡ leaf → fault 64 bytes ≡ 0 → isLeaf (tree bytes) leaf ≡ true → Planned (tree bytes) d leaf class len p
+    walking-end e f is = planning-end bytes f d leaf class len l node p (w .plans f is) e refl
+
+    module _ (o : Toward) (e : o ≡ towardAt bytes node leaf) (n : node ≢ leaf) where
+      leads : (f : fault 64 bytes ≡ 0) → isLeaf (tree bytes) leaf ≡ true → Leads (tree bytes) node leaf o
+      leads f is =
+          let at = w .plans f is in
+          let size-is = valid-size 64 bytes f in
+          subst (Leads (tree bytes) node leaf) (sym e)
+          (valid-toward 64 bytes f node leaf (omega (arith, at .here)) (omega (arith, leaf-lt (tree bytes) leaf is)) (at .above) n)
+
+      pub walking-lost : o ≡ Nowhere → fault 64 bytes ≡ 0 → isLeaf (tree bytes) leaf ≡ true → ⊥
+      walking-lost q f is = subst (Leads (tree bytes) node leaf) q (leads f is)
+
+      module _ (i c : ℕ) (q : o ≡ Child i c) where
+        pub walking-down : (node < c) × (c ≤ leaf)
+        unfolding towardAt
+        walking-down = toward-from bytes node leaf 0 (getD bytes node 0) i c (sym e ∙ q)
+
+        pub walking-next : (r : Plan) → StepsDown d node c i class len p r → Walking c r
+        walking-next r z =
+            record {
+              low = walking-down .1;
+              plans = λ f is. planning-next bytes f d leaf class len l node p (w .plans f is) i c (subst (Leads (tree bytes) node leaf) q (leads f is)) r z;
+            }

@@ -9,7 +9,13 @@ use queue_state::Rank;
 use topology::Toward;
 ghost use mathlib.Core.Path.{_≡_};
 ghost use Prim.Native.Nat.{_<_};
-ghost use mathlib.Core.Bool.{_&&_};
+ghost use mathlib.Core.List.{[]};
+ghost use mathlib.Core.Bool.{true, _&&_};
+ghost use Rattle.topology.specs.Reader.{fault, tree};
+ghost use Rattle.queue_push.specs.Calls.{pathOf};
+ghost use Rattle.disciplines.specs.Figure.{kindAt, rankBy};
+ghost use Rattle.disciplines.specs.Scheduler.{isLeaf};
+ghost use Rattle.discipline_path.specs.Plans.{Planned};
 ghost use Rattle.discipline_path.specs.Shares.{StepsDown};
 
 // The path to a leaf, the finishes after the packet, and whether each of them fits; where one does not, the finishes mean nothing.
@@ -22,10 +28,25 @@ pub struct Plan {
 fn both(a: bool, b: bool) -> bool
     ensures { λ r. ⌜ r ≡ (a && b) ⌝ }
 {
-    if a {
-        b
-    } else {
-        false
+    if a { b } else { false }
+}
+
+// The plan at the root, for a leaf of less than 64: no step yet, the rank at the leaf, and the finishes as they are.
+fn begun(disciplines: Disciplines, leaf: usize, class: u8) -> Plan
+    requires { ⌜ leaf < 64 ⌝ }
+    ensures { λ r. ⌜ r ≡ record { path = pathOf [] (rankBy (kindAt (disciplines .rules) leaf) 0 class); finish = disciplines .finish; fits = true } ⌝ }
+{
+    let rule = disciplines.rules[leaf];
+    let share = shares::share_of(rule.discipline, 0, 0, 0, class, 0);
+    let finish = disciplines.finish;
+    Plan {
+        path: Path {
+            steps: [Step { child: 0, rank: 0 }; 9],
+            count: 0,
+            leaf_rank: share.rank,
+        },
+        finish,
+        fits: true,
     }
 }
 
@@ -59,4 +80,23 @@ fn step_down(
         finish: shares::finished(finishes, rule.discipline, child, share.finish),
         fits: both(plan.fits, share.fits),
     }
+}
+
+// The plan of a push to a leaf, for any bytes and numbers. It means what its name says where the bytes are a tree and `leaf` is one of its leaves.
+pub fn plan_to(bytes: &[u8], disciplines: Disciplines, leaf: usize, class: u8, length: u16) -> Plan
+    ensures { λ r. ⌜ (fault 64 (now (bytes .entry)) ≡ 0 → isLeaf (tree (now (bytes .entry))) leaf ≡ true → Planned (tree (now (bytes .entry))) disciplines leaf class length r) ⌝ }
+{
+    if 64 <= leaf {
+        return begun(disciplines, 0, class);
+    }
+    let mut plan = begun(disciplines, leaf, class);
+    let mut node = 0;
+    while node != leaf {
+        let Toward::Child(index, child) = branches::toward(bytes, node, leaf) else {
+            return plan;
+        };
+        plan = step_down(plan, disciplines, node, child, index, class, length);
+        node = child;
+    }
+    plan
 }

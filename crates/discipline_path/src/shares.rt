@@ -76,7 +76,12 @@ pub(crate) fn share_of(
 }
 
 // The finishes with the child's new one, if the node is weighted.
-pub(crate) fn finished(finishes: [Rank; 64], discipline: u8, child: usize, finish: Rank) -> [Rank; 64]
+pub(crate) fn finished(
+    finishes: [Rank; 64],
+    discipline: u8,
+    child: usize,
+    finish: Rank,
+) -> [Rank; 64]
     requires { ⌜ child < 64 ⌝ }
     ensures { λ r. ⌜ r ≡ finishBy discipline child finish finishes ⌝ }
 {

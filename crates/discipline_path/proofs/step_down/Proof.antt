@@ -42,7 +42,7 @@ both-requires c κs = search needs
 
 returns : tie.Need-returns
 returns c =
-    let share = c .before .before .before .share-of in
+    let share = c .before .before .before .before .before .share-of in
     stepped _ _ _ _ _ _ _ _ _ (share .ensures) (c .before .before .extended .ensures) (c .before .finished .ensures) (c .both .ensures)
 
 pub step-down-spec : {M : Type 1} → statement M
