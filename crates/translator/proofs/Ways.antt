@@ -21,7 +21,7 @@ use Rattle.simulation.specs.Carrying.{steps, route}
 use Rattle.simulation.proofs.Nodes.{route-self, route-step}
 use Rattle.queue_push.specs.Calls.{stepsOf, pathOf, Plain, extendedBy}
 use Rattle.queue_push.specs.declared.Path.{Path}
-use Rattle.queue_push.proofs.Paths.{steps-path, path-more}
+use Rattle.queue_push.proofs.Paths.{steps-path, path-plain, path-more}
 use Rattle.translator.specs.Ways.{Over}
 
 -- The path has the steps down to `node`, and with those of the way that is left it has them all.
@@ -79,7 +79,7 @@ module _ (bytes : List ℕ) (all : List Step) (l to rank : ℕ) (path : Path) (n
                   lower = d .over .lower;
                   above = found .above;
                 };
-            plain = made ∙ ap₂ pathOf (sym now) (sym rank-kept);
+            plain = rw made (path-plain (stepsOf path ++ (s ∷ [])) (path .«leaf_rank»));
             leaf = rank-kept ∙ d .leaf;
             deep =
                 omega (
