@@ -33,14 +33,14 @@ use Rattle.queue_state.specs.declared.State.{State}
 use Rattle.queue_state.proofs.Fresh.{opens}
 use Rattle.queue_state.proofs.Existing.{serves-some, execution-some}
 use Rattle.queue_state.proofs.Following.{AllFollow, serves-follows, execution-as}
-use Rattle.queue_push.specs.Calls.{stepsOf}
+use Rattle.queue_push.specs.Calls.{stepsOf, pathOf}
 use Rattle.queue_push.specs.declared.Path.{Path}
 use Rattle.queue_counts.specs.declared.Amount.the-variants.{Count}
 use Rattle.pair_step.specs.Step.{ServesCarried}
 use Rattle.pair_step.specs.Alike.{countsOf, seenIn}
 use Rattle.pair_step.proofs.Step.{carried-follows}
 use Rattle.pair_step.proofs.Alike.{both-numbers, both-alike}
-use Rattle.translator.specs.Carry.{carryFault, pathOf, Carries}
+use Rattle.translator.specs.Carry.{carryFault, Carries}
 use Rattle.translator.specs.Push.{pushAlong}
 use Rattle.translator.specs.declared.Carried.{Carried}
 use Rattle.paired.specs.Demand.{Request, push, pop, callOf, look, lookOf, SourceCall, ChipCall, shown, Tallied, shownBy, Alike, Demand3}

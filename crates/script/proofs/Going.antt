@@ -16,7 +16,7 @@ use Rattle.topology.proofs.Cases.{clash}
 use Rattle.queue_push.specs.declared.Path.{Path}
 use Rattle.queue_state.specs.State.{machine}
 use Rattle.queue_state.specs.declared.State.{State}
-use Rattle.queue_push.specs.Calls.{stepsOf}
+use Rattle.queue_push.specs.Calls.{stepsOf, extendedBy}
 use Rattle.text.specs.Text.{Puts}
 use Rattle.lines.specs.Lines.{noLine}
 use Rattle.text.proofs.Writing.{puts-none, puts-still, puts-then}
@@ -28,7 +28,6 @@ use Rattle.commands.specs.Batches.{readsOf, AllCommands}
 use Rattle.script.specs.declared.Progress.{Progress}
 use Rattle.script.specs.declared.turns.Turn.the-variants.{End as AtEnd, Refused as No, Call as InTurn}
 use Rattle.script.specs.Turns.{turnOf}
-use Rattle.script.specs.Steps.{stepAdded}
 use Rattle.script.specs.Sheet.{Reply, silent, stops}
 use Rattle.script.specs.Output.{lineOf, printed, textOf}
 use Rattle.script.specs.Parts.{drawn, chip, sheetOf, batchText, Served, Ready, Comes}
@@ -122,12 +121,12 @@ module _ (source target images : List ℕ) (slots : List Slot) (s₀ : State) (p
   replied-on c d at e f r s′ t′ p′ u out last b q w = on d at (rw (← f) e) r s′ t′ p′ u out last b (sym q) w
 
   pub stepped : (c : CallCommand) (at x r : ℕ) → turnOf (p .count) read ≡ InTurn c at → c ≡ StepTo x r → (b : Bool) → b ≡ true
-      → Next′ after s t (stepAdded p x r) end b
+      → Next′ after s t (extendedBy p x r) end b
   stepped c at x r e f b q =
       let called : turnOf (p .count) read ≡ InTurn (StepTo x r) at = rw (← f) e in
       let u = step-turned source target images s t p (g .served refl) x r (says [] (p .count) read (InTurn (StepTo x r) at) called .1) in
-      subst (Next′ after s t (stepAdded p x r) end) (sym q)
-      (on (StepTo x r) at called silent s t (stepAdded p x r) u after end false refl (puts-still (g .puts)))
+      subst (Next′ after s t (extendedBy p x r) end) (sym q)
+      (on (StepTo x r) at called silent s t (extendedBy p x r) u after end false refl (puts-still (g .puts)))
 
 -- After the loop: the script does not go on, or no read is left.
 module _ (source target images : List ℕ) (slots : List Slot) (s₀ : State) (p₀ : Path) (before : List ℕ) (place : ℕ) (after : List ℕ)

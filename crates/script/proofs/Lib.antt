@@ -1,6 +1,5 @@
 pub mod Examples
 pub mod Stopping
-pub mod Keeping
 pub mod Opening
 pub mod Before
 pub mod Serving

@@ -29,7 +29,6 @@ use Rattle.script.specs.Output.{textOf}
 use Rattle.script.specs.Parts.{openingText, drawn, chip, startText, Fits, Comes, Begun, Stops}
 use Rattle.pair_state.proofs.Kept.{both-kept, both-whole, both-few, map-room}
 use Rattle.topology.proofs.Cases.{clash}
-use Rattle.script.proofs.Keeping.{no-steps}
 use Rattle.script.proofs.Stopping.{stops-opening}
 
 module _ (rest : List Read) where
@@ -100,13 +99,13 @@ opened-comes d at f r w z before after end q p b =
         images = rw (b .drawing, b .trees) (map-fits (d .source) (chip d) (d .nodes) (d .limit) (f .nodes) r w z);
         served = rw (b .drawing, b .trees) (record {
           in-step = opened-in-step (d .source) (chip d) (d .nodes) (d .limit) (f .nodes) r w z;
-          few = omega (arith, b .steps);
-          places = b .places;
+          few = rw (b .steps) (omega arith);
+          plain = rw (b .steps) refl;
         });
       };
       follows = λ rest.
           opened-text (d .source) (chip d) (d .nodes) (d .limit) (f .nodes) r w z at rest
-          ∙ rw (b .goes, b .trees, no-steps (p .path) (b .steps)) refl;
+          ∙ rw (b .goes, b .trees, b .steps) refl;
     }
 
 -- what is gathered, by how that ends

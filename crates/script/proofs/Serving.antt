@@ -6,7 +6,7 @@ use Prim.Native.Nat.{ℕ, _<_}
 use native.Mathlib.Omega.{arith}
 use mathlib.Core.List.{List, [], _∷_, _++_, append-nil}
 use mathlib.Core.Bool.{Bool, true, false}
-use lib.ListN.{length, length-set}
+use lib.ListN.{length, length-append}
 use lib.Dec.{leb}
 use borrow.Author.Tests.{leb-true, leb-false, lt-ltb, le-ltb}
 use Rattle.topology.specs.Reader.{pick}
@@ -17,8 +17,9 @@ use Rattle.queue_state.specs.Calls.{answerOf, Serves}
 use Rattle.queue_state.specs.declared.Answer.{Answer as CodeAnswer}
 use Rattle.queue_state.specs.declared.Answer.the-variants.{Refused}
 use Rattle.queue_state.specs.declared.State.{State}
-use Rattle.queue_push.specs.Calls.{stepsOf}
+use Rattle.queue_push.specs.Calls.{stepsOf, pathOf, extendedBy}
 use Rattle.queue_push.specs.declared.Path.{Path}
+use Rattle.queue_push.proofs.Paths.{steps-path, path-plain, path-more}
 use Rattle.paired.specs.Demand.{Request, push, pop, SourceCall, ChipCall, callOf}
 use Rattle.pair_step.specs.Step.{InStep}
 use Rattle.paired.proofs.Sides.{source-serves, chip-pushed, chip-refused, next}
@@ -33,11 +34,10 @@ use Rattle.commands.specs.declared.Read.the-variants.{End, Next, Refused as Unr
 use Rattle.script.specs.declared.turns.Turn.{Turn}
 use Rattle.script.specs.declared.turns.Turn.the-variants.{End as AtEnd, Refused as No, Call as InTurn}
 use Rattle.script.specs.Turns.{isNinth, turnOf}
-use Rattle.script.specs.Steps.{stepAdded, endedBy}
+use Rattle.script.specs.Steps.{endedBy}
 use Rattle.script.specs.Sheet.{serving, Reply, silent, replied, obey}
 use Rattle.script.specs.Output.{textOf}
 use Rattle.script.specs.Parts.{sheetOf, Served}
-use Rattle.script.proofs.Keeping.{no-steps, steps-count, steps-added}
 
 -- a call in turn: its reply, and what the code has then
 pub record Turned (source target images : List ℕ) (s : State) (p : Path) (c : CallCommand) (r : Reply) (s′ t′ : State) (p′ : Path) : Type 0 where
@@ -83,21 +83,23 @@ step-in m ss i r h = rw (lt-ltb (length ss) 8 h) refl
 
 module _ (source target images : List ℕ) (s t : State) (p : Path) (h : Served source target images s t p) where
   pub count : length (stepsOf p) ≡ p .count
-  count = steps-count p (omega (arith, h .few)) (h .places)
+  count = sym (ap (λ (q : Path). q .count) (h .plain))
 
-  pub step-turned : (i r : ℕ) → isNinth (p .count) (StepTo i r) ≡ false → Turned source target images s p (StepTo i r) silent s t (stepAdded p i r)
-  unfolding stepAdded
+  pub step-turned : (i r : ℕ) → isNinth (p .count) (StepTo i r) ≡ false → Turned source target images s p (StepTo i r) silent s t (extendedBy p i r)
   step-turned i r e =
       let less = leb-false 8 (p .count) e in
+      let ss : List Step = stepsOf p ++ (step i r ∷ []) in
+      let l : ℕ = p .«leaf_rank» in
+      rw (path-more p i r (h .plain) (omega (arith, less)))
       record {
         is =
             step-in (machine s) (stepsOf p) i r (omega (arith, count, less))
-            ∙ ap (λ (ss : List Step). (silent, serving (machine s) ss)) (sym (steps-added p i r (omega (arith, less)) (h .places)));
+            ∙ ap (λ (ss : List Step). (silent, serving (machine s) ss)) (sym (steps-path ss l));
         served =
             record {
               in-step = h .in-step;
-              few = omega (arith, less);
-              places = length-set (p .steps) (p .count) (record { child = i; rank = r }) ∙ h .places;
+              few = omega (arith, less, count, length-append (stepsOf p) (step i r ∷ []));
+              plain = path-plain ss l;
             };
       }
 
@@ -119,16 +121,16 @@ module _ (source target images : List ℕ) (s t : State) (p : Path) (h : Served 
     after = sym (own .machine formed)
 
   pub push-turned : (x l : ℕ) (q : Path) → q ≡ endedBy p l → (a b : Answer Packet) (s′ t′ : State)
-      → SourceCall s (push q x) a s′ → ChipCall source target images t (push q x) b t′ → (p′ : Path) → p′ .count ≡ 0 → length (p′ .steps) ≡ 9
+      → SourceCall s (push q x) a s′ → ChipCall source target images t (push q x) b t′ → (p′ : Path) → p′ ≡ pathOf [] 0
       → Turned source target images s p (Push x l) (replied b) s′ t′ p′
   unfolding obey endedBy
-  push-turned x l q eq a b s′ t′ v u p′ n g =
+  push-turned x l q eq a b s′ t′ v u p′ n =
       let call : callOf (push q x) ≡ pushing (stepsOf p) l x = rw eq refl in
       let answered = ap (λ (z : Call Packet). serve (machine s) z .0) (sym call) ∙ answer (push q x) a b s′ t′ v u in
       let then = ap (λ (z : Call Packet). serve (machine s) z .1) (sym call) ∙ after (push q x) a b s′ t′ v u in
       record {
-        is = rw (answered, then, no-steps p′ n);
-        served = record { in-step = both (push q x) a b s′ t′ v u .1; few = omega arith; places = g };
+        is = rw (answered, then, n);
+        served = record { in-step = both (push q x) a b s′ t′ v u .1; few = rw n (omega arith); plain = rw n refl };
       }
 
   pub pop-turned : (a b : Answer Packet) (s′ t′ : State) → SourceCall s pop a s′ → ChipCall source target images t pop b t′
@@ -137,5 +139,5 @@ module _ (source target images : List ℕ) (s t : State) (p : Path) (h : Served 
   pop-turned a b s′ t′ v u =
       record {
         is = rw (answer pop a b s′ t′ v u, after pop a b s′ t′ v u);
-        served = record { in-step = both pop a b s′ t′ v u .1; few = h .few; places = h .places };
+        served = record { in-step = both pop a b s′ t′ v u .1; few = h .few; plain = h .plain };
       }

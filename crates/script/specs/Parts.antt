@@ -7,7 +7,7 @@ use lib.ListN.{length, take}
 use Rattle.topology.specs.Reader.{pick}
 use Rattle.queue_state.specs.State.{machine}
 use Rattle.queue_state.specs.declared.State.{State}
-use Rattle.queue_push.specs.Calls.{stepsOf}
+use Rattle.queue_push.specs.Calls.{stepsOf, pathOf, Plain}
 use Rattle.queue_push.specs.declared.Path.{Path}
 use Rattle.pair_step.specs.Step.{InStep}
 use Rattle.pair_state.specs.Opening.{bothFault}
@@ -66,7 +66,7 @@ pub record Fits (d : Drawing) : Type 0 where
 pub record Served (source target images : List ℕ) (s t : State) (p : Path) : Type 0 where
   pub in-step : InStep source target images s t
   pub few : p .count ≤ 8
-  pub places : length (p .steps) ≡ 9
+  pub plain : Plain p
 
 -- both trees are open
 pub record Ready (p : Progress) : Type 0 where
@@ -85,8 +85,7 @@ pub record Comes (whole : List Read → List ℕ) (before : List ℕ) (place : �
 pub record Begun (d : Drawing) (pair : Pair) (end : ℕ) (going : Bool) (p : Progress) : Type 0 where
   pub drawing : p .drawing ≡ d
   pub trees : p .pair ≡ pair
-  pub steps : p .path .count ≡ 0
-  pub places : length (p .path .steps) ≡ 9
+  pub steps : p .path ≡ pathOf [] 0
   pub ends : p .printed .end ≡ end
   pub goes : p .printed .going ≡ going
 

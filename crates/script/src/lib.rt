@@ -151,7 +151,7 @@ fn serve(progress: Progress, out: &mut [u8], batch: Batch) -> Progress
             }
             Turn::Call(call, offset) => match call {
                 Call::Step(child, rank) => {
-                    path = steps::add_step(path, child, rank);
+                    path = queue_push::extended(path, child, rank);
                 }
                 Call::Push(packet, leaf_rank) => {
                     let whole = steps::ended(path, leaf_rank);

@@ -1,4 +1,3 @@
-pub mod Paths
 pub mod Faults
 pub mod Ways
 pub mod Walking

@@ -17,9 +17,9 @@ use Rattle.simulation.specs.Carrying.{carry}
 use Rattle.simulation.proofs.Simulation.{carry-fault, carry-length}
 use Rattle.queue_push.specs.Calls.{stepsOf}
 use Rattle.queue_push.specs.declared.Path.{Path}
+use Rattle.queue_push.proofs.Paths.{steps-path}
 use Rattle.translator.specs.Carry.{carryFault, Carries, Arrives}
 use Rattle.translator.specs.declared.Carried.{Carried}
-use Rattle.translator.proofs.Paths.{steps-path}
 use Rattle.translator.proofs.Faults.{carry-map}
 
 module _ (source target m : List ℕ) (a : Checked) (e : a ≡ checked (mapFault source target m)) where

@@ -26,13 +26,12 @@ use Rattle.embedding_laws.specs.Check.{mapFault}
 use Rattle.embedding_laws.proofs.Rules.{mapFault-none}
 use Rattle.simulation.specs.Carrying.{steps, carry, route, carryNodes}
 use Rattle.simulation.proofs.Nodes.{image-below, carry-nodes}
-use Rattle.queue_push.specs.Calls.{stepOf, stepsOf}
+use Rattle.queue_push.specs.Calls.{stepOf, stepsOf, noStep, pathOf, Plain}
 use Rattle.queue_push.specs.declared.Step.{Step as CodeStep}
 use Rattle.queue_push.specs.declared.Path.{Path}
-use Rattle.queue_push.proofs.Paths.{step-at, steps-end}
-use Rattle.translator.specs.Carry.{noStep, pathOf, Carries}
-use Rattle.translator.specs.Ways.{Plain, Over}
-use Rattle.translator.proofs.Paths.{steps-path}
+use Rattle.queue_push.proofs.Paths.{step-at, steps-end, steps-path, path-plain}
+use Rattle.translator.specs.Carry.{Carries}
+use Rattle.translator.specs.Ways.{Over}
 use Rattle.translator.proofs.Faults.{carry-path}
 
 -- What is carried so far, with what carrying the steps left gives, is all (`rest`).
@@ -151,7 +150,7 @@ module _ (source target m : List ℕ) (z : mapFault source target m ≡ 0) (path
                   ∙ ap (pathFault (subtree S node)) first
                   ∙ fault-on (subtree S node) (s .child) (s .rank) others (has .1) (has .2)
                   ∙ ap (λ (u : Topo). pathFault u others) (sym kid);
-              plain = is ∙ ap₂ pathOf (sym now) (sym rank-kept);
+              plain = rw is (path-plain (stepsOf carried ++ way) (carried .«leaf_rank»));
               leaf = rank-kept ∙ w .leaf;
               below =
                   omega (

@@ -1,15 +1,13 @@
 -- What the carrying of a path promises: the refusal's number, and the carried path as the code's.
 use mathlib.Core.Path.{_≡_}
 use mathlib.Core.Logic.{_≢_}
-use Prim.Native.Nat.{ℕ, _-_, _≤_}
-use mathlib.Core.List.{List, _++_, map}
-use lib.ListN.{length, replicate}
+use Prim.Native.Nat.{ℕ, _≤_}
+use mathlib.Core.List.{List}
 use Rattle.topology.specs.Reader.{orElse, tree}
-use Rattle.pifo.specs.Tree.{Step, step, pathFault}
+use Rattle.pifo.specs.Tree.{Step, pathFault}
 use Rattle.embedding_laws.specs.Check.{mapFault}
 use Rattle.simulation.specs.Carrying.{carry}
-use Rattle.queue_push.specs.Calls.{stepsOf}
-use Rattle.queue_push.specs.declared.Step.{Step as CodeStep}
+use Rattle.queue_push.specs.Calls.{stepsOf, pathOf}
 use Rattle.queue_push.specs.declared.Path.{Path}
 use Rattle.translator.specs.declared.Carried.{Carried}
 
@@ -18,17 +16,6 @@ use Rattle.translator.specs.declared.Carried.{Carried}
 unfoldable pub carryFault : List ℕ → List ℕ → List ℕ → List Step → ℕ
 carryFault source target m ss =
     let rest = pathFault (tree source) ss in orElse (mapFault source target m) rest
-
--- the code's step for the definition's
-abbrev pub codeStep : Step → CodeStep
-codeStep (step i r) = record { child = i; rank = r }
-
-abbrev pub noStep : CodeStep
-noStep = record { child = 0; rank = 0 }
-
--- the code's path of given steps: nine places, those past the last step 0
-abbrev pub pathOf : List Step → ℕ → Path
-pathOf ss l = record { steps = map codeStep ss ++ replicate (9 - length ss) noStep; count = length ss; «leaf_rank» = l }
 
 -- The answer: the refusal's number; the carried path where there is no refusal, else the path as it came.
 pub record Carries (source target m : List ℕ) (path : Path) (r : Carried) : Type 0 where

@@ -1,5 +1,4 @@
--- To believe: Carry (what a carrying promises) and Push (what a push along a carried path does). Ways has the words in which private functions
--- state what they do.
+-- To believe: Carry (what a carrying promises) and Push (what a push along a carried path does). Ways has what a private function asks for.
 pub mod Carry
 pub mod Push
 pub mod Ways

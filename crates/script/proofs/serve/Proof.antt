@@ -87,10 +87,8 @@ enum-known-call c = search needs
 enum-known-call-2 : tie.Need-enum-known-call-2 Inv-loop μ-loop
 enum-known-call-2 c = search needs
 
-add-step-requires : tie.Need-add-step-requires Inv-loop μ-loop
-add-step-requires c κs =
-    let g = still _ _ _ _ _ _ _ _ _ _ _ _ _ _ _ (c .before .before .before .before .before .before .before .before .before .loop-test .taken) (c .before .before .before .before .before .before .before .before .before .before .loop .inv .0) in
-    (omega (arith, g .served refl .few), g .served refl .places)
+extended-requires : tie.Need-extended-requires Inv-loop μ-loop
+extended-requires c κs = search needs
 
 loop-less-3 : tie.Need-loop-less-3 Inv-loop μ-loop
 loop-less-3 c = omega (arith, ltb-true (c .before .before .before .before .before .before .before .before .before .before .before .loop .i) 256 (c .before .before .before .before .before .before .before .before .before .if1 .taken))
@@ -98,7 +96,7 @@ loop-less-3 c = omega (arith, ltb-true (c .before .before .before .before .befor
 loop-again-3 : tie.Need-loop-again-3 Inv-loop μ-loop
 loop-again-3 c =
     let g = still _ _ _ _ _ _ _ _ _ _ _ _ _ _ _ (c .before .before .before .before .before .before .before .before .before .before .loop-test .taken) (c .before .before .before .before .before .before .before .before .before .before .before .loop .inv .0) in
-    (rw (c .add-step .ensures) (stepped _ _ _ _ _ _ _ _ _ _ _ _ _ _ _ (c .before .before .before .before .before .before .before .before .before .if1 .taken) (c .before .before .before .before .before .before .before .before .before .before .before .loop .inv .1) g _ _ _ _ (sym (c .before .before .before .before .before .before .before .turn-of .ensures) ∙ c .before .before .before .before .before .call .given .1) (c .before .before .call2 .given .1) _ (c .before .before .before .before .before .before .before .before .before .before .loop-test .taken)), c .before .before .before .before .before .before .before .before .before .before .before .loop .inv .1)
+    (rw (c .extended .ensures) (stepped _ _ _ _ _ _ _ _ _ _ _ _ _ _ _ (c .before .before .before .before .before .before .before .before .before .if1 .taken) (c .before .before .before .before .before .before .before .before .before .before .before .loop .inv .1) g _ _ _ _ (sym (c .before .before .before .before .before .before .before .turn-of .ensures) ∙ c .before .before .before .before .before .call .given .1) (c .before .before .call2 .given .1) _ (c .before .before .before .before .before .before .before .before .before .before .loop-test .taken)), c .before .before .before .before .before .before .before .before .before .before .before .loop .inv .1)
 
 enum-known-call-3 : tie.Need-enum-known-call-3 Inv-loop μ-loop
 enum-known-call-3 c = search needs
@@ -136,7 +134,7 @@ loop-again-4 c =
     (λ x. sent _ _ _ _ _ _ _ (c .before .before .before .before .before .before .before .before .before .carry .ensures) (c .before .before .before .before .before .if2 .answer) (c .before .before .before .before .before .if2 .chip) _ _ (x .0 .taken) (x .1 .ensures) (x .3) (x .4))
     (λ x. unsent _ _ _ _ _ _ _ (c .before .before .before .before .before .before .before .before .before .carry .ensures) (c .before .before .before .before .before .if2 .answer) (c .before .before .before .before .before .if2 .chip) (x .0 .left) (x .1) (x .2))
     (c .before .before .before .before .before .if2 .came))
-    (c .before .before .before .before .before .before .before .before .before .before .no-steps .result) (c .before .before .before .before .before .before .before .before .before .before .no-steps .ensures .0) (c .before .before .before .before .before .before .before .before .before .before .no-steps .ensures .1) in
+    (c .before .before .before .before .before .before .before .before .before .before .no-steps .result) (c .before .before .before .before .before .before .before .before .before .before .no-steps .ensures) in
     (replied-on _ _ _ _ _ _ _ _ _ _ _ _ _ _ _ (c .before .before .before .before .before .before .before .before .before .before .before .before .before .before .before .before .before .before .before .before .if1 .taken) (c .before .before .before .before .before .before .before .before .before .before .before .before .before .before .before .before .before .before .before .before .before .before .loop .inv .1) g _ _ _ (sym (c .before .before .before .before .before .before .before .before .before .before .before .before .before .before .before .before .before .before .turn-of .ensures) ∙ c .before .before .before .before .before .before .before .before .before .before .before .before .before .before .before .before .call .given .1) (c .before .before .before .before .before .before .before .before .before .before .before .before .before .call3 .given .1) _ _ _ _ answered _ _ _ (c .stops .ensures) (c .before .before .before .put-reply .ensures), c .before .before .before .before .before .before .before .before .before .before .before .before .before .before .before .before .before .before .before .before .before .before .loop .inv .1)
 
 enum-told-2 : tie.Need-enum-told-2 Inv-loop μ-loop
@@ -201,7 +199,7 @@ serve-spec =
     loop-again-2
     enum-known-call
     enum-known-call-2
-    add-step-requires
+    extended-requires
     loop-less-3
     loop-again-3
     enum-known-call-3
