@@ -1,3 +1,5 @@
+pub mod Ways
 pub mod Rules
 pub mod Steps
+pub mod Finishes
 pub mod Times
