@@ -3,3 +3,4 @@ pub mod Rules
 pub mod Steps
 pub mod Finishes
 pub mod Times
+pub mod Requests
