@@ -1,7 +1,6 @@
 -- A queue tree with disciplines: pushes by path, pushes to a leaf, pops (paper 02, 2.1). It goes by a drawing S. The machine below it is
 -- the drawing's own, or a chip's behind the carrying of paths (crate `pair_schedule`).
 use Prim.Native.Nat.{ℕ}
-use mathlib.Core.List.{List}
 use mathlib.Core.Bool.{Bool, _&&_}
 use mathlib.Core.Option.{Option, none, some}
 use lib.Dec.{eqb, ltb}
@@ -9,7 +8,6 @@ use Rattle.topology.specs.Tree.{Topo, width, size}
 use Rattle.topology.specs.Address.{addr, subtree}
 use Rattle.topology.specs.Reader.{pick}
 use Rattle.pifo.specs.Queue.{Rank, Entry, rank}
-use Rattle.pifo.specs.Tree.{Step}
 use Rattle.pifo.specs.Way.{takes}
 use Rattle.pifo.specs.Machine.{Machine, Call, pushing, Answer, accepted, departed, refused, full, Server, serve}
 use Rattle.disciplines.specs.Figure.{kindAt, rankBy, stepsDown, finishesDown, fitsDown, withFinishes, afterPop}

@@ -1,5 +1,5 @@
 -- The answer to a call, case by case. A push is refused by its path's fault; else as full exactly where as many packets are held as the
--- limit allows; else it is accepted. A pop is refused exactly where none is held.
+-- limit allows; else it is accepted. A pop is refused exactly where none is held, and only a pop answers with a packet.
 use mathlib.Core.Path.{_≡_, refl, ap}
 use mathlib.Core.Logic.{_≢_, _⊎_, inl, inr}
 use Prim.Native.Nat.{ℕ, zero, suc, _≤_, _<_, min}
@@ -76,6 +76,26 @@ module _ {P : Type 0} (m : Machine P) where
       by-pop none e = absurd (clash (cc))
       by-pop (some (p, u)) e = absurd (clash (cc))
 
+  -- Only a pop answers with a packet, the one that the tree's pop gives.
+  pub departed-pop : (c : Call P) (p : P) → serve m c .0 ≡ departed p → (c ≡ popping) × ((u : PTree P) × (pop (m .tree) ≡ some (p, u)))
+  departed-pop (pushing ss l q) p e = by-fault (pathFault (m .topology) ss) e
+    where
+      Answers : Type 0
+      Answers = (pushing ss l q ≡ popping) × ((u : PTree P) × (pop (m .tree) ≡ some (p, u)))
+
+      in-room : (n : ℕ) → serveRoom n m ss l q .0 ≡ departed p → Answers
+      in-room zero e = absurd (clash (cc))
+      in-room (suc n) e = absurd (clash (cc))
+
+      by-fault : (f : ℕ) → servePath f m ss l q .0 ≡ departed p → Answers
+      by-fault zero e = in-room (room (m .limit) (held (m .tree))) e
+      by-fault (suc f) e = absurd (clash (cc))
+  departed-pop popping p e = (refl, by-pop (pop (m .tree)) e)
+    where
+      by-pop : (o : Option (P × PTree P)) → servePop m o .0 ≡ departed p → (u : PTree P) × (o ≡ some (p, u))
+      by-pop none e = absurd (clash (cc))
+      by-pop (some (q, u)) e = (u, ap (λ (x : P). some (x, u)) (cc))
+
   -- A call is refused by no number above 16, and by 15 exactly where the answer is `full`.
   abbrev Numbered : Answer P → Type 0
   Numbered a = (numberOf a ≤ 16) × (fullBy a ≡ times 15 (numberOf a ∷ []))
@@ -101,12 +121,15 @@ module _ {P : Type 0} (m : Machine P) where
       by-pop none = (omega arith, refl)
       by-pop (some (p, u)) = (omega arith, refl)
 
+  pub serve-most : (c : Call P) → numberOf (serve m c .0) ≤ 16
+  serve-most c = numbered c .0
+
   -- The number has at most two digits, and is never 18.
   pub serve-number : (c : Call P) → numberOf (serve m c .0) ≤ 99
-  serve-number c = omega (arith, numbered c .0)
+  serve-number c = omega (arith, serve-most c)
 
   pub never-18 : (c : Call P) → numberOf (serve m c .0) ≢ 18
-  never-18 c e = omega (arith, numbered c .0)
+  never-18 c e = omega (arith, serve-most c)
 
   pub full-15 : (c : Call P) → fullBy (serve m c .0) ≡ times 15 (numberOf (serve m c .0) ∷ [])
   full-15 c = numbered c .1

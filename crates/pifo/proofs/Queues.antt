@@ -1,6 +1,6 @@
 -- Push and pop seen queue by queue: the queue at each address before and after. A path makes one entry at each address on its way
 -- (`along`). A push inserts these entries (`push-queue`). A pop takes the entries of some path from the heads (`pop-trail`), and wherever
--- the entries of a path stand at the heads a pop takes these (`trail-pop`).
+-- the entries of a path stand at the heads a pop takes these (`trail-pop`), at each address the one that the path makes there.
 use mathlib.Core.Path.{_≡_, refl, ap, _∙_}
 use Prim.Native.Nat.{ℕ, zero, suc, _<_}
 use native.Mathlib.Nat.{not-suc-le-zero, le-of-suc-le-suc, zero-lt-suc}
@@ -16,6 +16,7 @@ use Rattle.topology.specs.Reader.{pick}
 use Rattle.pifo.specs.Queue.{Entry, child, packet, entry, risesFrom, allowed, every}
 use Rattle.pifo.specs.Tree.{Step, step, pathFault, PTree, PForest, pnode, pnil, pcons, shape, shapes, push, pushAt, pop, popAt, with-queue, with-later, with-elder, empty, empties, held, well, wells}
 use Rattle.pifo.specs.Addressed.{queueAt, queueIn, along, put, atop}
+use Rattle.pifo.specs.Way.{takes, takesIn}
 use Rattle.pifo.proofs.Order.{both}
 use Rattle.pifo.proofs.Wellness.{well-parts, length-held}
 use Rattle.pifo.proofs.Paths.{end-fault, fault-step, step-fault}
@@ -131,16 +132,27 @@ module _ {P : Type 0} where
     pub tree : PTree P
     pub is : pop t ≡ some (p, tree)
     pub queues : (a : Addr) → queueAt t a ≡ atop (along ss l p a) (queueAt tree a)
+    pub entries : (a : Addr) → takes t a ≡ along ss l p a
 
   record PopsAt (ts : PForest P) (i : ℕ) (ss : List Step) (l : ℕ) (p : P) : Type 0 where
     trees : PForest P
     is : popAt ts (suc i) ≡ some (p, trees)
     queues : (j : ℕ) (a : Addr) → queueIn ts j a ≡ atop (pick (eqb i j) (along ss l p a) none) (queueIn trees j a)
+    entries : (a : Addr) → takesIn ts (suc i) a ≡ along ss l p a
 
   pops-packet : (q : List (Entry P)) (ts : PForest P) (l : ℕ) (p : P) → Heads (some (entry l (packet p))) q → Pops (pnode q ts) [] l p
   pops-packet q ts l p (rest, e) =
-      record { tree = pnode rest ts; is = ap (λ (k : List (Entry P)). pop (pnode k ts)) e; queues = same }
+      record {
+        tree = pnode rest ts;
+        is = ap (λ (k : List (Entry P)). pop (pnode k ts)) e;
+        queues = same;
+        entries = λ a. ap (λ (k : List (Entry P)). takes (pnode k ts) a) e ∙ taken a;
+      }
     where
+      taken : (a : Addr) → takes (pnode (entry l (packet p) ∷ rest) ts) a ≡ along [] l p a
+      taken [] = refl
+      taken (j ∷ a) = refl
+
       same : (a : Addr) → queueAt (pnode q ts) a ≡ atop (along [] l p a) (queueAt (pnode rest ts) a)
       same [] = e
       same (zero ∷ a) = refl
@@ -153,22 +165,27 @@ module _ {P : Type 0} where
         tree = pnode rest (z .trees);
         is = ap (λ (k : List (Entry P)). pop (pnode k ts)) e ∙ ap (with-queue rest) (z .is);
         queues = same;
+        entries = λ a. ap (λ (k : List (Entry P)). takes (pnode k ts) a) e ∙ taken a;
       }
     where
+      taken : (a : Addr) → takes (pnode (entry r (child (suc i)) ∷ rest) ts) a ≡ along (step (suc i) r ∷ ss) l p a
+      taken [] = refl
+      taken (j ∷ a) = ap (λ (o : Option (Entry P)). pick (eqb (suc i) j) o none) (z .entries a)
+
       same : (a : Addr) → queueAt (pnode q ts) a ≡ atop (along (step (suc i) r ∷ ss) l p a) (queueAt (pnode rest (z .trees)) a)
       same [] = e
       same (zero ∷ a) = rw (eqb·suc-zero i)
       same (suc j ∷ a) = rw (eqb·suc-suc i j) (z .queues j a)
 
   pops-here : (t : PTree P) (ts : PForest P) (ss : List Step) (l : ℕ) (p : P) → Pops t ss l p → PopsAt (pcons t ts) 0 ss l p
-  pops-here t ts ss l p z = record { trees = pcons (z .tree) ts; is = ap (with-later ts) (z .is); queues = same }
+  pops-here t ts ss l p z = record { trees = pcons (z .tree) ts; is = ap (with-later ts) (z .is); queues = same; entries = z .entries }
     where
       same : (j : ℕ) (a : Addr) → queueIn (pcons t ts) j a ≡ atop (pick (eqb 0 j) (along ss l p a) none) (queueIn (pcons (z .tree) ts) j a)
       same zero a = z .queues a
       same (suc j) a = rw (eqb·zero-suc j)
 
   pops-later : (t : PTree P) (ts : PForest P) (i : ℕ) (ss : List Step) (l : ℕ) (p : P) → PopsAt ts i ss l p → PopsAt (pcons t ts) (suc i) ss l p
-  pops-later t ts i ss l p z = record { trees = pcons t (z .trees); is = ap (with-elder t) (z .is); queues = same }
+  pops-later t ts i ss l p z = record { trees = pcons t (z .trees); is = ap (with-elder t) (z .is); queues = same; entries = z .entries }
     where
       same : (j : ℕ) (a : Addr) → queueIn (pcons t ts) j a ≡ atop (pick (eqb (suc i) j) (along ss l p a) none) (queueIn (pcons t (z .trees)) j a)
       same zero a = rw (eqb·suc-zero i)

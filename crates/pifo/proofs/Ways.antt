@@ -1,23 +1,26 @@
 -- The way of a pop: it is empty where no packet is held; by node number it is the head of each queue on the way down (`way-assemble`); and
--- at each node it has the entry that a pop takes at that node's address (`way-takes`).
-use mathlib.Core.Path.{_≡_, refl, sym, ap, _∙_}
+-- at each node it has the entry that a pop takes at that node's address (`way-takes`). The child that such an entry names is there
+-- (`takes-named`).
+use mathlib.Core.Path.{_≡_, refl, sym, ap, _∙_, subst}
 use Prim.Native.Nat.{ℕ, zero, suc, _+_, _≤_, _<_}
-use native.Mathlib.Nat.{zero-add, add-zero, not-suc-le-zero, le-of-suc-le-suc}
+use native.Mathlib.Nat.{zero-add, add-zero, not-suc-le-zero, le-of-suc-le-suc, zero-lt-suc}
 use native.Mathlib.Omega.{arith}
-use mathlib.Core.List.{List, [], _∷_, map}
+use mathlib.Core.List.{List, [], _∷_, _++_, map}
 use mathlib.Core.Bool.{Bool, true, false}
 use mathlib.Core.Option.{Option, none, some}
 use lib.Dec.{eqb, ltb, eqb·suc-suc}
-use borrow.Author.Tests.{ltb-true, eq-eqb, ne-eqb}
+use borrow.Author.Tests.{ltb-true, eqb-true, eq-eqb, ne-eqb}
 use Rattle.topology.specs.Tree.{Topo, Forest, node, fnil, fcons, count, size, sizes}
-use Rattle.topology.specs.Address.{Addr, nth, ahead, addr}
+use Rattle.topology.specs.Address.{Addr, nth, In, ahead, addr}
 use Rattle.topology.specs.Reader.{pick}
 use Rattle.topology.proofs.Numbering.{place, addr-child, addr-root}
 use Rattle.pifo.specs.Queue.{Entry, child, packet, entry}
-use Rattle.pifo.specs.Tree.{PTree, PForest, pnode, pnil, pcons, shape, shapes, held, well}
+use Rattle.pifo.specs.Tree.{PTree, PForest, pnode, pnil, pcons, shape, shapes, held, well, wells}
 use Rattle.pifo.specs.Numbered.{Queues, kidAt, assemble, assembleAll, through, descentBy, descent}
 use Rattle.pifo.specs.Way.{Taken, taken, way, wayIn, takes, takesIn, takenAt, headTaken, headAt}
-use Rattle.pifo.proofs.Wellness.{length-held}
+use Rattle.pifo.proofs.Order.{both}
+use Rattle.pifo.proofs.Wellness.{well-parts, length-held}
+use Rattle.pifo.proofs.Pop.{child-own}
 use Rattle.pifo.proofs.Numbered.{shape-assemble}
 
 -- what a way has at a node
@@ -136,3 +139,37 @@ module _ {P : Type 0} where
     wayIn-takes (pcons t ts) (suc (suc i)) k (suc j) n h g =
         let m : k + size (shape t) + (ahead (shapes ts) j + n) ≡ k + (size (shape t) + ahead (shapes ts) j + n) = omega arith in
         rw (eqb·suc-suc (suc i) (suc j)) (rw m at (wayIn-takes ts (suc i) (k + size (shape t)) j n (le-of-suc-le-suc h) g))
+
+  -- where an entry that is taken names a child, that child is there
+  abbrev pub Named : Topo → Addr → Option (Entry P) → Type 0
+  Named t a none = Unit
+  Named t a (some (entry r (packet p))) = Unit
+  Named t a (some (entry r (child k))) = In t (a ++ (k ∷ []))
+
+  named-below : (ts : Forest) (i j : ℕ) (a : Addr) → i < count ts → (b : Bool) → eqb (suc i) j ≡ b → (o : Option (Entry P)) → Named (nth ts i) a o
+      → Named (node ts) (j ∷ a) (pick b o none)
+  named-below ts i j a g false e o h = tt
+  named-below ts i j a g true e none h = tt
+  named-below ts i j a g true e (some (entry r (packet p))) h = tt
+  named-below ts i j a g true e (some (entry r (child k))) h =
+      subst (λ (x : ℕ). In (node ts) (x ∷ (a ++ (k ∷ [])))) (eqb-true (suc i) j e) (zero-lt-suc i, g, h)
+
+  mutual
+    pub takes-named : (t : PTree P) (a : Addr) → well t ≡ true → Named (shape t) a (takes t a)
+    takes-named (pnode [] ts) a w = tt
+    takes-named (pnode (entry r (packet p) ∷ q) ts) [] w = tt
+    takes-named (pnode (entry r (packet p) ∷ q) ts) (j ∷ a) w = tt
+    takes-named (pnode (entry r (child i) ∷ q) ts) [] w =
+        let o = child-own (count (shapes ts)) r i q (well-parts (entry r (child i) ∷ q) ts w .own) in
+        (o .0, o .1, tt)
+    takes-named (pnode (entry r (child zero) ∷ q) ts) (j ∷ a) w =
+        absurd (not-suc-le-zero (child-own (count (shapes ts)) r 0 q (well-parts (entry r (child 0) ∷ q) ts w .own) .0))
+    takes-named (pnode (entry r (child (suc i)) ∷ q) ts) (j ∷ a) w =
+        let p = well-parts (entry r (child (suc i)) ∷ q) ts w in
+        named-below (shapes ts) i j a (child-own (count (shapes ts)) r (suc i) q (p .own) .1) (eqb (suc i) j) refl (takesIn ts (suc i) a)
+        (takesIn-named ts i a (p .below))
+
+    takesIn-named : (ts : PForest P) (i : ℕ) (a : Addr) → wells ts ≡ true → Named (nth (shapes ts) i) a (takesIn ts (suc i) a)
+    takesIn-named pnil i a w = tt
+    takesIn-named (pcons t ts) zero a w = takes-named t a (both (well t) (wells ts) w .0)
+    takesIn-named (pcons t ts) (suc i) a w = takesIn-named ts i a (both (well t) (wells ts) w .1)

@@ -13,6 +13,7 @@ use Rattle.topology.specs.Address.{Addr, In}
 use Rattle.pifo.specs.Queue.{Entry, child, packet, entry, allowed, every}
 use Rattle.pifo.specs.Tree.{Step, pathFault, PTree, shape, empty, push, pop, held, well}
 use Rattle.pifo.specs.Addressed.{queueAt, along, put, atop}
+use Rattle.pifo.specs.Way.{takes}
 use Rattle.pifo.proofs.Queues.{push-queue, Trail, Trails, pop-trail, Heads, trail-pop, queue-empty, queue-rises, root-held, root-own}
 use Rattle.pifo.proofs.Order.{both}
 use Rattle.pifo.proofs.Pop.{child-own}
@@ -67,14 +68,19 @@ module _ {S T : Topo} {F : Addr → Addr} (K : Keeps S T F) where
         pub tree : PTree P
         pub is : pop t ≡ some (p, tree)
         pub mirrors : Mirrors S T F u tree
+        pub entries : (b a : Addr) → In S b → In T a → Owns S F b a → takes t a ≡ after (turn F b a) (takes s b)
 
-      -- The source's pop takes the entries of a path from the heads; so the carried path's entries stand at the chip's heads.
+      -- The source's pop takes the entries of a path from the heads; so the carried path's entries stand at the chip's heads, and the chip's
+      -- pop takes these.
       pub mirrors-pop : (p : P) (u : PTree P) → pop s ≡ some (p, u) → Followed p u
       mirrors-pop p u e =
           let z = trail-pop t path (trail .last) p (rw ht (path-fault (trail .steps) valid)) heads in
+          let o = trail-pop s (trail .steps) (trail .last) p (trail .valid) source-heads in
           let same : (b a : Addr) → In S b → In T a → Owns S F b a → queueAt (z .tree) a ≡ turned (turn F b a) (queueAt u b) =
           λ b a i j o. under (along path (trail .last) p a) (queueAt (z .tree) a) (turned (turn F b a) (queueAt u b)) (sym (z .queues a) ∙ before b a i j o) in
-          record { tree = z .tree; is = z .is; mirrors = record { queues = same } }
+          let turns : (b a : Addr) → In S b → In T a → Owns S F b a → takes t a ≡ after (turn F b a) (takes s b) =
+          λ b a i j g. z .entries a ∙ along-turned b a i j g ∙ ap (after (turn F b a)) (sym (o .entries b)) in
+          record { tree = z .tree; is = z .is; mirrors = record { queues = same }; entries = turns }
         where
           trail : Trail s p u
           trail = subst (Trails s) e (pop-trail s w)
@@ -85,13 +91,17 @@ module _ {S T : Topo} {F : Addr → Addr} (K : Keeps S T F) where
           valid : pathFault S (trail .steps) ≡ 0
           valid = rw hs at (trail .valid)
 
+          along-turned : (b a : Addr) → In S b → In T a → Owns S F b a
+              → along path (trail .last) p a ≡ after (turn F b a) (along (trail .steps) (trail .last) p b)
+          along-turned b a i j o = path-along (trail .steps) (trail .last) p b a valid i j o
+
           before : (b a : Addr) → In S b → In T a → Owns S F b a
               → queueAt t a ≡ atop (along path (trail .last) p a) (turned (turn F b a) (queueAt u b))
           before b a i j o =
               M .queues b a i j o
               ∙ ap (turned (turn F b a)) (trail .queues b)
               ∙ turned-atop (turn F b a) (along (trail .steps) (trail .last) p b) (queueAt u b)
-              ∙ ap (λ (x : Option (Entry P)). atop x (turned (turn F b a) (queueAt u b))) (sym (path-along (trail .steps) (trail .last) p b a valid i j o))
+              ∙ ap (λ (x : Option (Entry P)). atop x (turned (turn F b a) (queueAt u b))) (sym (along-turned b a i j o))
 
           on-head : (x : Option (Entry P)) (q k : List (Entry P)) → q ≡ atop x k → Heads x q
           on-head none q k h = tt
@@ -107,3 +117,6 @@ module _ {S T : Topo} {F : Addr → Addr} (K : Keeps S T F) where
               let there : In T a = rw ht at j in
               on-head (along path (trail .last) p a) (queueAt t a) (turned (turn F (o .node) a) (queueAt u (o .node)))
               (before (o .node) a (o .there) there (o .owns))
+
+          source-heads : (b : Addr) → In (shape s) b → Heads (along (trail .steps) (trail .last) p b) (queueAt s b)
+          source-heads b i = on-head (along (trail .steps) (trail .last) p b) (queueAt s b) (queueAt u b) (trail .queues b)

@@ -27,14 +27,17 @@ module _ {S T : Topo} {F : Addr → Addr} (K : Keeps S T F) where
           absurd (above-strict b i [] (K .up (b ++ (i ∷ [])) b h (in-front S b (i ∷ []) h) ([], sym (append-nil (F (b ++ (i ∷ []))) ∙ e ∙ append-nil (F b)))))
       by-rest (j ∷ g, e) = (j, g, e)
 
-  -- so the root owns the root
-  pub root-owns : Owns S F [] []
-  root-owns = record { covers = ([], rw (K .root)); lowest = too-low }
+  -- so a node owns its image, and the root the root
+  pub image-owned : (b : Addr) → Owns S F b (F b)
+  image-owned b = record { covers = ([], sym (append-nil (F b))); lowest = too-low }
     where
-      too-low : (i : ℕ) → In S (i ∷ []) → Above (F (i ∷ [])) [] → ⊥
+      too-low : (i : ℕ) → In S (b ++ (i ∷ [])) → Above (F (b ++ (i ∷ []))) (F b) → ⊥
       too-low i h u =
-          let w = lower [] i h in
-          omega (arith, ap length (u .1), length-append (F (i ∷ [])) (u .0), ap length (w .2), length-append (F []) (w .0 ∷ w .1))
+          let w = lower b i h in
+          above-strict (F b) (w .0) (w .1) (subst (λ (z : Addr). Above z (F b)) (w .2) u)
+
+  pub root-owns : Owns S F [] []
+  root-owns = subst (Owns S F []) (K .root) (image-owned [])
 
   -- the owner is the lowest: a source node whose image is that node or lies above it is the owner or lies above it
   pub owner-low : (b c a : Addr) → In S b → In S c → Owns S F b a → Above (F c) a → Above c b

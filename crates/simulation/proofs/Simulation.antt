@@ -125,7 +125,7 @@ module _ (S T : Topo) (m : List ℕ) (E : Passes S T m) where
       pub answers-alike : (c : Call P) → serve x c .0 ≡ serveCarried S T m y c .0
       answers-alike c = alike c .answer
 
-    counts-alike : (x y : Machine P) → Paired S T m x y → counts x ≡ counts y
+    pub counts-alike : (x y : Machine P) → Paired S T m x y → counts x ≡ counts y
     counts-alike x y p = λ k. (sym (held-alike x y p) k, sym (p .refusals) k)
 
     seen-alike : (x y : Machine P) → Paired S T m x y → (calls : List (Call P)) → seenBy serve x calls ≡ seenBy (serveCarried S T m) y calls

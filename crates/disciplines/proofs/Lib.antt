@@ -1,0 +1,6 @@
+pub mod Ways
+pub mod Rules
+pub mod Steps
+pub mod Finishes
+pub mod Times
+pub mod Requests

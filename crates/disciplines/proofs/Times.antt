@@ -1,0 +1,63 @@
+-- Virtual times after a pop. At a weighted node where the pop took a rank it is that rank (`time-taken`); it stays at a node where the pop took
+-- none (`time-untaken`) and at a node that is not weighted (`time-unweighted`).
+use mathlib.Core.Path.{_≡_, refl, ap, ap₂, _∙_}
+use mathlib.Core.Logic.{_≢_}
+use Prim.Native.Nat.{ℕ, zero, suc, _+_, _<_}
+use native.Mathlib.Nat.{add-zero, zero-add, not-suc-le-zero, le-of-suc-le-suc}
+use native.Mathlib.Omega.{arith}
+use mathlib.Core.List.{List, [], _∷_}
+use mathlib.Core.Bool.{Bool, true, false, _&&_}
+use mathlib.Core.Option.{Option, none, some}
+use lib.ListN.{length, getD}
+use lib.Dec.{eqb, ltb}
+use borrow.Author.Tests.{ltb-true, lt-ltb, ne-eqb}
+use Rattle.topology.specs.Tree.{Topo, size}
+use Rattle.topology.specs.Reader.{pick}
+use Rattle.pifo.specs.Queue.{Rank}
+use Rattle.disciplines.specs.Figure.{weighted, kindAt, virtualAt, keepsTime, lastOf, timesAfter, afterPop}
+use Rattle.disciplines.specs.declared.Rule.{Rule}
+use Rattle.disciplines.specs.declared.Disciplines.{Disciplines}
+
+module _ (t : Topo) (rules : List Rule) where
+  -- only ranks at nodes of the drawing matter
+  pub times-same : (f g : ℕ → Option Rank) → ((n : ℕ) → n < size t → f n ≡ g n) → (n : ℕ) (vs : List Rank)
+      → timesAfter t rules f n vs ≡ timesAfter t rules g n vs
+  times-same f g h n [] = refl
+  times-same f g h n (v ∷ vs) =
+      ap₂ (λ (x : Rank) (xs : List Rank). x ∷ xs) (by-node (ltb n (size t)) refl) (times-same f g h (suc n) vs)
+    where
+      by-node : (b : Bool) → ltb n (size t) ≡ b
+          → pick (b && eqb (kindAt rules n) weighted) (lastOf (f n) v) v ≡ pick (b && eqb (kindAt rules n) weighted) (lastOf (g n) v) v
+      by-node true e =
+          ap (λ (r : Option Rank). pick (eqb (kindAt rules n) weighted) (lastOf r v) v) (h n (ltb-true n (size t) e))
+      by-node false e = refl
+
+  -- the time at place i of the times from node n on
+  time-from : (at : ℕ → Option Rank) (n i : ℕ) (vs : List Rank) → i < length vs
+      → let v = getD vs i 0 in getD (timesAfter t rules at n vs) i 0 ≡ pick (keepsTime t rules (n + i)) (lastOf (at (n + i)) v) v
+  time-from at n i [] l = absurd (not-suc-le-zero l)
+  time-from at n zero (v ∷ vs) l = rw (add-zero n)
+  time-from at n (suc i) (v ∷ vs) l =
+      let e : suc n + i ≡ n + suc i = omega arith in
+      rw e at (time-from at (suc n) i vs (le-of-suc-le-suc l))
+
+module _ (t : Topo) (d : Disciplines) (at : ℕ → Option Rank) (n : ℕ) (l : n < length (d .«virtual_time»)) where
+  time-at : virtualAt (afterPop t d at) n ≡ pick (keepsTime t (d .rules) n) (lastOf (at n) (virtualAt d n)) (virtualAt d n)
+  time-at = rw (zero-add n) at (time-from t (d .rules) at 0 n (d .«virtual_time») l)
+
+  pub time-taken : n < size t → kindAt (d .rules) n ≡ weighted → (r : Rank) → at n ≡ some r → virtualAt (afterPop t d at) n ≡ r
+  time-taken h w r e = time-at ∙ rw (lt-ltb n (size t) h, w, e)
+
+  pub time-untaken : at n ≡ none → virtualAt (afterPop t d at) n ≡ virtualAt d n
+  time-untaken e = time-at ∙ rw e (by-test (keepsTime t (d .rules) n))
+    where
+      by-test : (b : Bool) → pick b (virtualAt d n) (virtualAt d n) ≡ virtualAt d n
+      by-test true = refl
+      by-test false = refl
+
+  pub time-unweighted : kindAt (d .rules) n ≢ weighted → virtualAt (afterPop t d at) n ≡ virtualAt d n
+  time-unweighted w = time-at ∙ by-node (ltb n (size t))
+    where
+      by-node : (b : Bool) → pick (b && eqb (kindAt (d .rules) n) weighted) (lastOf (at n) (virtualAt d n)) (virtualAt d n) ≡ virtualAt d n
+      by-node true = rw (ne-eqb (kindAt (d .rules) n) weighted w)
+      by-node false = refl

@@ -1,0 +1,53 @@
+-- The chip's tree with disciplines (paper 02, 2.1), and the promise that it is seen as the drawing's own tree is (`SchedulersAlike`).
+use mathlib.Core.Path.{_≡_}
+use Prim.Native.Nat.{ℕ}
+use mathlib.Core.List.{List, [], _∷_}
+use mathlib.Core.Option.{Option}
+use Rattle.topology.specs.Tree.{Topo}
+use Rattle.pifo.specs.Queue.{Rank}
+use Rattle.pifo.specs.Machine.{Machine, Answer, opened, counts}
+use Rattle.embedding_laws.specs.Rules.{image, Passes}
+use Rattle.simulation.specs.Sheet.{serveCarried, Paired}
+use Rattle.disciplines.specs.Figure.{fresh}
+use Rattle.disciplines.specs.Scheduler.{Scheduler, Request, rankAt, with, serveBy, serveOwn}
+use Rattle.disciplines.specs.declared.Rule.{Rule}
+use Rattle.disciplines.specs.declared.Disciplines.{Disciplines}
+
+module _ {P : Type 0} where
+  -- the rank that a pop of the chip's machine takes for source node n: the one at its image
+  abbrev pub imageRank : List ℕ → Machine P → ℕ → Option Rank
+  imageRank images m n = rankAt m (image images n)
+
+  -- A request to the chip's tree. Ranks, faults and what is kept for disciplines go by the drawing S, as in the drawing's own tree; pushes go
+  -- on with their paths carried over.
+  abbrev pub serveChip : Topo → Topo → List ℕ → Scheduler P → Request P → Answer P × Scheduler P
+  serveChip S T images = serveBy S (serveCarried S T images) (imageRank images)
+
+  -- What holds between the two schedulers from one request to the next: their machines are paired, and both keep the same for disciplines.
+  pub record PairedSchedulers (S T : Topo) (m : List ℕ) (x y : Scheduler P) : Type 0 where
+    pub cores : Paired S T m (x .core) (y .core)
+    pub disciplines : y .disciplines ≡ x .disciplines
+
+  -- What is seen of a scheduler: packets held, refusals counted, and what is kept for disciplines. And what is seen over a list of requests: to
+  -- each the answer, and what is seen of the scheduler after it.
+  abbrev pub seenOf : Scheduler P → (ℕ × ℕ) × Disciplines
+  seenOf s = (counts (s .core), s .disciplines)
+
+  abbrev pub seenOver : (Scheduler P → Request P → Answer P × Scheduler P) → Scheduler P → List (Request P)
+      → List (Answer P × ((ℕ × ℕ) × Disciplines))
+  seenOver server s [] = []
+  seenOver server s (r ∷ rs) = (server s r .0, seenOf (server s r .1)) ∷ seenOver server (server s r .1) rs
+
+-- Both trees are opened empty with one limit and the same rules, and a list of requests goes to both, pushes by path, pushes to a leaf and pops in
+-- any order: the same is seen of them before the first request, and at every request and after it.
+pub record SchedulesAlike (P : Type 0) (S T : Topo) (m : List ℕ) (limit : ℕ) (rules : List Rule) (requests : List (Request P)) : Type 0 where
+  pub before : seenOf {P = P} (with (opened S limit) (fresh rules)) ≡ seenOf {P = P} (with (opened T limit) (fresh rules))
+  pub every : seenOver serveOwn (with (opened S limit) (fresh rules)) requests
+      ≡ seenOver (serveChip S T m) (with (opened T limit) (fresh rules)) requests
+
+-- That is so whatever the packets, the trees, the map that meets the rules of an embedding, the limit, the rules of the disciplines and the
+-- requests. `schedulers-alike` in proofs/Alike proves it.
+abbrev pub SchedulersAlike : Type 1
+SchedulersAlike =
+    (P : Type 0) (S T : Topo) (m : List ℕ) → Passes S T m → (limit : ℕ) (rules : List Rule) (requests : List (Request P))
+    → SchedulesAlike P S T m limit rules requests
