@@ -1,11 +1,6 @@
-<<<<<<< HEAD
 pub mod Ways
 pub mod Rules
 pub mod Steps
 pub mod Finishes
 pub mod Times
 pub mod Requests
-=======
-pub mod Rules
-pub mod Steps
->>>>>>> h4
