@@ -16,11 +16,7 @@ use Rattle.disciplines.specs.Figure.{weighted, kindAt, weightAt, weighs,
 use Rattle.disciplines.specs.declared.Rule.{Rule}
 
 module _ (t : Topo) (rules : List Rule) where
-<<<<<<< HEAD
-  sound-below : (k n : ℕ) → n < k → allSound t rules k ≡ true → soundAt t rules n ≡ true
-=======
   pub sound-below : (k n : ℕ) → n < k → allSound t rules k ≡ true → soundAt t rules n ≡ true
->>>>>>> h4
   sound-below zero n l h = absurd (omega arith)
   sound-below (suc k) n l h =
       let b = both (allSound t rules k) (soundAt t rules k) h in
@@ -30,11 +26,7 @@ module _ (t : Topo) (rules : List Rule) where
       by-last (yes e) below last = rw e last
       by-last (no e) below last = below (omega arith)
 
-<<<<<<< HEAD
-  weight-below : (n k i : ℕ) → 0 < i → i ≤ k → weighs t rules n k ≡ true → 0 < weightAt rules (childOf t n i)
-=======
   pub weight-below : (n k i : ℕ) → 0 < i → i ≤ k → weighs t rules n k ≡ true → 0 < weightAt rules (childOf t n i)
->>>>>>> h4
   weight-below n zero i p l h = absurd (omega arith)
   weight-below n (suc k) i p l h =
       let b = both (weighs t rules n k) (ltb 0 (weightAt rules (childOf t n (suc k)))) h in

@@ -1,10 +1,32 @@
-// The queue tree with disciplines (paper 02, 2.1), by itself: its own nodes name their disciplines, and its calls take and answer a `Tree` by
-// value. The crate `pair_chip` has the same calls for a chip's tree, whose disciplines go by the nodes of a drawing.
+// The queue tree with disciplines (paper 02, 2.1), by itself: its own nodes name their disciplines. A call takes a `Tree` by value and answers
+// it by value. The crate `pair_chip` has the same calls for a chip's tree, whose disciplines go by the nodes of a drawing.
+use discipline_check::fault;
+use discipline_check::is_leaf;
+use discipline_path::plan_to;
 use disciplines::Disciplines;
+use disciplines::Rule;
+use queue_counts::Amount;
+use queue_push::Path;
 use queue_state::Answer;
+use queue_state::Frame;
+use queue_state::Packet;
 use queue_state::State;
+ghost use mathlib.Core.Path.{_≡_};
+ghost use mathlib.Core.List.{List};
+ghost use Prim.Native.Nat.{_≤_};
+ghost use mathlib.Core.Bool.{true};
+ghost use lib.Dec.{eqb};
+ghost use lib.ListN.{take};
+ghost use Rattle.topology.specs.Reader.{fault as Reader·fault, tree};
+ghost use Rattle.pifo.specs.Machine.{pushing};
+ghost use Rattle.queue_state.specs.Calls.{answerOf};
+ghost use Rattle.queue_push.specs.Calls.{stepsOf};
+ghost use Rattle.disciplines.specs.Figure.{ruleFault, fresh as Figure·fresh};
+ghost use Rattle.disciplines.specs.Scheduler.{calling, pushingTo};
+ghost use Rattle.queue_tree.specs.Opening.{treeFault, openedBy, openedTree};
+ghost use Rattle.queue_tree.specs.Calls.{OwnServes};
 
-// The queues, and what disciplines keep beside them.
+// The queues, and beside them what disciplines keep.
 pub struct Tree {
     pub state: State,
     pub disciplines: Disciplines,
@@ -20,4 +42,75 @@ pub struct TreeOpened {
 pub struct TreeServed {
     pub tree: Tree,
     pub answer: Answer,
+}
+
+// Nothing was popped yet, and nothing finished.
+fn fresh(rules: [Rule; 64]) -> Disciplines
+    ensures { λ r. ⌜ r ≡ Figure·fresh rules ⌝ }
+{
+    Disciplines {
+        rules,
+        virtual_time: [0; 64],
+        finish: [0; 64],
+    }
+}
+
+// An opening by the number of its refusal: the tree with these rules, or zeros throughout.
+pub fn opened(refusal: u8, state: State, rules: [Rule; 64]) -> TreeOpened
+    ensures { λ r. ⌜ r ≡ openedBy refusal state rules ⌝ }
+{
+    if refusal != 0 {
+        let none = queue_state::open(b"", 0);
+        let no_state = none.state;
+        return TreeOpened {
+            tree: Tree {
+                state: no_state,
+                disciplines: fresh([Rule {
+                    discipline: 0,
+                    weight: 0,
+                }; 64]),
+            },
+            refusal,
+        };
+    }
+    TreeOpened {
+        tree: Tree {
+            state,
+            disciplines: fresh(rules),
+        },
+        refusal: 0,
+    }
+}
+
+// The number by which an opening is refused, or 0: 1 to 5, 17, then 24.
+fn refusal(bytes: &[u8], limit: usize, rules: [Rule; 64]) -> u8
+    ensures { λ r. ⌜ r ≡ treeFault (now (bytes .entry)) limit rules ⌝ }
+{
+    let number = queue_state::refusal(bytes, limit);
+    if number != 0 {
+        return number;
+    }
+    fault(bytes, rules)
+}
+
+// Opens an empty tree with a packet limit and a rule for each of its nodes: 1 to 5 are tested, 17, then 24.
+pub fn open(bytes: &[u8], limit: usize, rules: [Rule; 64]) -> TreeOpened
+    ensures { λ r. ⌜ r ≡ openedTree (now (bytes .entry)) limit rules ⌝ }
+{
+    let number = refusal(bytes, limit, rules);
+    let empty = queue_state::open(bytes, limit);
+    let state = empty.state;
+    opened(number, state, rules)
+}
+
+// Whether the rules have no fault 24 in a state's own drawing. For a state that is not well formed the answer is free: it is refused by 18 anyhow.
+fn are_sound(frame: Frame, rules: [Rule; 64]) -> bool
+    ensures { λ r. ⌜ (r ≡ true → frame .nodes ≤ 64) × (frame .nodes ≤ 64 → Reader·fault 64 (take (frame .nodes) (frame .topology)) ≡ 0 → r ≡ eqb (ruleFault (tree (take (frame .nodes) (frame .topology))) rules) 0) ⌝ }
+{
+    let topology = frame.topology;
+    let nodes = frame.nodes;
+    if 64 < nodes {
+        return false;
+    }
+    fault(&topology[..nodes], rules) == 0
 }
