@@ -1,1 +1,3 @@
 pub mod Scheduled
+pub mod Openings
+pub mod Serving

@@ -8,23 +8,20 @@ use disciplines::Rule;
 use queue_counts::Amount;
 use queue_push::Path;
 use queue_state::Answer;
-use queue_state::Frame;
 use queue_state::Packet;
 use queue_state::State;
 ghost use mathlib.Core.Path.{_≡_};
-ghost use mathlib.Core.List.{List};
-ghost use Prim.Native.Nat.{_≤_};
-ghost use mathlib.Core.Bool.{true};
-ghost use lib.Dec.{eqb};
-ghost use lib.ListN.{take};
-ghost use Rattle.topology.specs.Reader.{fault as Reader·fault, tree};
 ghost use Rattle.pifo.specs.Machine.{pushing};
+ghost use Rattle.topology.specs.Reader.{pick};
+ghost use Rattle.queue_state.specs.State.{wellFormed};
 ghost use Rattle.queue_state.specs.Calls.{answerOf};
+ghost use Rattle.queue_state.specs.declared.Answer.the-variants.{Refused};
 ghost use Rattle.queue_push.specs.Calls.{stepsOf};
-ghost use Rattle.disciplines.specs.Figure.{ruleFault, fresh as Figure·fresh};
+ghost use Rattle.disciplines.specs.Figure.{fresh as Figure·fresh};
 ghost use Rattle.disciplines.specs.Scheduler.{calling, pushingTo};
 ghost use Rattle.queue_tree.specs.Opening.{treeFault, openedBy, openedTree};
 ghost use Rattle.queue_tree.specs.Calls.{OwnServes};
+ghost use Rattle.queue_tree.specs.Parts.{SoundIn};
 
 // The queues, and beside them what disciplines keep.
 pub struct Tree {
@@ -104,13 +101,108 @@ pub fn open(bytes: &[u8], limit: usize, rules: [Rule; 64]) -> TreeOpened
 }
 
 // Whether the rules have no fault 24 in a state's own drawing. For a state that is not well formed the answer is free: it is refused by 18 anyhow.
-fn are_sound(frame: Frame, rules: [Rule; 64]) -> bool
-    ensures { λ r. ⌜ (r ≡ true → frame .nodes ≤ 64) × (frame .nodes ≤ 64 → Reader·fault 64 (take (frame .nodes) (frame .topology)) ≡ 0 → r ≡ eqb (ruleFault (tree (take (frame .nodes) (frame .topology))) rules) 0) ⌝ }
+fn are_sound(topology: [u8; 64], nodes: usize, rules: [Rule; 64]) -> bool
+    ensures { λ r. ⌜ SoundIn topology nodes rules r ⌝ }
 {
-    let topology = frame.topology;
-    let nodes = frame.nodes;
     if 64 < nodes {
         return false;
     }
     fault(&topology[..nodes], rules) == 0
+}
+
+// A refusal by a number that comes after 18.
+fn refused(state: State, number: u8) -> Answer
+    ensures { λ r. ⌜ r ≡ Refused (pick (wellFormed state) number 18) ⌝ }
+{
+    match queue_counts::held(state) {
+        Amount::Count(_) => Answer::Refused(number),
+        Amount::Refused(ill) => Answer::Refused(ill),
+    }
+}
+
+// Pushes a packet along a path, which enters its ranks as given and alters no finish: 18, 13, 14, 15 are tested in this order.
+pub fn push(tree: Tree, path: Path, packet: Packet) -> TreeServed
+    ensures { λ r. ⌜ OwnServes tree (calling (pushing (stepsOf path) (path .«leaf_rank») packet)) (answerOf (r .answer)) (r .tree) ⌝ }
+{
+    let state = tree.state;
+    let disciplines = tree.disciplines;
+    let frame = state.frame;
+    let topology = frame.topology;
+    let rules = disciplines.rules;
+    if !are_sound(topology, frame.nodes, rules) {
+        return TreeServed {
+            tree,
+            answer: Answer::Refused(18),
+        };
+    }
+    let served = queue_push::push(state, path, packet);
+    let after = served.state;
+    let answer = served.answer;
+    TreeServed {
+        tree: Tree {
+            state: after,
+            disciplines,
+        },
+        answer,
+    }
+}
+
+// Pushes a packet to a leaf, with its class and its length, by the ranks that the disciplines give: 18, 25, 15, 23 are tested in this order.
+pub fn push_to_leaf(tree: Tree, leaf: usize, class: u8, length: u16, packet: Packet) -> TreeServed
+    ensures { λ r. ⌜ OwnServes tree (pushingTo leaf class length packet) (answerOf (r .answer)) (r .tree) ⌝ }
+{
+    let state = tree.state;
+    let disciplines = tree.disciplines;
+    let frame = state.frame;
+    let topology = frame.topology;
+    let nodes = frame.nodes;
+    let rules = disciplines.rules;
+    if !are_sound(topology, nodes, rules) {
+        return TreeServed {
+            tree,
+            answer: Answer::Refused(18),
+        };
+    }
+    let bytes = &topology[..nodes];
+    if !is_leaf(bytes, leaf) {
+        return TreeServed {
+            tree,
+            answer: refused(state, 25),
+        };
+    }
+    let plan = plan_to(bytes, disciplines, leaf, class, length);
+    let path = plan.path;
+    let served = queue_push::push(state, path, packet);
+    let after = served.state;
+    let answer = served.answer;
+    match answer {
+        Answer::Accepted(_) => {
+            if !plan.fits {
+                return TreeServed {
+                    tree,
+                    answer: Answer::Refused(23),
+                };
+            }
+            let times = disciplines.virtual_time;
+            let finish = plan.finish;
+            TreeServed {
+                tree: Tree {
+                    state: after,
+                    disciplines: Disciplines {
+                        rules,
+                        virtual_time: times,
+                        finish,
+                    },
+                },
+                answer,
+            }
+        }
+        _ => TreeServed {
+            tree: Tree {
+                state: after,
+                disciplines,
+            },
+            answer,
+        },
+    }
 }
