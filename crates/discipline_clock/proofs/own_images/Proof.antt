@@ -1,7 +1,8 @@
 -- `own_images` meets its contract. The first n places hold the numbers below n.
 use borrow.Author.Needs.{needs}
+use native.Mathlib.Omega.{arith}
 use mathlib.Core.Path.{_≡_, refl, _∙_}
-use Prim.Native.Nat.{_≤_, _-_}
+use Prim.Native.Nat.{_≤_, _<_, _-_}
 use lib.ListN.{length, take, length-set}
 use Rattle.discipline_clock.specs.Clock.{numbersFrom}
 use Rattle.discipline_clock.proofs.Passing.{numbers-next, numbers-all}
@@ -32,7 +33,8 @@ loop-less c = search needs
 loop-again : tie.Need-loop-again Inv-loop μ-loop
 loop-again c =
     let loop = c .before .loop in
-    (search needs, length-set (loop .images) _ _ ∙ loop .inv .1, numbers-next _ _ (loop .inv .1) (c .loop-test .taken) (loop .inv .2))
+    let place : loop .n < 64 = omega arith in
+    (search needs, length-set (loop .images) _ _ ∙ loop .inv .1, numbers-next _ _ (loop .inv .1) place (loop .inv .2))
 
 returns : tie.Need-returns Inv-loop μ-loop
 returns c =
