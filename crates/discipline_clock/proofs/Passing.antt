@@ -1,0 +1,109 @@
+-- The loops over the places of a way and over nodes: one law for each answer and each turn.
+use mathlib.Core.Path.{_≡_, refl, sym, ap, _∙_}
+use mathlib.Core.Logic.{_≢_}
+use Prim.Native.Nat.{ℕ, zero, suc, _+_, _≤_, _<_, min}
+use native.Mathlib.Nat.{not-suc-le-zero, le-of-suc-le-suc, zero-add, add-zero}
+use native.Mathlib.Numerals.{add-one}
+use native.Mathlib.Omega.{arith}
+use mathlib.Core.List.{List, [], _∷_, _++_}
+use mathlib.Core.Option.{Option}
+use lib.ListN.{length, getD, set, take, drop, length-take, drop-of-length-le}
+use lib.Seq.{take-all, drop-cons, set-getD, take-suc-set, getD-take}
+use lib.Dec.{eqb}
+use borrow.Author.Tests.{eq-eqb, ne-eqb}
+use Rattle.topology.specs.Reader.{pick}
+use Rattle.pifo.specs.Queue.{Rank}
+use Rattle.queue_pop.specs.Ways.{noTaken}
+use Rattle.queue_pop.specs.declared.Taken.{Taken}
+use Rattle.disciplines.specs.Figure.{weighted, kindAt, lastOf}
+use Rattle.disciplines.specs.declared.Rule.{Rule}
+use Rattle.discipline_clock.specs.Clock.{rankAmong, timesBy, numbersFrom, ownImages}
+
+-- ---- the places of a way from place i on
+
+module _ (node count : ℕ) (ps : List Taken) (time : Rank) (i : ℕ) where
+  -- none is left
+  pub rank-none : min count (length ps) ≤ i → lastOf (rankAmong node (drop i (take count ps))) time ≡ time
+  rank-none h = rw (drop-of-length-le (take count ps) {i = i} (omega (arith, length-take count ps)))
+
+  module _ (h : i < count) (g : i < length ps) where
+    first-left : drop i (take count ps) ≡ getD ps i noTaken ∷ drop (suc i) (take count ps)
+    first-left =
+        drop-cons (take count ps) i noTaken (omega (arith, length-take count ps))
+        ∙ ap (λ (p : Taken). p ∷ drop (suc i) (take count ps)) (getD-take count ps i noTaken h)
+
+    pub rank-here : getD ps i noTaken .node ≡ node → lastOf (rankAmong node (drop i (take count ps))) time ≡ getD ps i noTaken .rank
+    rank-here e = rw (first-left, eq-eqb (getD ps i noTaken .node) node e)
+
+    pub rank-later : getD ps i noTaken .node ≢ node
+        → lastOf (rankAmong node (drop i (take count ps))) time ≡ lastOf (rankAmong node (drop (i + 1) (take count ps))) time
+    rank-later e = rw (first-left, ne-eqb (getD ps i noTaken .node) node e, add-one)
+
+-- ---- the virtual times, those of the first n nodes anew
+
+module _ (rules : List Rule) (at : ℕ → Option Rank) where
+  -- the next node's is still the old one
+  times-kept : (k n : ℕ) (l : List ℕ) (vs : List Rank) → getD (timesBy rules at k (take n l) vs) n 0 ≡ getD vs n 0
+  times-kept k zero l vs = refl
+  times-kept k (suc n) [] vs = refl
+  times-kept k (suc n) (a ∷ l) [] = refl
+  times-kept k (suc n) (a ∷ l) (v ∷ vs) = times-kept (suc k) n l vs
+
+  -- one node more
+  times-set : (k n : ℕ) (l : List ℕ) (vs : List Rank) (x : Rank) → n < length l → n < length vs
+      → x ≡ pick (eqb (kindAt rules (k + n)) weighted) (lastOf (at (getD l n 0)) (getD vs n 0)) (getD vs n 0)
+      → set (timesBy rules at k (take n l) vs) n x ≡ timesBy rules at k (take (suc n) l) vs
+  times-set k n [] vs x h g e = absurd (not-suc-le-zero h)
+  times-set k n (a ∷ l) [] x h g e = absurd (not-suc-le-zero g)
+  times-set k zero (a ∷ l) (v ∷ vs) x h g e = ap (λ (y : Rank). y ∷ vs) (rw (add-zero k) at e)
+  times-set k (suc n) (a ∷ l) (v ∷ vs) x h g e =
+      let m : k + suc n ≡ suc k + n = omega arith in
+      ap (λ (ys : List Rank). pick (eqb (kindAt rules k) weighted) (lastOf (at a) v) v ∷ ys)
+      (times-set (suc k) n l vs x (le-of-suc-le-suc h) (le-of-suc-le-suc g) (rw m at e))
+
+  module _ (n : ℕ) (l : List ℕ) (vs now : List Rank) (h : n < length l) (g : n < length vs) (e : now ≡ timesBy rules at 0 (take n l) vs) where
+    old : getD now n 0 ≡ getD vs n 0
+    old = rw e (times-kept 0 n l vs)
+
+    next : (x : Rank) → x ≡ pick (eqb (kindAt rules n) weighted) (lastOf (at (getD l n 0)) (getD now n 0)) (getD now n 0)
+        → set now n x ≡ timesBy rules at 0 (take (n + 1) l) vs
+    next x f = rw (e, add-one) (times-set 0 n l vs x h g (rw (zero-add n) (rw old at f)))
+
+    pub times-weighted : (x : Rank) → kindAt rules n ≡ weighted → x ≡ lastOf (at (getD l n 0)) (getD now n 0)
+        → set now n x ≡ timesBy rules at 0 (take (n + 1) l) vs
+    times-weighted x k f = next x (rw k f)
+
+    pub times-plain : kindAt rules n ≢ weighted → now ≡ timesBy rules at 0 (take (n + 1) l) vs
+    times-plain k = sym (set-getD now n 0) ∙ next (getD now n 0) (rw (ne-eqb (kindAt rules n) weighted k))
+
+  -- the end: the last node is reached, the last image or the last place
+  pub times-all : (k n nodes : ℕ) (l : List ℕ) (vs : List Rank) → n ≤ nodes → (n < nodes → n < length l → n < length vs → ⊥)
+      → timesBy rules at k (take n l) vs ≡ timesBy rules at k (take nodes l) vs
+  times-all k zero zero l vs h o = refl
+  times-all k zero (suc nodes) [] vs h o = refl
+  times-all k zero (suc nodes) (a ∷ l) [] h o = refl
+  times-all k zero (suc nodes) (a ∷ l) (v ∷ vs) h o = absurd (o (omega arith) (omega arith) (omega arith))
+  times-all k (suc n) zero l vs h o = absurd (not-suc-le-zero h)
+  times-all k (suc n) (suc nodes) [] vs h o = refl
+  times-all k (suc n) (suc nodes) (a ∷ l) [] h o = refl
+  times-all k (suc n) (suc nodes) (a ∷ l) (v ∷ vs) h o =
+      ap (λ (ys : List Rank). pick (eqb (kindAt rules k) weighted) (lastOf (at a) v) v ∷ ys)
+      (times-all (suc k) n nodes l vs (le-of-suc-le-suc h) (λ x y z. o (omega arith) (omega arith) (omega arith)))
+
+-- ---- the numbers from 0 on
+
+numbers-more : (k n : ℕ) → numbersFrom k n ++ ((k + n) ∷ []) ≡ numbersFrom k (suc n)
+numbers-more k zero = ap (λ (i : ℕ). i ∷ []) (add-zero k)
+numbers-more k (suc n) =
+    let m : k + suc n ≡ suc k + n = omega arith in
+    ap (λ (l : List ℕ). k ∷ l) (rw m (numbers-more (suc k) n))
+
+pub numbers-next : (l : List ℕ) (n : ℕ) → length l ≡ 64 → n < 64 → take n l ≡ numbersFrom 0 n → take (n + 1) (set l n n) ≡ numbersFrom 0 (n + 1)
+numbers-next l n h g e =
+    rw add-one
+    (take-suc-set l n n (omega arith) ∙ ap (λ (front : List ℕ). front ++ (n ∷ [])) e ∙ rw (zero-add n) at (numbers-more 0 n))
+
+pub numbers-all : (l : List ℕ) (n : ℕ) → length l ≡ 64 → n ≤ 64 → 64 ≤ n → take n l ≡ numbersFrom 0 n → l ≡ ownImages
+numbers-all l n h a b e =
+    let all : n ≡ 64 = omega arith in
+    sym (take-all n l (omega arith)) ∙ e ∙ ap (numbersFrom 0) all

@@ -1,0 +1,88 @@
+// Virtual times after a pop (paper 02, 2.1): at a weighted node the rank last popped there.
+use disciplines::Disciplines;
+use disciplines::Rule;
+use queue_pop::Taken;
+use queue_pop::Way;
+use queue_state::Rank;
+use topology::TARGET_NODES;
+ghost use mathlib.Core.Path.{_≡_};
+ghost use lib.ListN.{take};
+ghost use Rattle.disciplines.specs.Figure.{lastOf};
+ghost use Rattle.discipline_clock.specs.Clock.{rankAmong, rankIn, timesBy, clocked, ownImages};
+
+const WEIGHTED: u8 = 2;
+
+// The rank that the first `count` places of a way have at `node`; `time` where they have none.
+fn last_rank(taken: [Taken; 9], count: usize, node: u8, time: Rank) -> Rank
+    ensures { λ r. ⌜ r ≡ lastOf (rankAmong node (take count taken)) time ⌝ }
+{
+    let mut i = 0;
+    while i < count {
+        if 9 <= i {
+            return time;
+        }
+        if taken[i].node == node {
+            return taken[i].rank;
+        }
+        i += 1;
+    }
+    time
+}
+
+// The virtual times of the first `nodes` nodes anew.
+fn times_after(
+    rules: [Rule; 64],
+    times: [Rank; 64],
+    nodes: usize,
+    way: Way,
+    images: &[u8],
+) -> [Rank; 64]
+    ensures { λ r. ⌜ r ≡ timesBy rules (rankIn way) 0 (take nodes (now (images .entry))) times ⌝ }
+{
+    let taken = way.taken;
+    let count = way.count;
+    let mut after = times;
+    let mut n = 0;
+    while n < nodes {
+        if images.len() <= n {
+            return after;
+        }
+        if TARGET_NODES <= n {
+            return after;
+        }
+        if rules[n].discipline == WEIGHTED {
+            after[n] = last_rank(taken, count, images[n], after[n]);
+        }
+        n += 1;
+    }
+    after
+}
+
+// The disciplines of a drawing of so many nodes after a pop: at each weighted node the virtual time is the rank that `way` has at the node's
+// image, if it has one there.
+pub fn after_pop(disciplines: Disciplines, nodes: usize, way: Way, images: &[u8]) -> Disciplines
+    ensures { λ r. ⌜ r ≡ clocked disciplines nodes way (now (images .entry)) ⌝ }
+{
+    let rules = disciplines.rules;
+    let times = disciplines.virtual_time;
+    let virtual_time = times_after(rules, times, nodes, way, images);
+    let finish = disciplines.finish;
+    Disciplines {
+        rules,
+        virtual_time,
+        finish,
+    }
+}
+
+// The images of a tree by itself: each node stands for itself.
+pub fn own_images() -> [u8; 64]
+    ensures { λ r. ⌜ r ≡ ownImages ⌝ }
+{
+    let mut images = [0u8; 64];
+    let mut n = 0;
+    while n < 64 {
+        images[n] = n as u8;
+        n += 1;
+    }
+    images
+}
