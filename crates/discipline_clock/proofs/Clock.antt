@@ -79,13 +79,15 @@ module _ (t : Topo) (rules : List Rule) (at : ℕ → Option Rank) where
   times-past k [] h = refl
   times-past k (v ∷ vs) h = rw (le-ltb k (size t) h) (ap (λ (ys : List Rank). v ∷ ys) (times-past (suc k) vs (omega arith)))
 
+  -- the n nodes from node k on, whose images are the first n of l
   times-same : (of : ℕ → Option Rank) (k n : ℕ) (l : List ℕ) (vs : List Rank) → k + n ≡ size t → n ≤ length l
       → ((i : ℕ) → i < n → of (getD l i 0) ≡ at (k + i)) → timesBy rules of k (take n l) vs ≡ timesAfter t rules at k vs
   times-same of k zero l vs e h f = times-past k vs (omega arith)
   times-same of k (suc n) [] vs e h f = absurd (not-suc-le-zero h)
   times-same of k (suc n) (a ∷ l) [] e h f = refl
   times-same of k (suc n) (a ∷ l) (v ∷ vs) e h f =
-      let below : (i : ℕ) → i < n → of (getD l i 0) ≡ at (suc k + i) = λ i g. let m : k + suc i ≡ suc k + i = omega arith in rw m at (f (suc i) (omega arith)) in
+      let below : (i : ℕ) → i < n → of (getD l i 0) ≡ at (suc k + i) =
+      λ i g. let m : k + suc i ≡ suc k + i = omega arith in rw m at (f (suc i) (omega arith)) in
       let first : of a ≡ at k = rw (add-zero k) at (f 0 (omega arith)) in
       rw (lt-ltb k (size t) (omega arith), first)
       (ap (λ (ys : List Rank). pick (eqb (kindAt rules k) weighted) (lastOf (at k) v) v ∷ ys)
