@@ -1,3 +1,4 @@
 pub mod Scheduled
 pub mod Openings
 pub mod Serving
+pub mod Arrays

@@ -7,16 +7,18 @@ use native.Mathlib.Omega.{arith}
 use mathlib.Core.List.{List}
 use mathlib.Core.Bool.{Bool, true, false, _&&_}
 use mathlib.Core.Option.{Option, none, some}
+use lib.ListN.{length, length-take}
 use lib.Dec.{eqb}
 use borrow.Author.Tests.{eqb-true}
-use Rattle.topology.specs.Tree.{Topo}
+use Rattle.topology.specs.Tree.{Topo, size}
 use Rattle.topology.specs.Address.{addr}
 use Rattle.topology.specs.Reader.{pick, fault, tree}
+use Rattle.topology.proofs.Lookup.{valid-size}
 use Rattle.pifo.specs.Queue.{Rank}
 use Rattle.pifo.specs.Tree.{Step, pathFault, PTree, pop, held}
 use Rattle.pifo.specs.Machine.{Machine, Call, pushing, popping, Answer, accepted, departed, refused, full, room, serve, serveRoom, servePath, servePop}
 use Rattle.pifo.proofs.Order.{both}
-use Rattle.queue_state.specs.State.{Packet, bytes, machine, wellFormed}
+use Rattle.queue_state.specs.State.{Packet, bytes, treeOf, machine, wellFormed}
 use Rattle.queue_state.specs.Calls.{Serves}
 use Rattle.queue_state.specs.declared.State.{State}
 use Rattle.queue_state.proofs.Formed.{off, formed}
@@ -26,6 +28,10 @@ use Rattle.queue_push.proofs.Paths.{steps-path}
 use Rattle.disciplines.specs.Figure.{kindAt, rankBy, stepsDown, finishesDown, fitsDown, ruleFault}
 use Rattle.disciplines.specs.Scheduler.{Scheduler, Request, calling, pushingTo, isLeaf, rankAt, serveBy, serveOwn}
 use Rattle.disciplines.specs.declared.Disciplines.{Disciplines}
+use Rattle.queue_pop.specs.Ways.{wayOf}
+use Rattle.discipline_clock.specs.Clock.{clocked, ownImages}
+use Rattle.discipline_clock.proofs.Clock.{clock-own}
+use Rattle.discipline_clock.proofs.Idle.{clock-ill, clock-idle}
 use Rattle.discipline_path.specs.Plans.{Planned}
 use Rattle.discipline_path.specs.declared.Plan.{Plan}
 use Rattle.queue_tree.specs.Calls.{schedulerOf, wellKept, ownRefusal, OwnServes}
@@ -112,6 +118,23 @@ module _ (t : Tree) where
     unfolding bytes
     exact w = let f = formed s w in z .exact (f .nodes) (f .valid)
 
+    -- what the test says of the whole tree
+    pub not-kept : b ≡ false → wellKept S t ≡ false
+    unfolding wellKept
+    not-kept f = by-form (wellFormed s) refl
+      where
+        by-form : (w : Bool) → wellFormed s ≡ w → (w && eqb (ruleFault S (d .rules)) 0) ≡ false
+        by-form false n = refl
+        by-form true y = sym (exact y) ∙ f
+
+    pub kept-formed : b ≡ true → wellKept S t ≡ wellFormed s
+    unfolding wellKept
+    kept-formed y = by-form (wellFormed s) refl
+      where
+        by-form : (w : Bool) → wellFormed s ≡ w → (w && eqb (ruleFault S (d .rules)) 0) ≡ w
+        by-form false n = refl
+        by-form true w = sym (exact w) ∙ y
+
     -- refused by 18: the rules have a fault, or the state has one
     pub unsound : b ≡ false → (q : Request Packet) → OwnServes t q (refused 18) t
     unsound f q = by-form (wellFormed s) refl
@@ -149,6 +172,28 @@ module _ (t : Tree) where
               called S serve rankAt ownRefusal serveOwn t (own-ok y) own-is c a r d (below-of s c a r y v)
               (sym (ap (learnt S d (rankAt (machine s))) (v .answer y) ∙ push-learnt S d (rankAt (machine s)) (machine s) ss l p))
               (own-after c a r d y v (rules-sound y) refl)
+
+      -- a pop, which hands back its way
+      pub by-pop : length (s .frame .topology) ≡ 64 → (a : Answer Packet) (r : State) (after : Disciplines) → Serves s popping a r
+          → after ≡ clocked d (s .frame .nodes) (wayOf s) ownImages → OwnServes t (calling popping) a (treeWith r after)
+      unfolding machine bytes
+      by-pop long a r after v k = by-form (wellFormed s) refl
+        where
+          learns : (y : wellFormed s ≡ true) (o : Option (Packet × PTree Packet)) → pop (treeOf s) ≡ o
+              → after ≡ learnt S d (rankAt (machine s)) (servePop (machine s) o .0)
+          learns y none e = k ∙ clock-idle s d (s .frame .nodes) ownImages y e
+          learns y (some (p, u)) e =
+              let f = formed s y in
+              let nodes : s .frame .nodes ≡ size S =
+              omega (arith, valid-size 64 (bytes s) (f .valid), length-take (s .frame .nodes) (s .frame .topology), long, f .nodes) in
+              clock-own s d after y (k ∙ ap (λ (n : ℕ). clocked d n (wayOf s) ownImages) nodes)
+
+          by-form : (w : Bool) → wellFormed s ≡ w → OwnServes t (calling popping) a (treeWith r after)
+          by-form false n = ill-call (calling popping) popping a r after n v (k ∙ clock-ill s d (s .frame .nodes) ownImages n)
+          by-form true y =
+              called S serve rankAt ownRefusal serveOwn t (own-ok y) own-is popping a r after (below-of s popping a r y v)
+              (learns y (pop (treeOf s)) refl ∙ ap (learnt S d (rankAt (machine s))) (sym (v .answer y)))
+              (own-after popping a r after y v (rules-sound y) (ap (λ (x : Disciplines). x .rules) k))
 
       -- a push to a leaf
       module _ (leaf class len : ℕ) (p : Packet) where

@@ -37,9 +37,12 @@ pub record Schedules (refusal : Tree → ℕ) (server : Scheduler Packet → Req
   pub kept : (n : ℕ) → a ≡ refused n → r ≡ t
   pub counted : (n c : ℕ) → a ≡ full n c → r ≡ counting t c
 
--- A tree by itself is well formed by its own drawing: else 18.
+-- A tree by itself goes by its own drawing, and is refused by 18 where it is not well formed by it.
+abbrev pub drawing : Tree → Topo
+drawing t = tree (bytes (t .state))
+
 unfoldable pub ownRefusal : Tree → ℕ
-ownRefusal t = pick (wellKept (tree (bytes (t .state))) t) 0 18
+ownRefusal t = pick (wellKept (drawing t) t) 0 18
 
 abbrev pub OwnServes : Tree → Request Packet → Answer Packet → Tree → Type 0
 OwnServes = Schedules ownRefusal serveOwn

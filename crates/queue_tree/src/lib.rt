@@ -2,6 +2,8 @@
 // it by value. The crate `pair_chip` has the same calls for a chip's tree, whose disciplines go by the nodes of a drawing.
 use discipline_check::fault;
 use discipline_check::is_leaf;
+use discipline_clock::after_pop;
+use discipline_clock::own_images;
 use discipline_path::plan_to;
 use disciplines::Disciplines;
 use disciplines::Rule;
@@ -11,16 +13,18 @@ use queue_state::Answer;
 use queue_state::Packet;
 use queue_state::State;
 ghost use mathlib.Core.Path.{_≡_};
-ghost use Rattle.pifo.specs.Machine.{pushing};
+ghost use Rattle.pifo.specs.Machine.{pushing, popping};
+ghost use Rattle.pifo.specs.Tree.{held};
 ghost use Rattle.topology.specs.Reader.{pick};
-ghost use Rattle.queue_state.specs.State.{wellFormed};
+ghost use Rattle.queue_state.specs.State.{wellFormed, treeOf};
 ghost use Rattle.queue_state.specs.Calls.{answerOf};
 ghost use Rattle.queue_state.specs.declared.Answer.the-variants.{Refused};
+ghost use Rattle.queue_counts.specs.Amounts.{amount};
 ghost use Rattle.queue_push.specs.Calls.{stepsOf};
 ghost use Rattle.disciplines.specs.Figure.{fresh as Figure·fresh};
 ghost use Rattle.disciplines.specs.Scheduler.{calling, pushingTo};
 ghost use Rattle.queue_tree.specs.Opening.{treeFault, openedBy, openedTree};
-ghost use Rattle.queue_tree.specs.Calls.{OwnServes};
+ghost use Rattle.queue_tree.specs.Calls.{drawing, wellKept, OwnServes};
 ghost use Rattle.queue_tree.specs.Parts.{SoundIn};
 
 // The queues, and beside them what disciplines keep.
@@ -205,4 +209,63 @@ pub fn push_to_leaf(tree: Tree, leaf: usize, class: u8, length: u16, packet: Pac
             answer,
         },
     }
+}
+
+// Pops the packet at the head; virtual times become the ranks that it took on its way: 18 and 16 are tested in this order.
+pub fn pop(tree: Tree) -> TreeServed
+    ensures { λ r. ⌜ OwnServes tree (calling popping) (answerOf (r .answer)) (r .tree) ⌝ }
+{
+    let state = tree.state;
+    let disciplines = tree.disciplines;
+    let frame = state.frame;
+    let topology = frame.topology;
+    let rules = disciplines.rules;
+    if !are_sound(topology, frame.nodes, rules) {
+        return TreeServed {
+            tree,
+            answer: Answer::Refused(18),
+        };
+    }
+    let popped = queue_pop::pop(state);
+    let way = popped.way;
+    let served = popped.served;
+    let after = served.state;
+    let answer = served.answer;
+    TreeServed {
+        tree: Tree {
+            state: after,
+            disciplines: after_pop(disciplines, frame.nodes, way, &own_images()),
+        },
+        answer,
+    }
+}
+
+// How many packets a tree holds.
+pub fn held(tree: Tree) -> Amount
+    ensures { λ r. ⌜ r ≡ amount (wellKept (drawing tree) tree) (held (treeOf (tree .state))) ⌝ }
+{
+    let state = tree.state;
+    let disciplines = tree.disciplines;
+    let frame = state.frame;
+    let topology = frame.topology;
+    let rules = disciplines.rules;
+    if !are_sound(topology, frame.nodes, rules) {
+        return Amount::Refused(18);
+    }
+    queue_counts::held(state)
+}
+
+// How many pushes a tree has refused because it was full.
+pub fn refusals(tree: Tree) -> Amount
+    ensures { λ r. ⌜ r ≡ amount (wellKept (drawing tree) tree) (tree .state .refused) ⌝ }
+{
+    let state = tree.state;
+    let disciplines = tree.disciplines;
+    let frame = state.frame;
+    let topology = frame.topology;
+    let rules = disciplines.rules;
+    if !are_sound(topology, frame.nodes, rules) {
+        return Amount::Refused(18);
+    }
+    queue_counts::refusals(state)
 }

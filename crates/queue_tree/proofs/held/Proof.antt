@@ -1,0 +1,26 @@
+-- `held` meets its contract.
+use borrow.Author.Needs.{needs}
+use mathlib.Core.Path.{sym, ap, _∙_}
+use mathlib.Core.Bool.{Bool}
+use borrow.Author.Tests.{not-true, not-false}
+use Rattle.pifo.specs.Tree.{held}
+use Rattle.queue_state.specs.State.{treeOf}
+use Rattle.queue_counts.specs.Amounts.{amount}
+use Rattle.queue_tree.proofs.Serving.{not-kept, kept-formed}
+use Rattle.queue_tree.proofs.held.Statement.{statement}
+use Rattle.queue_tree.proofs.held.Tie as tie
+
+are-sound-requires : tie.Need-are-sound-requires
+are-sound-requires c κs = search needs
+
+returns : tie.Need-returns
+returns c = sym (ap (λ (w : Bool). amount w (held (treeOf (c .before .before .before .before .before .before .before .args .tree .state)))) (not-kept _ _ (c .before .are-sound .ensures) (not-true _ (c .if1 .taken))))
+
+held-requires : tie.Need-held-requires
+held-requires c κs = search needs
+
+returns-2 : tie.Need-returns-2
+returns-2 c = c .held .ensures ∙ ap (λ (w : Bool). amount w (held (treeOf (c .before .before .before .before .before .before .before .before .args .tree .state)))) (sym (kept-formed _ _ (c .before .before .are-sound .ensures) (not-false _ (c .before .if1 .left))))
+
+pub held-spec : {M : Type 1} → statement M
+held-spec = tie.close (tie.spec are-sound-requires returns held-requires returns-2)
