@@ -18,10 +18,10 @@ use Rattle.embedding_laws.specs.Rules.{Passes}
 use Rattle.simulation.specs.Sheet.{serveCarried, Paired}
 use Rattle.simulation.proofs.Simulation.{paired-opened, paired-next, answers-alike, counts-alike}
 use Rattle.disciplines.specs.Figure.{kindAt, rankBy, stepsDown, finishesDown, fitsDown, withFinishes, afterPop, fresh}
-use Rattle.disciplines.specs.Scheduler.{Scheduler, Request, calling, pushingTo, isLeaf, rankAt, with, pushedBy, calledBy, serveBy, serveOwn}
+use Rattle.disciplines.specs.Scheduler.{Scheduler, Request, calling, pushingTo, isLeaf, rankAt, with, pushedBy, calledBy, serveBy, serveOwn, seenOf, seenOver}
 use Rattle.disciplines.specs.declared.Disciplines.{Disciplines}
 use Rattle.disciplines.proofs.Times.{times-same}
-use Rattle.pair_schedule.specs.Chip.{imageRank, serveChip, PairedSchedulers, seenOf, seenOver, SchedulersAlike}
+use Rattle.pair_schedule.specs.Chip.{imageRank, serveChip, PairedSchedulers, SchedulersAlike}
 use Rattle.pair_schedule.proofs.Ranks.{rank-alike}
 
 module _ (S T : Topo) (m : List ℕ) (E : Passes S T m) {P : Type 0} where
