@@ -4,3 +4,4 @@ pub mod Steps
 pub mod Finishes
 pub mod Times
 pub mod Requests
+pub mod Examples

@@ -18,28 +18,14 @@ use Rattle.disciplines.specs.Figure.{weighted, kindAt, virtualAt, keepsT
 use Rattle.disciplines.specs.declared.Rule.{Rule}
 use Rattle.disciplines.specs.declared.Disciplines.{Disciplines}
 
-module _ (t : Topo) (rules : List Rule) where
-  -- only ranks at nodes of the drawing matter
-  pub times-same : (f g : ℕ → Option Rank) → ((n : ℕ) → n < size t → f n ≡ g n) → (n : ℕ) (vs : List Rank)
-      → timesAfter t rules f n vs ≡ timesAfter t rules g n vs
-  times-same f g h n [] = refl
-  times-same f g h n (v ∷ vs) =
-      ap₂ (λ (x : Rank) (xs : List Rank). x ∷ xs) (by-node (ltb n (size t)) refl) (times-same f g h (suc n) vs)
-    where
-      by-node : (b : Bool) → ltb n (size t) ≡ b
-          → pick (b && eqb (kindAt rules n) weighted) (lastOf (f n) v) v ≡ pick (b && eqb (kindAt rules n) weighted) (lastOf (g n) v) v
-      by-node true e =
-          ap (λ (r : Option Rank). pick (eqb (kindAt rules n) weighted) (lastOf r v) v) (h n (ltb-true n (size t) e))
-      by-node false e = refl
-
-  -- the time at place i of the times from node n on
-  time-from : (at : ℕ → Option Rank) (n i : ℕ) (vs : List Rank) → i < length vs
-      → let v = getD vs i 0 in getD (timesAfter t rules at n vs) i 0 ≡ pick (keepsTime t rules (n + i)) (lastOf (at (n + i)) v) v
-  time-from at n i [] l = absurd (not-suc-le-zero l)
-  time-from at n zero (v ∷ vs) l = rw (add-zero n)
-  time-from at n (suc i) (v ∷ vs) l =
-      let e : suc n + i ≡ n + suc i = omega arith in
-      rw e at (time-from at (suc n) i vs (le-of-suc-le-suc l))
+-- the time at place i of the times from node n on
+time-from : (t : Topo) (rules : List Rule) (at : ℕ → Option Rank) (n i : ℕ) (vs : List Rank) → i < length vs
+    → let v = getD vs i 0 in getD (timesAfter t rules at n vs) i 0 ≡ pick (keepsTime t rules (n + i)) (lastOf (at (n + i)) v) v
+time-from t rules at n i [] l = absurd (not-suc-le-zero l)
+time-from t rules at n zero (v ∷ vs) l = rw (add-zero n)
+time-from t rules at n (suc i) (v ∷ vs) l =
+    let e : suc n + i ≡ n + suc i = omega arith in
+    rw e at (time-from t rules at (suc n) i vs (le-of-suc-le-suc l))
 
 module _ (t : Topo) (d : Disciplines) (at : ℕ → Option Rank) (n : ℕ) (l : n < length (d .«virtual_time»)) where
   time-at : virtualAt (afterPop t d at) n ≡ pick (keepsTime t (d .rules) n) (lastOf (at n) (virtualAt d n)) (virtualAt d n)
@@ -61,3 +47,16 @@ module _ (t : Topo) (d : Disciplines) (at : ℕ → Option Rank) (n : ℕ) (l : 
       by-node : (b : Bool) → pick (b && eqb (kindAt (d .rules) n) weighted) (lastOf (at n) (virtualAt d n)) (virtualAt d n) ≡ virtualAt d n
       by-node true = rw (ne-eqb (kindAt (d .rules) n) weighted w)
       by-node false = refl
+
+-- only ranks at nodes of the drawing matter
+pub times-same : (t : Topo) (rules : List Rule) (f g : ℕ → Option Rank) → ((n : ℕ) → n < size t → f n ≡ g n) → (n : ℕ) (vs : List Rank)
+    → timesAfter t rules f n vs ≡ timesAfter t rules g n vs
+times-same t rules f g h n [] = refl
+times-same t rules f g h n (v ∷ vs) =
+    ap₂ (λ (x : Rank) (xs : List Rank). x ∷ xs) (by-node (ltb n (size t)) refl) (times-same t rules f g h (suc n) vs)
+  where
+    by-node : (b : Bool) → ltb n (size t) ≡ b
+        → pick (b && eqb (kindAt rules n) weighted) (lastOf (f n) v) v ≡ pick (b && eqb (kindAt rules n) weighted) (lastOf (g n) v) v
+    by-node true e =
+        ap (λ (r : Option Rank). pick (eqb (kindAt rules n) weighted) (lastOf r v) v) (h n (ltb-true n (size t) e))
+    by-node false e = refl

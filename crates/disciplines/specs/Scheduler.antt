@@ -1,6 +1,7 @@
 -- A queue tree with disciplines: pushes by path, pushes to a leaf, pops (paper 02, 2.1). It goes by a drawing S. The machine below it is
 -- the drawing's own, or a chip's behind the carrying of paths (crate `pair_schedule`).
 use Prim.Native.Nat.{ℕ}
+use mathlib.Core.List.{List, [], _∷_}
 use mathlib.Core.Bool.{Bool, _&&_}
 use mathlib.Core.Option.{Option, none, some}
 use lib.Dec.{eqb, ltb}
@@ -9,7 +10,7 @@ use Rattle.topology.specs.Address.{addr, subtree}
 use Rattle.topology.specs.Reader.{pick}
 use Rattle.pifo.specs.Queue.{Rank, Entry, rank}
 use Rattle.pifo.specs.Way.{takes}
-use Rattle.pifo.specs.Machine.{Machine, Call, pushing, Answer, accepted, departed, refused, full, Server, serve}
+use Rattle.pifo.specs.Machine.{Machine, Call, pushing, Answer, accepted, departed, refused, full, Server, serve, counts}
 use Rattle.disciplines.specs.Figure.{kindAt, rankBy, stepsDown, finishesDown, fitsDown, withFinishes, afterPop}
 use Rattle.disciplines.specs.declared.Disciplines.{Disciplines}
 
@@ -67,3 +68,13 @@ module _ {P : Type 0} where
   -- a tree by itself: its own drawing, its own machine
   abbrev pub serveOwn : Scheduler P → Request P → Answer P × Scheduler P
   serveOwn s = serveBy (s .core .topology) serve rankAt s
+
+  -- What is seen of a scheduler: packets held, refusals counted, and what is kept for disciplines. And what is seen over a list of requests: to
+  -- each the answer, and what is seen of the scheduler after it.
+  abbrev pub seenOf : Scheduler P → (ℕ × ℕ) × Disciplines
+  seenOf s = (counts (s .core), s .disciplines)
+
+  abbrev pub seenOver : (Scheduler P → Request P → Answer P × Scheduler P) → Scheduler P → List (Request P)
+      → List (Answer P × ((ℕ × ℕ) × Disciplines))
+  seenOver server s [] = []
+  seenOver server s (r ∷ rs) = (server s r .0, seenOf (server s r .1)) ∷ seenOver server (server s r .1) rs

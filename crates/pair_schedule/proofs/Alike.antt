@@ -18,10 +18,11 @@ use Rattle.embedding_laws.specs.Rules.{Passes}
 use Rattle.simulation.specs.Sheet.{serveCarried, Paired}
 use Rattle.simulation.proofs.Simulation.{paired-opened, paired-next, answers-alike, counts-alike}
 use Rattle.disciplines.specs.Figure.{kindAt, rankBy, stepsDown, finishesDown, fitsDown, withFinishes, afterPop, fresh}
-use Rattle.disciplines.specs.Scheduler.{Scheduler, Request, calling, pushingTo, isLeaf, rankAt, with, pushedBy, calledBy, serveBy, serveOwn}
+use Rattle.disciplines.specs.Scheduler.{Scheduler, Request, calling, pushingTo, isLeaf, rankAt, with, pushedBy, calledBy, serveBy, serveOwn, seenOf, seenOver}
+use Rattle.disciplines.specs.declared.Rule.{Rule}
 use Rattle.disciplines.specs.declared.Disciplines.{Disciplines}
 use Rattle.disciplines.proofs.Times.{times-same}
-use Rattle.pair_schedule.specs.Chip.{imageRank, serveChip, PairedSchedulers, seenOf, seenOver, SchedulersAlike}
+use Rattle.pair_schedule.specs.Chip.{imageRank, serveChip, PairedSchedulers, SchedulersAlike}
 use Rattle.pair_schedule.proofs.Ranks.{rank-alike}
 
 module _ (S T : Topo) (m : List ℕ) (E : Passes S T m) {P : Type 0} where
@@ -103,6 +104,11 @@ module _ (S T : Topo) (m : List ℕ) (E : Passes S T m) {P : Type 0} where
       (subst (λ (e : Disciplines). Alike (serveBy S serve rankAt x r) (serveChip S T m (with (y .core) e) r)) (sym (h .disciplines))
       (request-alike d (x .core) (y .core) (h .cores) r))
 
+  -- both opened empty
+  pub paired-fresh : (limit : ℕ) (rules : List Rule)
+      → PairedSchedulers S T m (with (opened {P = P} S limit) (fresh rules)) (with (opened {P = P} T limit) (fresh rules))
+  paired-fresh limit rules = record { cores = paired-opened S T m E limit; disciplines = refl }
+
   seen-of : (x y : Scheduler P) → PairedSchedulers S T m x y → seenOf x ≡ seenOf y
   seen-of x y h =
       let counted = counts-alike S T m E (x .core) (y .core) (h .cores) in
@@ -122,5 +128,5 @@ pub schedulers-alike : SchedulersAlike
 schedulers-alike P S T m E limit rules requests =
     let x = with {P = P} (opened S limit) (fresh rules) in
     let y = with {P = P} (opened T limit) (fresh rules) in
-    let start : PairedSchedulers S T m x y = record { cores = paired-opened S T m E limit; disciplines = refl } in
+    let start = paired-fresh S T m E limit rules in
     record { before = seen-of S T m E x y start; every = seen-alike S T m E x y start requests }

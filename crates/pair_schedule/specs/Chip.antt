@@ -1,17 +1,16 @@
 -- The chip's tree with disciplines (paper 02, 2.1), and the promise that it is seen as the drawing's own tree is (`SchedulersAlike`).
 use mathlib.Core.Path.{_≡_}
 use Prim.Native.Nat.{ℕ}
-use mathlib.Core.List.{List, [], _∷_}
+use mathlib.Core.List.{List}
 use mathlib.Core.Option.{Option}
 use Rattle.topology.specs.Tree.{Topo}
 use Rattle.pifo.specs.Queue.{Rank}
-use Rattle.pifo.specs.Machine.{Machine, Answer, opened, counts}
+use Rattle.pifo.specs.Machine.{Machine, Answer, opened}
 use Rattle.embedding_laws.specs.Rules.{image, Passes}
 use Rattle.simulation.specs.Sheet.{serveCarried, Paired}
 use Rattle.disciplines.specs.Figure.{fresh}
-use Rattle.disciplines.specs.Scheduler.{Scheduler, Request, rankAt, with, serveBy, serveOwn}
+use Rattle.disciplines.specs.Scheduler.{Scheduler, Request, rankAt, with, serveBy, serveOwn, seenOf, seenOver}
 use Rattle.disciplines.specs.declared.Rule.{Rule}
-use Rattle.disciplines.specs.declared.Disciplines.{Disciplines}
 
 module _ {P : Type 0} where
   -- the rank that a pop of the chip's machine takes for source node n: the one at its image
@@ -27,16 +26,6 @@ module _ {P : Type 0} where
   pub record PairedSchedulers (S T : Topo) (m : List ℕ) (x y : Scheduler P) : Type 0 where
     pub cores : Paired S T m (x .core) (y .core)
     pub disciplines : y .disciplines ≡ x .disciplines
-
-  -- What is seen of a scheduler: packets held, refusals counted, and what is kept for disciplines. And what is seen over a list of requests: to
-  -- each the answer, and what is seen of the scheduler after it.
-  abbrev pub seenOf : Scheduler P → (ℕ × ℕ) × Disciplines
-  seenOf s = (counts (s .core), s .disciplines)
-
-  abbrev pub seenOver : (Scheduler P → Request P → Answer P × Scheduler P) → Scheduler P → List (Request P)
-      → List (Answer P × ((ℕ × ℕ) × Disciplines))
-  seenOver server s [] = []
-  seenOver server s (r ∷ rs) = (server s r .0, seenOf (server s r .1)) ∷ seenOver server (server s r .1) rs
 
 -- Both trees are opened empty with one limit and the same rules, and a list of requests goes to both, pushes by path, pushes to a leaf and pops in
 -- any order: the same is seen of them before the first request, and at every request and after it.
