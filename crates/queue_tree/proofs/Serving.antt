@@ -4,7 +4,7 @@ use mathlib.Core.Path.{_≡_, refl, sym, ap, _∙_, subst}
 use mathlib.Core.Logic.{_≢_}
 use Prim.Native.Nat.{ℕ, zero, suc, _≤_}
 use native.Mathlib.Omega.{arith}
-use mathlib.Core.List.{List}
+use mathlib.Core.List.{List, [], _∷_}
 use mathlib.Core.Bool.{Bool, true, false, _&&_}
 use mathlib.Core.Option.{Option, none, some}
 use lib.ListN.{length, length-take}
@@ -19,9 +19,18 @@ use Rattle.pifo.specs.Tree.{Step, pathFault, PTree, pop, held}
 use Rattle.pifo.specs.Machine.{Machine, Call, pushing, popping, Answer, accepted, departed, refused, full, room, serve, serveRoom, servePath, servePop}
 use Rattle.pifo.proofs.Order.{both}
 use Rattle.queue_state.specs.State.{Packet, bytes, treeOf, machine, wellFormed}
-use Rattle.queue_state.specs.Calls.{Serves}
+use Rattle.queue_state.specs.Calls.{answerOf, Serves}
 use Rattle.queue_state.specs.declared.State.{State}
 use Rattle.queue_state.proofs.Formed.{off, formed}
+use Rattle.queue_state.specs.declared.Answer.{Answer as CodeAnswer}
+use Rattle.queue_state.specs.declared.Answer.the-variants.{Accepted, Departed, Refused, Full}
+use Rattle.queue_state.proofs.Answer
+use denote.Enum.Declared.{tagOf}
+use types.Run.{OneOf, miss}
+use Rattle.topology.proofs.Cases.{clash}
+use Rattle.queue_counts.specs.Amounts.{amount}
+use Rattle.queue_counts.specs.declared.Amount.{Amount}
+use Rattle.queue_counts.specs.declared.Amount.the-variants.{Count, Refused as RefusedAmount}
 use Rattle.queue_push.specs.Calls.{stepsOf, pathOf}
 use Rattle.queue_push.specs.declared.Path.{Path}
 use Rattle.queue_push.proofs.Paths.{steps-path}
@@ -29,6 +38,7 @@ use Rattle.disciplines.specs.Figure.{kindAt, rankBy, stepsDown, finishesDown, f
 use Rattle.disciplines.specs.Scheduler.{Scheduler, Request, calling, pushingTo, isLeaf, rankAt, serveBy, serveOwn}
 use Rattle.disciplines.specs.declared.Disciplines.{Disciplines}
 use Rattle.queue_pop.specs.Ways.{wayOf}
+use Rattle.queue_pop.specs.declared.Way.{Way}
 use Rattle.discipline_clock.specs.Clock.{clocked, ownImages}
 use Rattle.discipline_clock.proofs.Clock.{clock-own}
 use Rattle.discipline_clock.proofs.Idle.{clock-ill, clock-idle}
@@ -174,11 +184,15 @@ module _ (t : Tree) where
               (own-after c a r d y v (rules-sound y) refl)
 
       -- a pop, which hands back its way
-      pub by-pop : length (s .frame .topology) ≡ 64 → (a : Answer Packet) (r : State) (after : Disciplines) → Serves s popping a r
-          → after ≡ clocked d (s .frame .nodes) (wayOf s) ownImages → OwnServes t (calling popping) a (treeWith r after)
+      pub by-pop : length (s .frame .topology) ≡ 64 → (a : Answer Packet) (r : State) (way : Way) (images : List ℕ) (after : Disciplines)
+          → Serves s popping a r → way ≡ wayOf s → images ≡ ownImages → after ≡ clocked d (s .frame .nodes) way images
+          → OwnServes t (calling popping) a (treeWith r after)
       unfolding machine bytes
-      by-pop long a r after v k = by-form (wellFormed s) refl
+      by-pop long a r way images after v f g h = by-form (wellFormed s) refl
         where
+          k : after ≡ clocked d (s .frame .nodes) (wayOf s) ownImages
+          k = h ∙ (λ i. clocked d (s .frame .nodes) (f i) (g i))
+
           learns : (y : wellFormed s ≡ true) (o : Option (Packet × PTree Packet)) → pop (treeOf s) ≡ o
               → after ≡ learnt S d (rankAt (machine s)) (servePop (machine s) o .0)
           learns y none e = k ∙ clock-idle s d (s .frame .nodes) ownImages y e
@@ -264,3 +278,27 @@ module _ (t : Tree) where
               by-form true w =
                   not-taken S serve rankAt ownRefusal serveOwn t (own-ok w) own-is leaf class len p (at-leaf w) a r (below w) n
                   (own-after (c w) a r d w (as-planned w) (rules-sound w) refl)
+
+-- ---- what `refused` answers
+
+module _ (s : State) (n : ℕ) (o : Amount) (e : o ≡ amount (wellFormed s) (held (treeOf s))) where
+  pub not-ill : (h : ℕ) → o ≡ Count h → Refused n ≡ Refused (pick (wellFormed s) n 18)
+  not-ill h q = by-form (wellFormed s) (sym e ∙ q)
+    where
+      by-form : (w : Bool) → amount w (held (treeOf s)) ≡ Count h → Refused n ≡ Refused (pick w n 18)
+      by-form true z = refl
+      by-form false z = absurd (clash (cc))
+
+  pub ill-answer : (k : ℕ) → o ≡ RefusedAmount k → Refused k ≡ Refused (pick (wellFormed s) n 18)
+  ill-answer k q = by-form (wellFormed s) (sym e ∙ q)
+    where
+      by-form : (w : Bool) → amount w (held (treeOf s)) ≡ RefusedAmount k → Refused k ≡ Refused (pick w n 18)
+      by-form true z = absurd (clash (cc))
+      by-form false z = cc
+
+-- an answer of another kind than accepted
+pub others-apart : (x : CodeAnswer) → OneOf (1 ∷ 2 ∷ 3 ∷ []) (tagOf Answer.the-type x) → (h : ℕ) → answerOf x ≡ accepted h → ⊥
+others-apart (Accepted k) o h e = miss (1 ∷ 2 ∷ 3 ∷ []) 0 tt o
+others-apart (Departed p) o h e = clash (cc)
+others-apart (Refused n) o h e = refused-accepted e
+others-apart (Full n k) o h e = clash (cc)

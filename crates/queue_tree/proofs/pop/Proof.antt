@@ -1,6 +1,7 @@
 -- `pop` meets its contract.
 use borrow.Author.Needs.{needs}
 use borrow.Author.Tests.{not-true, not-false}
+use Rattle.queue_tree.proofs.Arrays.{the-topology}
 use Rattle.queue_tree.proofs.Serving.{unsound, by-pop}
 use Rattle.queue_tree.proofs.pop.Statement.{statement}
 use Rattle.queue_tree.proofs.pop.Tie as tie
@@ -27,7 +28,9 @@ returns-2 : tie.Need-returns-2
 returns-2 c =
     let popped = c .before .before .before .before .before .before .pop in
     let at = c .before .before .before .before .before .before .before in
-    by-pop _ _ (at .before .are-sound .ensures) (not-false _ (at .if1 .left)) ? _ _ _ (popped .ensures .0) ?
+    by-pop _ _ (at .before .are-sound .ensures) (not-false _ (at .if1 .left))
+    (the-topology (c .before .before .before .before .before .before .before .before .before .before .before .before .before .before .args .tree) _ (c .before .before .before .before .before .before .before .before .before .before .before .before .before .before .good .0)) _ _ _ _ _ (popped .ensures .0)
+    (popped .ensures .1) (c .before .before .own-images .ensures) (c .after-pop .ensures)
 
 pub pop-spec : {M : Type 1} → statement M
 pop-spec =

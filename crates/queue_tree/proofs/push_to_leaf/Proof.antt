@@ -1,4 +1,14 @@
+-- `push_to_leaf` meets its contract, a law for each answer (proofs/Serving).
 use borrow.Author.Needs.{needs}
+use native.Mathlib.Omega.{arith}
+use mathlib.Core.Path.{refl, sym, ap}
+use lib.Seq.{length-take-le}
+use borrow.Author.Tests.{not-true, not-false}
+use Rattle.topology.specs.Reader.{tree}
+use Rattle.queue_state.specs.State.{bytes}
+use Rattle.queue_state.specs.Calls.{answerOf}
+use Rattle.queue_tree.proofs.Arrays.{the-topology}
+use Rattle.queue_tree.proofs.Serving.{unsound, not-a-leaf, leaf-late, leaf-taken, leaf-rest, others-apart}
 use Rattle.queue_tree.proofs.push_to_leaf.Statement.{statement}
 use Rattle.queue_tree.proofs.push_to_leaf.Tie as tie
 
@@ -6,13 +16,17 @@ are-sound-requires : tie.Need-are-sound-requires
 are-sound-requires c κs = search needs
 
 returns : tie.Need-returns
-returns c = ?
+returns c = unsound _ _ (c .before .are-sound .ensures) (not-true _ (c .if1 .taken)) _
 
 array-share-prefix-topology : tie.Need-array-share-prefix-topology
-array-share-prefix-topology c = ?
+array-share-prefix-topology c =
+    let few = c .before .are-sound .ensures .within (not-false _ (c .if1 .left)) in
+    omega (arith, few, the-topology (c .before .before .before .before .before .before .before .args .tree) _ (c .before .before .before .before .before .before .before .good .0))
 
 slice-aggregate-bytes : tie.Need-slice-aggregate-bytes
-slice-aggregate-bytes c = ?
+slice-aggregate-bytes c =
+    let few = c .before .before .are-sound .ensures .within (not-false _ (c .before .if1 .left)) in
+    sym (length-take-le _ _ (omega (arith, few, the-topology (c .before .before .before .before .before .before .before .before .args .tree) _ (c .before .before .before .before .before .before .before .before .good .0))))
 
 is-leaf-requires : tie.Need-is-leaf-requires
 is-leaf-requires c κs = search needs
@@ -21,7 +35,11 @@ refused-requires : tie.Need-refused-requires
 refused-requires c κs = search needs
 
 returns-2 : tie.Need-returns-2
-returns-2 c = ?
+unfolding bytes tree
+returns-2 c =
+    let at = c .before .before .before .before in
+    rw (c .refused .ensures)
+    (not-a-leaf _ _ (at .before .are-sound .ensures) (not-false _ (at .if1 .left)) _ _ _ _ _ (c .before .before .is-leaf .ensures) (not-true _ (c .before .if2 .taken)))
 
 plan-to-requires : tie.Need-plan-to-requires
 plan-to-requires c κs = search needs
@@ -33,13 +51,25 @@ enum-told : tie.Need-enum-told
 enum-told c = search needs
 
 returns-3 : tie.Need-returns-3
-returns-3 c = ?
+unfolding bytes tree
+returns-3 c =
+    let at = c .before .before .before .before .before .before .before .before .before .before .before in
+    leaf-late _ _ (at .before .are-sound .ensures) (not-false _ (at .if1 .left)) _ _ _ _ _ (c .before .before .before .before .before .before .before .before .before .is-leaf .ensures) (not-false _ (c .before .before .before .before .before .before .before .before .if2 .left)) _
+    (c .before .before .before .before .before .before .before .plan-to .ensures) _ _ (c .before .before .before .before .before .push .ensures) _ (ap answerOf (c .before .before .enum-told .given .1)) (not-true _ (c .if3 .taken))
 
 returns-4 : tie.Need-returns-4
-returns-4 c = ?
+unfolding bytes tree
+returns-4 c =
+    let at = c .before .before .before .before .before .before .before .before .before .before .before .before .before in
+    leaf-taken _ _ (at .before .are-sound .ensures) (not-false _ (at .if1 .left)) _ _ _ _ _ (c .before .before .before .before .before .before .before .before .before .before .before .is-leaf .ensures) (not-false _ (c .before .before .before .before .before .before .before .before .before .before .if2 .left)) _
+    (c .before .before .before .before .before .before .before .before .before .plan-to .ensures) _ _ (c .before .before .before .before .before .before .before .push .ensures) _ (ap answerOf (c .before .before .before .before .enum-told .given .1)) (not-false _ (c .before .before .if3 .left)) _ refl
 
 returns-5 : tie.Need-returns-5
-returns-5 c = ?
+unfolding bytes tree
+returns-5 c =
+    let at = c .before .before .before .before .before .before .before .before in
+    leaf-rest _ _ (at .before .are-sound .ensures) (not-false _ (at .if1 .left)) _ _ _ _ _ (c .before .before .before .before .before .before .is-leaf .ensures) (not-false _ (c .before .before .before .before .before .if2 .left)) _
+    (c .before .before .before .before .plan-to .ensures) _ _ (c .before .before .push .ensures) (others-apart (c .before .before .push .result .answer) (c .match .keys2))
 
 pub push-to-leaf-spec : {M : Type 1} → statement M
 push-to-leaf-spec =
