@@ -94,7 +94,7 @@ module _ (source target images : List ℕ) (s t : State) (p : Path) (h : Served 
       record {
         is =
             step-in (machine s) (stepsOf p) i r (omega (arith, count, less))
-            ∙ ap (λ (ss : List Step). (silent, serving (machine s) ss)) (sym (steps-path ss l));
+            ∙ ap (λ (f : List Step). (silent, serving (machine s) f)) (sym (steps-path ss l));
         served =
             record {
               in-step = h .in-step;
