@@ -3,7 +3,7 @@
 
 use crate::plain::PlainState;
 use crate::queue_tree::State;
-use crate::scheduler::{Disciplines, Pair, Refusal, Rule, Rules, Tree};
+use crate::scheduler::{self, Disciplines, Pair, Refusal, Rule, Rules, Tree};
 use crate::topology::{SOURCE_NODES, TARGET_NODES};
 use std::mem::offset_of;
 
@@ -115,6 +115,11 @@ impl PlainTree {
 
     pub fn read_chip(&self, source: &[u8], map: &[u8]) -> Result<Tree, Refusal> {
         Tree::on_chip(source, map, &self.state(), &self.disciplines)
+    }
+
+    /// Packets held and refusals counted of a chip's tree.
+    pub fn chip_counts(&self, source: &[u8]) -> Result<(usize, u32), Refusal> {
+        scheduler::chip_counts(source, &self.state(), &self.disciplines)
     }
 
     /// As the library gives a tree back.
