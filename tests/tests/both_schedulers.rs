@@ -9,28 +9,28 @@ use linduvar_tests::kinds::Kinds;
 use linduvar_tests::pairs::{self, damaged_map, Drawn};
 use linduvar_tests::plain::{PlainAmount, PlainPath};
 use linduvar_tests::plain_tree::{PlainPairOpened, PlainTree};
-use linduvar_tests::queue_tree::Step;
+use linduvar_tests::queue_tree::{Step, MOST_PACKETS};
 use linduvar_tests::random::{seeded, Random};
 use linduvar_tests::rattle_chip::{self, Behind};
 use linduvar_tests::rattle_tree;
 use linduvar_tests::requests::{any_push, refused, Answer, Request};
 use linduvar_tests::rules::{break_rules, keep_anything, right_rules, RULE_FAULTS};
 use linduvar_tests::scheduler::{Pair, Rule, Rules, Tree, ARRIVAL, STRICT, WEIGHTED};
-use linduvar_tests::states::{any_topology, damage, Habits, DAMAGES, LIMITS};
+use linduvar_tests::states::{any_topology, damage, dressed, Habits, DAMAGES, DRESSES, LIMITS};
 use linduvar_tests::topology::{Topology, SOURCE_NODES, TARGET_NODES};
 use std::fmt::Debug;
 
 const OPENINGS: usize = 12_000;
-const LISTS: usize = 1_200;
+const LISTS: usize = 900;
 const CALLS_A_LIST: usize = 50;
-const LONG_LISTS: usize = 8;
-const DAMAGED_CHIPS: usize = 25_000;
+const LONG_LISTS: usize = 12;
+const DAMAGED_CHIPS: usize = 20_000;
 const CHIPS_A_TREE: usize = 20;
 
 /// Each answer of each call and each occasion must be met this often, and each
 /// damage of a state.
-const OFTEN_ENOUGH: usize = 50;
-const DAMAGED_ENOUGH: usize = 15;
+const OFTEN_ENOUGH: usize = 20;
+const DAMAGED_ENOUGH: usize = 10;
 
 fn main() {
     seeded(|seed| {
@@ -162,7 +162,7 @@ fn lists(kinds: &mut Kinds, random: &mut Random) {
     for list in 0..LISTS + LONG_LISTS {
         let (limit, calls) = match list {
             0..LISTS => (random.pick(&LIMITS), CALLS_A_LIST),
-            _ => ([255, 256][list % 2], 800),
+            _ => (MOST_PACKETS, 1_000),
         };
         let (drawn, rules) = any_drawn(random);
         let mut trees = Trees::open(&drawn.source, &drawn.target, limit, &rules);
@@ -170,7 +170,7 @@ fn lists(kinds: &mut Kinds, random: &mut Random) {
             // Another map than the least does as well.
             trees = trees.behind(drawn.map.expect("a pair made from a map"));
         }
-        if random.one_in(3) {
+        if list < LISTS && random.one_in(3) {
             trees.keep_anything(random);
         }
         shared += usize::from(pairs::shares_a_node(&drawn.target, &trees.map));
@@ -237,6 +237,8 @@ impl Damaged {
             chip: trees.chip,
             faults: Vec::new(),
         };
+        let dress = random.pick(&DRESSES);
+        damaged.chip.state = dressed(&trees.rust_chip.state(), dress, random);
         let often = random.pick(&[2, 4, 8]);
         if random.one_in(2 * often) {
             damaged.source = generate::any(random);
@@ -420,6 +422,10 @@ impl Trees {
         agree(|| self.words(request), (answer, answer), rust);
         self.compare(request.name());
         kinds.meet(&format!("both, {}: {}", request.name(), answer.0));
+        if answer.0 == 15 {
+            let limit = self.rust_chip.limit();
+            kinds.meet(&format!("both full at a limit of {limit}"));
+        }
         self.count_moves(&before.1, kinds);
         if answer.0 != 0 {
             for (before, after) in [(before.0, self.source), (before.1, self.chip)] {
@@ -531,7 +537,10 @@ const ANSWERS: [(&str, &[u8]); 8] = [
 ];
 
 /// What is worth to be met besides.
-const OCCASIONS: [&str; 9] = [
+const OCCASIONS: [&str; 12] = [
+    "both full at a limit of 1",
+    "both full at a limit of 2",
+    "both full at a limit of 256",
     "open: 0",
     "open: 12",
     "open: 17",

@@ -16,7 +16,7 @@ use linduvar_tests::scheduler::{self, Disciplines, Rule, Rules, Tree, ARRIVAL, S
 use linduvar_tests::states::{
     any_path, any_topology, any_tree, damage, dressed, Habits, DAMAGES, DRESSES, LIMITS, PATHS,
 };
-use linduvar_tests::topology::{Topology, TARGET_NODES};
+use linduvar_tests::topology::{Topology, SOURCE_NODES, TARGET_NODES};
 use linduvar_tests::translator::Path;
 use linduvar_tests::worked_table;
 use std::fmt;
@@ -200,7 +200,7 @@ impl Literal {
     /// The virtual times of the first nodes, and some finishes.
     fn keeps(&self, times: &[u32], finishes: &[(usize, u32)]) {
         let kept = &self.tree.disciplines;
-        assert_eq!(kept.virtual_time[..times.len()], *times);
+        assert_eq!(kept.virtual_time[..times.len()], *times, "virtual times");
         for &(node, finish) in finishes {
             assert_eq!(kept.finish[node], finish, "the finish of {node}");
         }
@@ -600,7 +600,10 @@ const ANSWERS: [(&str, &[u8]); 6] = [
 ];
 
 /// What is worth to be met besides the kinds of paths, leaves and damages.
-const OCCASIONS: [&str; 26] = [
+const OCCASIONS: [&str; 29] = [
+    "a tree of 64 nodes",
+    "a finish moved past node 31",
+    "a virtual time moved past node 31",
     "a finish moved from the virtual time on",
     "a finish moved from the last finish on",
     "a finish moved at weight 1",
@@ -751,6 +754,9 @@ impl Comparison {
             let rose = new.virtual_time[node] > old.virtual_time[node];
             let way = if rose { "rose" } else { "fell" };
             self.kinds.meet(&format!("a virtual time {way}"));
+            if node >= SOURCE_NODES {
+                self.kinds.meet("a virtual time moved past node 31");
+            }
         }
         for &node in &finishes {
             let parent = drawing.parent(node).expect("the root has no finish");
@@ -762,11 +768,17 @@ impl Comparison {
             };
             self.kinds
                 .meet(&format!("a finish moved from the {from} on"));
+            if node >= SOURCE_NODES {
+                self.kinds.meet("a finish moved past node 31");
+            }
             match new.rules[node].weight {
                 1 => self.kinds.meet("a finish moved at weight 1"),
                 255 => self.kinds.meet("a finish moved at weight 255"),
                 _ => {}
             }
+        }
+        if bytes.len() == TARGET_NODES {
+            self.kinds.meet("a tree of 64 nodes");
         }
         match *request {
             Request::PushToLeaf { length: 0, .. } => self.kinds.meet("length 0"),
