@@ -22,6 +22,18 @@ pub fn right_rules(topology: &Topology, random: &mut Random) -> Rules {
     rules
 }
 
+/// Rules for bytes that may be a topology, and their fault if they were given
+/// one.
+pub fn any_rules(bytes: &[u8], random: &mut Random) -> (Rules, Option<&'static str>) {
+    let Ok(topology) = Topology::read(bytes, TARGET_NODES) else {
+        return ([(); TARGET_NODES].map(|()| noise(random)), None);
+    };
+    let mut rules = right_rules(&topology, random);
+    let fault = random.pick(&RULE_FAULTS);
+    let broken = random.one_in(2) && break_rules(&mut rules, &topology, fault, random).is_some();
+    (rules, broken.then_some(fault))
+}
+
 fn noise(random: &mut Random) -> Rule {
     let discipline = random.below(256) as u8;
     let weight = random.below(256) as u8;

@@ -14,7 +14,7 @@ use linduvar_tests::random::{seeded, Random};
 use linduvar_tests::rattle_chip::{self, Behind};
 use linduvar_tests::rattle_tree;
 use linduvar_tests::requests::{any_push, refused, Answer, Request};
-use linduvar_tests::rules::{break_rules, keep_anything, right_rules, RULE_FAULTS};
+use linduvar_tests::rules::{any_rules, break_rules, keep_anything, right_rules, RULE_FAULTS};
 use linduvar_tests::scheduler::{Pair, Rule, Rules, Tree, ARRIVAL, STRICT, WEIGHTED};
 use linduvar_tests::states::{any_topology, damage, dressed, Habits, DAMAGES, DRESSES, LIMITS};
 use linduvar_tests::topology::{Topology, SOURCE_NODES, TARGET_NODES};
@@ -24,8 +24,8 @@ const OPENINGS: usize = 12_000;
 const LISTS: usize = 900;
 const CALLS_A_LIST: usize = 50;
 const LONG_LISTS: usize = 12;
-const DAMAGED_CHIPS: usize = 20_000;
-const CHIPS_A_TREE: usize = 20;
+const DAMAGED_TREES: usize = 1_000;
+const DAMAGES_A_TREE: usize = 20;
 
 /// Each answer of each call and each occasion must be met this often, and each
 /// damage of a state.
@@ -118,7 +118,7 @@ fn openings(kinds: &mut Kinds, random: &mut Random) {
         }
         let any = random.within(1..=256);
         let limit = random.pick(&[0, 257, usize::MAX, any, any, any, any]);
-        let rules = any_rules(&drawn.source, random);
+        let (rules, _) = any_rules(&drawn.source, random);
         let rattle = rattle_chip::open(&drawn.source, &drawn.target, limit, &rules);
         let opened = Pair::open(&drawn.source, &drawn.target, limit, &rules);
         let rust = PlainPairOpened::write(&opened);
@@ -141,19 +141,6 @@ fn openings(kinds: &mut Kinds, random: &mut Random) {
             ask_chip(behind, &rattle.chip, &Request::Pop, kinds);
         }
     }
-}
-
-/// Rules for a source, half of them with a fault.
-fn any_rules(source: &[u8], random: &mut Random) -> Rules {
-    let Ok(drawing) = Topology::read(source, TARGET_NODES) else {
-        return [rule((WEIGHTED, 0)); TARGET_NODES];
-    };
-    let mut rules = right_rules(&drawing, random);
-    if random.one_in(2) {
-        let fault = random.pick(&RULE_FAULTS);
-        _ = break_rules(&mut rules, &drawing, fault, random);
-    }
-    rules
 }
 
 /// Lists of calls that mix both kinds of push, each call made on all four.
@@ -192,32 +179,32 @@ fn any_drawn(random: &mut Random) -> (Drawn, Rules) {
 /// Chips with any part damaged, or several at once: the source's bytes, the map,
 /// the state, the rules.
 fn damaged_chips(kinds: &mut Kinds, random: &mut Random) {
-    let mut trees = None;
-    for chip in 0..DAMAGED_CHIPS {
-        if chip % CHIPS_A_TREE == 0 {
-            let (drawn, rules) = any_drawn(random);
-            let limit = random.pick(&LIMITS);
-            let mut opened = Trees::open(&drawn.source, &drawn.target, limit, &rules);
-            opened.keep_anything(random);
-            opened.calls(random.pick(&[0, 20, 40]), kinds, random);
-            trees = Some(opened);
+    for _ in 0..DAMAGED_TREES {
+        let (drawn, rules) = any_drawn(random);
+        let limit = random.pick(&LIMITS);
+        let mut trees = Trees::open(&drawn.source, &drawn.target, limit, &rules);
+        trees.keep_anything(random);
+        trees.calls(random.pick(&[0, 20, 40]), kinds, random);
+        for _ in 0..DAMAGES_A_TREE {
+            damaged_chip(&trees, kinds, random);
         }
-        let trees = trees.as_ref().expect("opened at first");
-        let habits = Habits::any(random);
-        let request = match random.one_in(3) {
-            true => Request::Pop,
-            false => any_push(&trees.drawing, &habits, random).0,
-        };
-        let damaged = Damaged::any(trees, kinds, random);
-        let behind = Behind {
-            source: &damaged.source,
-            map: &damaged.map,
-        };
-        let (number, _) = ask_chip(behind, &damaged.chip, &request, kinds);
-        let faults = damaged.faults;
-        if faults.len() > 1 {
-            kinds.meet(&format!("{}: {number}", faults.join(", ")));
-        }
+    }
+}
+
+fn damaged_chip(trees: &Trees, kinds: &mut Kinds, random: &mut Random) {
+    let habits = Habits::any(random);
+    let request = match random.one_in(3) {
+        true => Request::Pop,
+        false => any_push(&trees.drawing, &habits, random).0,
+    };
+    let damaged = Damaged::any(trees, kinds, random);
+    let behind = Behind {
+        source: &damaged.source,
+        map: &damaged.map,
+    };
+    let (number, _) = ask_chip(behind, &damaged.chip, &request, kinds);
+    if damaged.faults.len() > 1 {
+        kinds.meet(&format!("{}: {number}", damaged.faults.join(", ")));
     }
 }
 

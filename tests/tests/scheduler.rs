@@ -11,7 +11,7 @@ use linduvar_tests::queue_tree::Step;
 use linduvar_tests::random::{seeded, Random};
 use linduvar_tests::rattle_tree;
 use linduvar_tests::requests::{any_push, length, some_leaf, Answer, Request, LEAVES};
-use linduvar_tests::rules::{break_rules, keep_anything, right_rules, RULE_FAULTS};
+use linduvar_tests::rules::{any_rules, break_rules, keep_anything, right_rules, RULE_FAULTS};
 use linduvar_tests::scheduler::{self, Disciplines, Rule, Rules, Tree, ARRIVAL, STRICT, WEIGHTED};
 use linduvar_tests::states::{
     any_path, any_topology, any_tree, damage, dressed, Habits, DAMAGES, DRESSES, LIMITS, PATHS,
@@ -355,17 +355,6 @@ fn openings(comparison: &mut Comparison) {
             _ => {}
         }
     }
-}
-
-/// Rules, and their fault if they have one.
-fn any_rules(topology: &[u8], random: &mut Random) -> (Rules, Option<&'static str>) {
-    let Ok(topology) = Topology::read(topology, TARGET_NODES) else {
-        return (rules(&[(WEIGHTED, 1)]), None);
-    };
-    let mut rules = right_rules(&topology, random);
-    let fault = random.pick(&RULE_FAULTS);
-    let broken = random.one_in(2) && break_rules(&mut rules, &topology, fault, random).is_some();
-    (rules, broken.then_some(fault))
 }
 
 /// Random lists of calls from an opening on.
