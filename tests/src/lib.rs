@@ -1,7 +1,7 @@
 //! A second implementation of the topology reader, of the search with its map
-//! check, of the queue tree, of the carrying of a path and of gatewalk, written
-//! from the paper, and what it takes to compare them with those proved in
-//! Rattle.
+//! check, of the queue tree, of the carrying of a path, of disciplines and of
+//! gatewalk, written from the papers, and what it takes to compare them with
+//! those proved in Rattle.
 
 pub mod both_trees;
 pub mod commands;

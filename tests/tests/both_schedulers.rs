@@ -20,7 +20,7 @@ use linduvar_tests::states::{any_topology, damage, dressed, Habits, DAMAGES, DRE
 use linduvar_tests::topology::{Topology, SOURCE_NODES, TARGET_NODES};
 use std::fmt::Debug;
 
-const OPENINGS: usize = 12_000;
+const OPENINGS: usize = 8_000;
 const LISTS: usize = 900;
 const CALLS_A_LIST: usize = 50;
 const LONG_LISTS: usize = 12;
@@ -30,7 +30,7 @@ const DAMAGES_A_TREE: usize = 20;
 /// Each answer of each call and each occasion must be met this often, and each
 /// damage of a state.
 const OFTEN_ENOUGH: usize = 20;
-const DAMAGED_ENOUGH: usize = 10;
+const DAMAGED_ENOUGH: usize = 5;
 
 fn main() {
     seeded(|seed| {

@@ -28,12 +28,12 @@ const OPENINGS: usize = 10_000;
 const SHORT_LISTS: usize = 1_200;
 const LONG_LISTS: usize = 20;
 const STATES: usize = 3_000;
-const ENDS: usize = 4_000;
+const ENDS: usize = 8_000;
 const DAMAGED_TREES: usize = 8_000;
 const CHURNS: usize = 1_000;
 
 /// Each answer of each call and each kind of thing must be met this often.
-const OFTEN_ENOUGH: usize = 50;
+const OFTEN_ENOUGH: usize = 30;
 
 fn main() {
     seeded(|seed| {
@@ -291,48 +291,103 @@ fn compare_history(tree: &Tree, history: &History, rules: &Rules, topology: &[u8
     }
 }
 
-/// Children that always have a packet waiting share as their weights say: over
-/// any stretch of departures two of them differ in length by weight by no more
-/// than their two largest packets.
+/// Children that always have a packet waiting share as their weights say.
 fn sharings(comparison: &mut Comparison) {
     for _ in 0..SHARINGS {
-        let random = &mut comparison.random;
-        let children = random.within(2..=8);
-        let topology = [vec![children as u8], vec![0; children]].concat();
-        let mut weights = vec![(WEIGHTED, 0)];
-        weights.extend((0..children).map(|_| (ARRIVAL, random.within(1..=9) as u8)));
-        let largest: Vec<u16> = (0..=children).map(|_| length(random).max(1)).collect();
-        let mut sides = comparison
-            .open(&topology, 256, &rules(&weights))
-            .expect("right rules");
-        for leaf in (1..=children).chain(1..=children) {
-            comparison.fill(&mut sides, leaf, largest[leaf]);
+        let sharing = Sharing::any(&mut comparison.random);
+        let departures = sharing.departures(comparison);
+        sharing.check(&departures);
+    }
+    println!("{SHARINGS} roots share as their weights say");
+}
+
+/// A weighted root with leaves, each with its weight and its longest packet.
+struct Sharing {
+    children: Vec<(u8, u16)>,
+}
+
+impl Sharing {
+    fn any(random: &mut Random) -> Sharing {
+        let count = random.within(2..=8);
+        let mut child = |_| (random.within(1..=9) as u8, length(random).max(1));
+        Sharing {
+            children: (0..count).map(&mut child).collect(),
         }
-        let mut served = vec![0_i64; children + 1];
-        // The least and the greatest lead of one child over another so far.
-        let mut leads = vec![vec![(0, 0); children + 1]; children + 1];
-        for _ in 0..100 {
-            let packet = comparison.call(&mut sides, &Request::Pop).1;
-            let leaf = (packet & 0xFF) as usize;
-            let service = |length: u32| i64::from(length) * 256 / i64::from(weights[leaf].1);
-            served[leaf] += service(packet >> 8);
-            comparison.fill(&mut sides, leaf, largest[leaf]);
-            for other in 1..=children {
-                let lead = served[leaf] - served[other];
-                let (least, most) = &mut leads[leaf][other];
-                (*least, *most) = (lead.min(*least), lead.max(*most));
-            }
+    }
+
+    fn open(&self, comparison: &mut Comparison) -> Sides {
+        let count = self.children.len();
+        let topology = [vec![count as u8], vec![0; count]].concat();
+        let mut first = vec![(WEIGHTED, 0)];
+        first.extend(self.children.iter().map(|&(weight, _)| (ARRIVAL, weight)));
+        let opened = comparison.open(&topology, 256, &rules(&first));
+        opened.expect("right rules")
+    }
+
+    /// The children from which packets departed, with the packets' lengths: two
+    /// wait at each child from the start, and for each that leaves one comes.
+    fn departures(&self, comparison: &mut Comparison) -> Vec<(usize, u16)> {
+        let mut sides = self.open(comparison);
+        for child in (0..self.children.len())
+            .cycle()
+            .take(2 * self.children.len())
+        {
+            self.fill(&mut sides, child, comparison);
         }
-        for (one, of_one) in leads.iter().enumerate().skip(1) {
-            for (other, (least, most)) in of_one.iter().enumerate().skip(1) {
-                let greatest =
-                    |child: usize| i64::from(largest[child]) * 256 / i64::from(weights[child].1);
-                let bound = greatest(one) + greatest(other);
-                assert!(one == other || most - least <= bound, "{one} and {other}");
+        (0..100)
+            .map(|_| {
+                let (_, packet) = comparison.call(&mut sides, &Request::Pop);
+                let child = (packet & 0xFF) as usize;
+                self.fill(&mut sides, child, comparison);
+                (child, (packet >> 8) as u16)
+            })
+            .collect()
+    }
+
+    /// Pushes a packet to a child; its number has its length and the child.
+    fn fill(&self, sides: &mut Sides, child: usize, comparison: &mut Comparison) {
+        let longest = usize::from(self.children[child].1);
+        let length = comparison.random.within(0..=longest) as u16;
+        let request = Request::PushToLeaf {
+            leaf: child + 1,
+            class: 0,
+            length,
+            packet: u32::from(length) << 8 | child as u32,
+        };
+        assert_eq!(comparison.call(sides, &request).0, 0);
+    }
+
+    /// What a packet adds to its child's last finish.
+    fn service(&self, child: usize, length: u16) -> i64 {
+        i64::from(length) * 256 / i64::from(self.children[child].0)
+    }
+
+    /// Over any stretch of departures one child leads another by no more than
+    /// what the longest packets of both add.
+    fn check(&self, departures: &[(usize, u16)]) {
+        let longest = |child: usize| self.service(child, self.children[child].1);
+        for one in 0..self.children.len() {
+            for other in 0..one {
+                let lead = self.greatest_lead(one, other, departures);
+                assert!(lead <= longest(one) + longest(other), "{one} and {other}");
             }
         }
     }
-    println!("{SHARINGS} roots share as their weights say");
+
+    /// The most by which one child leads the other, or the other it, over any
+    /// stretch.
+    fn greatest_lead(&self, one: usize, other: usize, departures: &[(usize, u16)]) -> i64 {
+        let (mut lead, mut least, mut most) = (0, 0, 0);
+        for &(child, length) in departures {
+            if child == one {
+                lead += self.service(child, length);
+            } else if child == other {
+                lead -= self.service(child, length);
+            }
+            (least, most) = (lead.min(least), lead.max(most));
+        }
+        most - least
+    }
 }
 
 /// Topologies, limits and rules, right and at fault.
@@ -677,19 +732,6 @@ impl Comparison {
         if self.call(sides, &request).0 == answer {
             self.kinds.meet(kind);
         }
-    }
-
-    /// Pushes a packet of some length, which it has in its number with the
-    /// leaf.
-    fn fill(&mut self, sides: &mut Sides, leaf: usize, longest: u16) {
-        let length = self.random.within(0..=usize::from(longest)) as u16;
-        let request = Request::PushToLeaf {
-            leaf,
-            class: 0,
-            length,
-            packet: u32::from(length) << 8 | leaf as u32,
-        };
-        assert_eq!(self.call(sides, &request).0, 0);
     }
 
     /// Makes one call on both sides and returns the answer.
