@@ -10,11 +10,11 @@ use crate::topology::{Topology, TARGET_NODES};
 pub fn right_rules(topology: &Topology, random: &mut Random) -> Rules {
     let habit = random.pick(&[WEIGHTED, WEIGHTED, STRICT, ARRIVAL]);
     let mut rules = [(); TARGET_NODES].map(|()| noise(random));
-    for node in 0..topology.node_count() {
+    for (node, rule) in rules.iter_mut().enumerate().take(topology.node_count()) {
         let plain = random.pick(&[ARRIVAL, STRICT]);
         let any = random.pick(&[ARRIVAL, STRICT, WEIGHTED, habit, habit]);
         let inner = topology.child_count(node) > 0;
-        rules[node].discipline = if inner { any } else { plain };
+        rule.discipline = if inner { any } else { plain };
     }
     for child in children_with_weight(topology, &rules) {
         rules[child].weight = weight(random);

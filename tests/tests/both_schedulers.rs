@@ -333,7 +333,7 @@ impl Trees {
     fn open(source: &[u8], target: &[u8], limit: usize, rules: &Rules) -> Trees {
         let opened = rattle_chip::open(source, target, limit, rules);
         let pair = Pair::open(source, target, limit, rules);
-        let pair = pair.ok().expect("a pair with a map, and right rules");
+        let pair = pair.expect("a pair with a map, and right rules");
         assert_eq!(opened.refusal, 0);
         let trees = Trees {
             drawing: source.to_vec(),
@@ -368,8 +368,8 @@ impl Trees {
             self.source.read(),
             self.chip.read_chip(&self.drawing, &self.map),
         );
-        self.rust_source = source.ok().expect("a well formed tree");
-        self.rust_chip = chip.ok().expect("a well formed tree and a right map");
+        self.rust_source = source.expect("a well formed tree");
+        self.rust_chip = chip.expect("a well formed tree and a right map");
         self.compare("another map or other numbers");
     }
 

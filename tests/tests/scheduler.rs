@@ -68,17 +68,17 @@ fn rules(first: &[(u8, u8)]) -> Rules {
 fn examples() {
     // Weights 1 and 2: the second child's packets take half as long.
     let mut tree = Literal::open(&[2, 0, 0], 5, &[(WEIGHTED, 0), (ARRIVAL, 1), (ARRIVAL, 2)]);
-    tree.to_leaf(1, 0, 10, 11, (0, 1));
+    tree.push_to_leaf(1, 0, 10, 11, (0, 1));
     tree.keeps(&[0], &[(1, 2560)]);
-    tree.to_leaf(2, 0, 10, 21, (0, 2));
-    tree.to_leaf(2, 0, 11, 22, (0, 3));
+    tree.push_to_leaf(2, 0, 10, 21, (0, 2));
+    tree.push_to_leaf(2, 0, 11, 22, (0, 3));
     tree.keeps(&[0], &[(1, 2560), (2, 1280 + 1408)]);
-    tree.to_leaf(1, 0, 10, 12, (0, 4));
-    tree.to_leaf(2, 0, 0, 23, (0, 5));
+    tree.push_to_leaf(1, 0, 10, 12, (0, 4));
+    tree.push_to_leaf(2, 0, 0, 23, (0, 5));
     // Full: nothing is kept of it. No such leaf comes before that.
-    tree.to_leaf(2, 0, 9, 24, (15, 1));
-    tree.to_leaf(0, 0, 9, 24, (25, 0));
-    tree.to_leaf(3, 0, 9, 24, (25, 0));
+    tree.push_to_leaf(2, 0, 9, 24, (15, 1));
+    tree.push_to_leaf(0, 0, 9, 24, (25, 0));
+    tree.push_to_leaf(3, 0, 9, 24, (25, 0));
     tree.keeps(&[0], &[(1, 5120), (2, 2688)]);
     for (packet, time) in [(11, 0), (21, 0), (22, 1280), (12, 2560), (23, 2688)] {
         tree.pop((0, packet));
@@ -86,26 +86,26 @@ fn examples() {
     }
     tree.pop((16, 0));
     // By path: a start past all finishes, and below; no finish is altered.
-    tree.along(&[(2, 9000)], 7, 30, (0, 1));
-    tree.along(&[(1, 4000)], 7, 31, (0, 2));
+    tree.push(&[(2, 9000)], 7, 30, (0, 1));
+    tree.push(&[(1, 4000)], 7, 31, (0, 2));
     tree.keeps(&[2688], &[(1, 5120), (2, 2688)]);
     tree.pop((0, 31));
     tree.pop((0, 30));
     tree.keeps(&[9000], &[(1, 5120), (2, 2688)]);
-    tree.to_leaf(1, 0, 1, 32, (0, 1));
+    tree.push_to_leaf(1, 0, 1, 32, (0, 1));
     tree.keeps(&[9000], &[(1, 9256), (2, 2688)]);
     // A virtual time may fall.
-    tree.along(&[(1, 5)], 7, 33, (0, 2));
+    tree.push(&[(1, 5)], 7, 33, (0, 2));
     tree.pop((0, 32));
     tree.keeps(&[5], &[(1, 9256), (2, 2688)]);
 
     // Strict goes by class, at the root and at the leaf; arrival by turn.
     let mut tree = Literal::open(&[2, 0, 0], 9, &[(STRICT, 0), (ARRIVAL, 0), (STRICT, 0)]);
-    tree.to_leaf(1, 7, 1, 1, (0, 1));
-    tree.to_leaf(1, 3, 1, 2, (0, 2));
-    tree.to_leaf(2, 5, 1, 3, (0, 3));
-    tree.to_leaf(2, 255, 1, 4, (0, 4));
-    tree.to_leaf(2, 0, 1, 5, (0, 5));
+    tree.push_to_leaf(1, 7, 1, 1, (0, 1));
+    tree.push_to_leaf(1, 3, 1, 2, (0, 2));
+    tree.push_to_leaf(2, 5, 1, 3, (0, 3));
+    tree.push_to_leaf(2, 255, 1, 4, (0, 4));
+    tree.push_to_leaf(2, 0, 1, 5, (0, 5));
     for packet in [5, 1, 3, 2, 4] {
         tree.pop((0, packet));
     }
@@ -115,10 +115,10 @@ fn examples() {
     // read before a finish is written.
     let nested = [(WEIGHTED, 0), (WEIGHTED, 1), (STRICT, 255), (STRICT, 2)];
     let mut tree = Literal::open(&[1, 2, 0, 0], 4, &nested);
-    tree.to_leaf(2, 1, 255, 1, (0, 1));
-    tree.to_leaf(3, 1, 255, 2, (0, 2));
+    tree.push_to_leaf(2, 1, 255, 1, (0, 1));
+    tree.push_to_leaf(3, 1, 255, 2, (0, 2));
     tree.keeps(&[0, 0], &[(1, 2 * 65_280), (2, 256), (3, 32_640)]);
-    tree.to_leaf(2, 1, 255, 3, (0, 3));
+    tree.push_to_leaf(2, 1, 255, 3, (0, 3));
     tree.keeps(&[0, 0], &[(1, 3 * 65_280), (2, 512), (3, 32_640)]);
     for (packet, above, below) in [(1, 0, 0), (2, 65_280, 0), (3, 130_560, 256)] {
         tree.pop((0, packet));
@@ -128,14 +128,14 @@ fn examples() {
     // The largest finish, and one above it; a full tree comes first.
     let mut tree = Literal::open(&[1, 0], 2, &[(WEIGHTED, 0), (ARRIVAL, 1)]);
     tree.tree.disciplines.finish[1] = u32::MAX - 255;
-    tree.to_leaf(1, 0, 1, 1, (23, 0));
+    tree.push_to_leaf(1, 0, 1, 1, (23, 0));
     tree.keeps(&[0], &[(1, u32::MAX - 255)]);
     tree.tree.disciplines.finish[1] = u32::MAX - 256;
-    tree.to_leaf(1, 0, 1, 1, (0, 1));
+    tree.push_to_leaf(1, 0, 1, 1, (0, 1));
     tree.keeps(&[0], &[(1, u32::MAX)]);
-    tree.to_leaf(1, 0, 1, 2, (23, 0));
-    tree.to_leaf(1, 0, 0, 2, (0, 2));
-    tree.to_leaf(1, 0, 1, 3, (15, 1));
+    tree.push_to_leaf(1, 0, 1, 2, (23, 0));
+    tree.push_to_leaf(1, 0, 0, 2, (0, 2));
+    tree.push_to_leaf(1, 0, 1, 3, (15, 1));
     tree.pop((0, 1));
     tree.pop((0, 2));
     tree.keeps(&[u32::MAX], &[(1, u32::MAX)]);
@@ -143,10 +143,10 @@ fn examples() {
     // The greatest service: 65,535 at weight 1, from a time by path.
     let mut tree = Literal::open(&[1, 0], 1, &[(WEIGHTED, 0), (ARRIVAL, 1)]);
     for (over, answer) in [(0, (0, 1)), (1, (23, 0))] {
-        tree.along(&[(1, u32::MAX - 65_535 * 256 + over)], 0, 1, (0, 1));
+        tree.push(&[(1, u32::MAX - 65_535 * 256 + over)], 0, 1, (0, 1));
         tree.pop((0, 1));
         tree.tree.disciplines.finish[1] = 7;
-        tree.to_leaf(1, 0, u16::MAX, 2, answer);
+        tree.push_to_leaf(1, 0, u16::MAX, 2, answer);
         if answer.0 == 0 {
             tree.pop((0, 2));
         }
@@ -166,7 +166,7 @@ impl Literal {
         Literal { tree: opened.tree }
     }
 
-    fn to_leaf(&mut self, leaf: usize, class: u8, length: u16, packet: u32, answer: Answer) {
+    fn push_to_leaf(&mut self, leaf: usize, class: u8, length: u16, packet: u32, answer: Answer) {
         self.answers(
             &Request::PushToLeaf {
                 leaf,
@@ -178,7 +178,7 @@ impl Literal {
         );
     }
 
-    fn along(&mut self, steps: &[(u8, u32)], leaf_rank: u32, packet: u32, answer: Answer) {
+    fn push(&mut self, steps: &[(u8, u32)], leaf_rank: u32, packet: u32, answer: Answer) {
         let steps: Vec<Step> = steps
             .iter()
             .map(|&(child, rank)| Step { child, rank })
@@ -213,7 +213,7 @@ fn table() {
     let shares = [(WEIGHTED, 0), (ARRIVAL, 1), (ARRIVAL, 3)];
     let mut tree = Literal::open(&[2, 0, 0], rows.len(), &shares);
     for (row, held) in rows.iter().zip(1..) {
-        tree.to_leaf(row.leaf, 0, row.length, row.packet, (0, held));
+        tree.push_to_leaf(row.leaf, 0, row.length, row.packet, (0, held));
         tree.keeps(&[0], &[(row.leaf, row.finish)]);
     }
     let mut leaving = rows.clone();
@@ -244,11 +244,8 @@ fn histories(seed: u64) {
                 false => any_push(&topology, &habits, &mut random).0,
             };
             let looked_up = by_history(&request, &mut history);
-            assert_eq!(
-                request.by_rust(&mut tree),
-                looked_up,
-                "{request:?}, seed {seed}"
-            );
+            let answer = request.by_rust(&mut tree);
+            assert_eq!(answer, looked_up, "{request:?}");
             compare_history(&tree, &history, &rules, &topology);
         }
     }
@@ -279,12 +276,10 @@ fn compare_history(tree: &Tree, history: &History, rules: &Rules, topology: &[u8
     assert_eq!(tree.held(), history.held());
     assert_eq!(tree.refusals(), history.refusals());
     let kept = tree.disciplines();
-    for node in 0..topology.len() {
-        let weighted = rules[node].discipline == WEIGHTED;
-        let time = if weighted {
-            history.virtual_time(node)
-        } else {
-            0
+    for (node, rule) in rules.iter().enumerate().take(topology.len()) {
+        let time = match rule.discipline {
+            WEIGHTED => history.virtual_time(node),
+            _ => 0,
         };
         assert_eq!(u64::from(kept.virtual_time[node]), time);
         assert_eq!(u64::from(kept.finish[node]), history.finish(node));
@@ -620,7 +615,7 @@ struct Sides {
 impl Sides {
     /// The tree is well formed.
     fn read(plain: PlainTree) -> Sides {
-        let tree = plain.read().ok().expect("a well formed tree");
+        let tree = plain.read().expect("a well formed tree");
         Sides { plain, tree }
     }
 }

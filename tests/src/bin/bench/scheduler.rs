@@ -99,9 +99,8 @@ impl Weighted {
         {
             rule.discipline = WEIGHTED;
         }
-        let mut tree = Tree::open(&topology, MOST_PACKETS, &rules)
-            .ok()
-            .expect("a valid tree and right rules");
+        let mut tree =
+            Tree::open(&topology, MOST_PACKETS, &rules).expect("a valid tree and right rules");
         for packet in 0..packets {
             let leaf = (packet % CHAINS + 1) * depth;
             let held = tree.push_to_leaf(leaf, 0, LENGTH, packet as u32);
