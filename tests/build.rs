@@ -3,12 +3,14 @@
 use std::path::Path;
 use std::{env, fs};
 
-const CRATES: [&str; 6] = [
+const CRATES: [&str; 8] = [
     "exports_topology",
     "exports_embedding",
     "exports_translator",
     "exports_queue_state",
     "exports_queue_tree",
+    "exports_tree",
+    "exports_chip",
     "exports_bench",
 ];
 

@@ -51,6 +51,7 @@ pub fn search(source: &[u8], target: &[u8]) -> (u8, [u8; SOURCE_NODES]) {
 }
 
 /// A source and a target, both valid.
+#[derive(Clone)]
 pub struct Pair {
     pub source: Topology,
     pub target: Topology,

@@ -1,7 +1,7 @@
 //! A second implementation of the topology reader, of the search with its map
-//! check, of the queue tree, of the carrying of a path and of gatewalk, written
-//! from the paper, and what it takes to compare them with those proved in
-//! Rattle.
+//! check, of the queue tree, of the carrying of a path, of disciplines and of
+//! gatewalk, written from the papers, and what it takes to compare them with
+//! those proved in Rattle.
 
 pub mod both_trees;
 pub mod commands;
@@ -9,20 +9,29 @@ pub mod drawing;
 pub mod embedding;
 pub mod gatewalk;
 pub mod generate;
+pub mod history;
+pub mod kinds;
 pub mod laborious;
 pub mod pairs;
 pub mod paper;
 pub mod plain;
+pub mod plain_tree;
 pub mod queue_tree;
 pub mod random;
 pub mod rattle;
+pub mod rattle_chip;
 pub mod rattle_embedding;
 pub mod rattle_queue_tree;
 pub mod rattle_translator;
+pub mod rattle_tree;
 pub mod reached;
+pub mod requests;
+pub mod rules;
 pub mod samples;
+pub mod scheduler;
 pub mod script;
 pub mod scripts;
 pub mod states;
 pub mod topology;
 pub mod translator;
+pub mod worked_table;

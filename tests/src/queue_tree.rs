@@ -166,8 +166,7 @@ impl QueueTree {
         if !node.children.is_empty() {
             return Err(Refusal::EndsAboveLeaf);
         }
-        // The root has an entry for each packet held.
-        if self.root.queue.len() == self.limit {
+        if self.is_full() {
             self.refused = self.refused.saturating_add(1);
             return Err(Refusal::Full(self.refused));
         }
@@ -182,6 +181,11 @@ impl QueueTree {
         let mut way = Vec::new();
         let packet = self.root.pop(&mut way);
         Ok(Departure { packet, way })
+    }
+
+    /// The root has an entry for each packet held.
+    pub fn is_full(&self) -> bool {
+        self.root.queue.len() == self.limit
     }
 
     pub fn topology(&self) -> &[u8] {

@@ -17,12 +17,14 @@ pub enum Refusal {
     NoSuchNode = 19,
 }
 
+#[derive(Clone)]
 struct Node {
     parent: Option<usize>,
     children: Vec<usize>,
 }
 
 /// A tree; its nodes stand in preorder, so a node's index is its number.
+#[derive(Clone)]
 pub struct Topology {
     nodes: Vec<Node>,
 }

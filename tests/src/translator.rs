@@ -18,6 +18,7 @@ pub fn carry(source: &[u8], target: &[u8], map: &[u8], path: &Path) -> Result<Pa
 }
 
 /// A pair of trees, and a map between them that meets the rules.
+#[derive(Clone)]
 pub struct Translator {
     pair: Pair,
     map: Vec<usize>,
@@ -46,6 +47,11 @@ impl Translator {
         let leaf_rank = path.leaf_rank;
         Ok(Path { steps, leaf_rank })
     }
+
+    /// The source node whose image that is, if it is one.
+    pub fn drawn(&self, image: usize) -> Option<usize> {
+        self.map.iter().position(|&other| other == image)
+    }
 }
 
 /// The nodes that a path names from the root on, the last one a leaf.
@@ -65,7 +71,7 @@ fn nodes_on(topology: &Topology, steps: &[Step]) -> Result<Vec<usize>, Refusal> 
 }
 
 /// The child numbers that lead from one node down to another below it.
-fn way_down(topology: &Topology, from: usize, to: usize) -> Vec<u8> {
+pub fn way_down(topology: &Topology, from: usize, to: usize) -> Vec<u8> {
     let mut numbers = Vec::new();
     let mut node = to;
     while node != from {

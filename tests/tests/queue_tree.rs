@@ -3,6 +3,7 @@
 //! difference ends the run.
 
 use linduvar_tests::generate;
+use linduvar_tests::kinds::Kinds;
 use linduvar_tests::plain::{
     PlainAmount, PlainAnswer, PlainPath, PlainPopped, PlainState, PlainWay,
 };
@@ -14,7 +15,6 @@ use linduvar_tests::rattle_queue_tree;
 use linduvar_tests::states::{
     any_path, any_topology, any_tree, damage, dressed, Habits, DAMAGES, DRESSES, LIMITS, PATHS,
 };
-use std::collections::BTreeMap;
 use std::fmt;
 
 const OPENINGS: usize = 10_000;
@@ -374,27 +374,6 @@ impl fmt::Debug for Earlier<'_> {
     }
 }
 
-/// How often each of some things was met, by name.
-#[derive(Default)]
-struct Kinds {
-    met: BTreeMap<String, usize>,
-}
-
-impl Kinds {
-    fn meet(&mut self, kind: &str) {
-        match self.met.get_mut(kind) {
-            Some(times) => *times += 1,
-            None => {
-                self.met.insert(kind.to_string(), 1);
-            }
-        }
-    }
-
-    fn times(&self, kind: &str) -> usize {
-        self.met.get(kind).copied().unwrap_or(0)
-    }
-}
-
 /// Makes the calls on both sides, and counts what was met.
 struct Comparison {
     seed: u64,
@@ -640,9 +619,7 @@ impl Comparison {
         println!("{} calls; how many met each answer:", self.calls);
         println!("  {}", line.trim_end());
         println!("how often each kind of path, state, damage and occasion was met:");
-        for (kind, times) in &self.kinds.met {
-            println!("  {times:6}  {kind}");
-        }
+        self.kinds.print();
     }
 
     fn require_everything(&self) {
@@ -653,8 +630,7 @@ impl Comparison {
         let paths = PATHS.iter().map(|(kind, _)| kind);
         let states = DRESSES.iter().chain(&DAMAGES);
         for kind in paths.chain(states).chain(&OCCASIONS) {
-            let met = self.kinds.times(kind);
-            assert!(met >= OFTEN_ENOUGH, "{kind}: only {met} times");
+            self.kinds.require(kind, OFTEN_ENOUGH);
         }
     }
 }

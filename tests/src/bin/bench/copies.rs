@@ -7,6 +7,7 @@
 //! moves entries one by one is not counted.
 
 use crate::queue_tree::{Filled, STATE};
+use crate::scheduler::Weighted;
 use linduvar_tests::commands::{opening, push, step, POP};
 use linduvar_tests::queue_tree::MOST_PACKETS;
 use linduvar_tests::random::Random;
@@ -25,28 +26,36 @@ pub fn run() {
     commands(&library);
 }
 
-/// A pop and a push of the queue tree, in a process that runs `churn` alone.
+/// A pop and a push of the queue tree alone, or with disciplines and to a leaf
+/// or by path, in a process that runs `churn` alone.
 fn rounds(library: &Path) {
-    for (depth, packets) in [(1, 1), (8, MOST_PACKETS)] {
-        report(
-            &format!("pop and push, depth {depth}, {packets:3} held"),
-            |rounds| {
-                let arguments = [depth, packets, rounds].map(|number| number.to_string());
-                let mut program = Command::new(this_program());
-                count(program.args(arguments), &[], library).0
-            },
-        );
+    for push in ["push", "push to a leaf", "push by path"] {
+        for (depth, packets) in [(1, 1), (8, MOST_PACKETS)] {
+            report(
+                &format!("pop and {push}, depth {depth}, {packets:3} held"),
+                |rounds| {
+                    let arguments = [depth, packets, rounds].map(|number| number.to_string());
+                    let mut program = Command::new(this_program());
+                    count(program.arg(push).args(arguments), &[], library).0
+                },
+            );
+        }
     }
 }
 
 /// The churn that the arguments of such a process ask for.
 pub fn churn(arguments: &[String]) {
-    let number = |text: &String| text.parse().expect("a number");
-    let numbers: Vec<usize> = arguments.iter().map(number).collect();
-    let [depth, packets, rounds] = numbers[..] else {
-        panic!("a depth, the packets held and the rounds, or nothing at all");
+    let [push, depth, packets, rounds] = arguments else {
+        panic!("a push, a depth, the packets held and the rounds, or nothing at all");
     };
-    Filled::new(depth, packets, &mut Random::new(1)).churn(rounds as u32);
+    let number = |text: &String| -> usize { text.parse().expect("a number") };
+    let (depth, packets, rounds) = (number(depth), number(packets), number(rounds) as u32);
+    match push.as_str() {
+        "push" => _ = Filled::new(depth, packets, &mut Random::new(1)).churn(rounds),
+        "push to a leaf" => _ = Weighted::new(depth, packets).churn(rounds),
+        "push by path" => _ = Weighted::new(depth, packets).path_churn(rounds),
+        _ => panic!("no such push: {push}"),
+    }
 }
 
 /// The commands of a script over two trees of one node.
@@ -97,7 +106,7 @@ fn report(what: &str, count: impl Fn(usize) -> Copies) {
     let each = |once: usize, twice: usize| (twice - once) as f64 / CALLS as f64;
     let bytes = each(once.bytes, twice.bytes);
     println!(
-        "{what:36} {:6.2} copies, {bytes:7.0} bytes, {:6.2} states",
+        "{what:41} {:6.2} copies, {bytes:7.0} bytes, {:6.2} states",
         each(once.number, twice.number),
         bytes / STATE as f64
     );

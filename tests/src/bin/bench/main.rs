@@ -3,6 +3,7 @@
 mod copies;
 mod embedding;
 mod queue_tree;
+mod scheduler;
 mod stack;
 mod topology;
 mod translator;
@@ -24,6 +25,7 @@ fn main() {
     topology::run(&mut random);
     embedding::run(&mut random);
     queue_tree::run(&mut random);
+    scheduler::run();
     translator::run(&mut random);
     stack::run(&mut random);
     copies::run();

@@ -13,8 +13,8 @@ use std::hint::black_box;
 
 const CHAINS: usize = 4;
 /// Few enough to be done before another process has its turn.
-const CALLS: u32 = 100;
-const ROUNDS: usize = 400;
+pub const CALLS: u32 = 100;
+pub const ROUNDS: usize = 400;
 const SINGLES: usize = 2_000;
 /// The bytes of a Rattle state, which are as many as those of its plain form.
 pub const STATE: usize = size_of::<PlainState>();
@@ -124,12 +124,12 @@ fn copy() -> f64 {
 }
 
 /// Nanoseconds that one call takes.
-fn single(call: impl FnMut()) -> f64 {
+pub fn single(call: impl FnMut()) -> f64 {
     crate::best_of(SINGLES, call)
 }
 
 /// Nanoseconds per round; what a run without rounds takes is not counted.
-fn time(run: impl Fn(u32)) -> f64 {
+pub fn time(run: impl Fn(u32)) -> f64 {
     let all = crate::best_of(ROUNDS, || run(CALLS));
     let start = crate::best_of(ROUNDS, || run(0));
     (all - start) / f64::from(CALLS)

@@ -7,12 +7,16 @@
 //! and the Rust function that makes a call safe takes some.
 
 use crate::queue_tree::Filled;
+use crate::scheduler::Weighted;
 use linduvar_tests::plain::PlainPath;
 use linduvar_tests::queue_tree::{Step, MOST_PACKETS};
 use linduvar_tests::random::Random;
+use linduvar_tests::rattle_chip::Behind;
+use linduvar_tests::scheduler::{Rule, STRICT};
 use linduvar_tests::topology::{MOST_STEPS_DOWN, SOURCE_NODES, TARGET_NODES};
 use linduvar_tests::{embedding, laborious};
 use linduvar_tests::{rattle, rattle_embedding, rattle_queue_tree, rattle_translator};
+use linduvar_tests::{rattle_chip, rattle_tree};
 use std::hint::black_box;
 use std::thread;
 
@@ -43,6 +47,47 @@ pub fn run(random: &mut Random) {
     report("push", &|| filled.push());
     report("pop", &|| filled.pop());
     report("churn", &|| filled.churn(2));
+    trees();
+    chips(&source, &target, map);
+}
+
+/// The calls on a tree with disciplines.
+fn trees() {
+    let weighted = Weighted::new(MOST_STEPS_DOWN, MOST_PACKETS);
+    let tree = &weighted.plain;
+    let (topology, rules) = (&tree.state.frame.topology, &tree.disciplines.rules);
+    let topology = &topology[..tree.state.frame.nodes];
+    report("tree_open", &|| {
+        rattle_tree::open(topology, MOST_PACKETS, rules)
+    });
+    report("tree_held", &|| rattle_tree::held(tree));
+    report("tree_push", &|| weighted.push());
+    report("tree_push_to_leaf", &|| weighted.push_to_leaf());
+    report("tree_pop", &|| weighted.pop());
+}
+
+/// The calls on a chip's tree behind a map.
+fn chips(source: &[u8], target: &[u8], map: &[u8]) {
+    let rule = Rule {
+        discipline: STRICT,
+        weight: 1,
+    };
+    let rules = &[rule; TARGET_NODES];
+    let chip = rattle_chip::open(source, target, MOST_PACKETS, rules).chip;
+    let behind = Behind { source, map };
+    let leaf = source.len() - 1;
+    let pushed = behind.push_to_leaf(&chip, leaf, 1, 1, 1);
+    assert_eq!((pushed.number, pushed.value), (0, 1));
+    let path = PlainPath::write(&[Step { child: 1, rank: 1 }; 2], 1);
+    report("pair_open", &|| {
+        rattle_chip::open(source, target, MOST_PACKETS, rules)
+    });
+    report("chip_held", &|| behind.held(&pushed.tree));
+    report("chip_push", &|| behind.push(&pushed.tree, &path, 1));
+    report("chip_push_to_leaf", &|| {
+        behind.push_to_leaf(&pushed.tree, leaf, 1, 1, 1)
+    });
+    report("chip_pop", &|| behind.pop(&pushed.tree));
 }
 
 fn report<T>(name: &str, call: &(dyn Fn() -> T + Sync)) {

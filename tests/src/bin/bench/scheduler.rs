@@ -1,0 +1,151 @@
+//! A tree with disciplines: a pop and a push in turn, to a leaf and by path, and
+//! one push of each kind alone.
+//!
+//! All inner nodes are weighted. A push by path has the largest ranks, so that
+//! its entries go behind all others, as those of a push to a leaf do; then the
+//! two differ by what the disciplines take.
+
+use crate::queue_tree::{single, time, CALLS, ROUNDS};
+use linduvar_tests::plain::PlainPath;
+use linduvar_tests::plain_tree::{PlainTree, PlainTreeAnswer};
+use linduvar_tests::queue_tree::{Step, MOST_PACKETS};
+use linduvar_tests::rattle_tree;
+use linduvar_tests::scheduler::{self, Rule, Tree, ARRIVAL, WEIGHTED};
+use linduvar_tests::topology::TARGET_NODES;
+use linduvar_tests::translator::Path;
+use std::hint::black_box;
+
+const CHAINS: usize = 4;
+const LENGTH: u16 = 300;
+
+pub fn run() {
+    println!("with disciplines, a pop and a push, the best of {ROUNDS} rounds of {CALLS}:");
+    for depth in [1, 4, 8] {
+        for packets in [1, 32, MOST_PACKETS] {
+            let weighted = Weighted::new(depth, packets);
+            println!("depth {depth}, {packets:3} held");
+            let to_leaf = rounds("to a leaf", &weighted, Weighted::churn, |tree, calls| {
+                scheduler::churn(tree, weighted.leaf, 0, LENGTH, calls);
+            });
+            let by_path = rounds("by path", &weighted, Weighted::path_churn, |tree, calls| {
+                scheduler::path_churn(tree, &weighted.path, calls);
+            });
+            println!("  to a leaf over by path    {:.2}", to_leaf / by_path);
+            singles(&weighted);
+        }
+    }
+}
+
+/// Rounds of a pop and a push on both sides. Nanoseconds that one takes in
+/// Rattle.
+fn rounds(
+    name: &str,
+    weighted: &Weighted,
+    rattle: impl Fn(&Weighted, u32) -> PlainTree,
+    rust: impl Fn(&mut Tree, u32),
+) -> f64 {
+    let in_rust = |calls: u32| {
+        let mut tree = black_box(&weighted.tree).clone();
+        rust(&mut tree, calls);
+        tree
+    };
+    let (churned, expected) = (rattle(weighted, CALLS), in_rust(CALLS));
+    assert_eq!(churned.state.read(), Some(expected.state()));
+    assert_eq!(churned.disciplines, expected.disciplines());
+    let by_rattle = time(|calls| _ = black_box(rattle(weighted, calls)));
+    let by_rust = time(|calls| _ = black_box(in_rust(calls)));
+    println!(
+        "  {name:22} Rattle {by_rattle:11.1}   Rust {by_rust:11.1} ({:.2})",
+        by_rattle / by_rust
+    );
+    by_rattle
+}
+
+/// One push of each kind in Rattle, less the crossing.
+fn singles(weighted: &Weighted) {
+    let crossing = single(|| _ = black_box(weighted.churn(0)));
+    let to_leaf = single(|| _ = black_box(weighted.push_to_leaf())) - crossing;
+    let by_path = single(|| _ = black_box(weighted.push())) - crossing;
+    println!(
+        "  one push: to a leaf {to_leaf:.1}, by path {by_path:.1} ({:.2}), crossing {crossing:.1}",
+        to_leaf / by_path
+    );
+}
+
+/// A tree of some chains that holds packets, its last leaf and the path there,
+/// and what crosses the boundary to Rattle.
+pub struct Weighted {
+    tree: Tree,
+    leaf: usize,
+    path: Path,
+    pub plain: PlainTree,
+    /// The same with one packet less.
+    less: PlainTree,
+    plain_path: PlainPath,
+}
+
+impl Weighted {
+    pub fn new(depth: usize, packets: usize) -> Weighted {
+        let chain = [vec![1; depth - 1], vec![0]].concat();
+        let topology = [vec![CHAINS as u8], chain.repeat(CHAINS)].concat();
+        let mut rules = [Rule {
+            discipline: ARRIVAL,
+            weight: 3,
+        }; TARGET_NODES];
+        for (rule, _) in rules
+            .iter_mut()
+            .zip(&topology)
+            .filter(|(_, &byte)| byte > 0)
+        {
+            rule.discipline = WEIGHTED;
+        }
+        let mut tree =
+            Tree::open(&topology, MOST_PACKETS, &rules).expect("a valid tree and right rules");
+        for packet in 0..packets {
+            let leaf = (packet % CHAINS + 1) * depth;
+            let held = tree.push_to_leaf(leaf, 0, LENGTH, packet as u32);
+            assert_eq!(held, Ok(packet + 1));
+        }
+        let mut less = tree.clone();
+        less.pop().expect("a packet is held");
+        let step = |at: usize| Step {
+            child: if at == 0 { CHAINS } else { 1 } as u8,
+            rank: u32::MAX,
+        };
+        let steps: Vec<Step> = (0..depth).map(step).collect();
+        Weighted {
+            plain: PlainTree::write(&tree),
+            less: PlainTree::write(&less),
+            plain_path: PlainPath::write(&steps, 0),
+            tree,
+            leaf: CHAINS * depth,
+            path: Path {
+                steps,
+                leaf_rank: 0,
+            },
+        }
+    }
+
+    pub fn churn(&self, rounds: u32) -> PlainTree {
+        rattle_tree::churn(black_box(&self.plain), self.leaf, 0, LENGTH, rounds)
+    }
+
+    pub fn path_churn(&self, rounds: u32) -> PlainTree {
+        rattle_tree::path_churn(black_box(&self.plain), &self.plain_path, rounds)
+    }
+
+    /// A push to a leaf that is accepted.
+    pub fn push_to_leaf(&self) -> PlainTreeAnswer {
+        rattle_tree::push_to_leaf(black_box(&self.less), self.leaf, 0, LENGTH, 0)
+    }
+
+    /// A push by path that is accepted.
+    pub fn push(&self) -> PlainTreeAnswer {
+        rattle_tree::push(black_box(&self.less), &self.plain_path, 0)
+    }
+
+    /// A pop that departs.
+    pub fn pop(&self) -> PlainTreeAnswer {
+        rattle_tree::pop(black_box(&self.plain))
+    }
+}

@@ -1,0 +1,31 @@
+//! Counts what a comparison has met, by name.
+
+use std::collections::BTreeMap;
+
+#[derive(Default)]
+pub struct Kinds {
+    met: BTreeMap<String, usize>,
+}
+
+impl Kinds {
+    pub fn meet(&mut self, kind: &str) {
+        match self.met.get_mut(kind) {
+            Some(times) => *times += 1,
+            None => {
+                self.met.insert(kind.to_string(), 1);
+            }
+        }
+    }
+
+    pub fn print(&self) {
+        for (kind, times) in &self.met {
+            println!("  {times:6}  {kind}");
+        }
+    }
+
+    /// Fails if something was met less often.
+    pub fn require(&self, kind: &str, often_enough: usize) {
+        let met = self.met.get(kind).copied().unwrap_or(0);
+        assert!(met >= often_enough, "{kind}: only {met} times");
+    }
+}
