@@ -1,0 +1,19 @@
+-- What the opening of a chip's tree for a drawing answers: `openedChip`, for every source, target, limit and rules. It goes by no map.
+use Prim.Native.Nat.{ℕ}
+use mathlib.Core.List.{List}
+use Rattle.topology.specs.Reader.{orElse, fault, tree}
+use Rattle.queue_state.specs.Opening.{openFault, openedState}
+use Rattle.disciplines.specs.Figure.{ruleFault}
+use Rattle.disciplines.specs.declared.Rule.{Rule}
+use Rattle.queue_tree.specs.Opening.{openedBy}
+use Rattle.queue_tree.specs.declared.TreeOpened.{TreeOpened}
+
+-- The number by which it is refused: 1 to 5 of the drawing, 1 to 5 of the target, 17, then 24 by the drawing.
+unfoldable pub chipFault : List ℕ → List ℕ → ℕ → List Rule → ℕ
+chipFault source target limit rules =
+    let judged = ruleFault (tree source) rules in
+    let second = orElse (openFault target limit) judged in
+    orElse (fault 32 source) second
+
+unfoldable pub openedChip : List ℕ → List ℕ → ℕ → List Rule → TreeOpened
+openedChip source target limit rules = openedBy (chipFault source target limit rules) (openedState target limit .state) rules
