@@ -114,8 +114,8 @@ fn are_sound(topology: [u8; 64], nodes: usize, rules: [Rule; 64]) -> bool
     fault(&topology[..nodes], rules) == 0
 }
 
-// A refusal by a number that comes after 18.
-fn refused(state: State, number: u8) -> Answer
+// A refusal by a number that comes after 18: the number, or 18 where the state is not well formed.
+pub fn refused(state: State, number: u8) -> Answer
     ensures { λ r. ⌜ r ≡ Refused (pick (wellFormed state) number 18) ⌝ }
 {
     match queue_counts::held(state) {

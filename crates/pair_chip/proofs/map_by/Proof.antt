@@ -1,0 +1,12 @@
+use borrow.Author.Needs.{needs}
+use Rattle.pair_chip.proofs.map_by.Statement.{statement}
+use Rattle.pair_chip.proofs.map_by.Tie as tie
+
+returns : tie.Need-returns
+returns c = ?
+
+returns-2 : tie.Need-returns-2
+returns-2 c = search needs
+
+pub map-by-spec : {M : Type 1} → statement M
+map-by-spec = tie.close (tie.spec returns returns-2)

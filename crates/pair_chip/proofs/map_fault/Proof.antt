@@ -1,0 +1,21 @@
+use borrow.Author.Needs.{needs}
+use Rattle.pair_chip.proofs.map_fault.Statement.{statement}
+use Rattle.pair_chip.proofs.map_fault.Tie as tie
+
+check-requires : tie.Need-check-requires
+check-requires c κs = search needs
+
+enum-told : tie.Need-enum-told
+enum-told c = search needs
+
+enum-known-number : tie.Need-enum-known-number
+enum-known-number c = search needs
+
+returns : tie.Need-returns
+returns c = ?
+
+returns-2 : tie.Need-returns-2
+returns-2 c = ?
+
+pub map-fault-spec : {M : Type 1} → statement M
+map-fault-spec = tie.close (tie.spec check-requires enum-told enum-known-number returns returns-2)

@@ -1,0 +1,18 @@
+use borrow.Author.Needs.{needs}
+use Rattle.pair_chip.proofs.open.Statement.{statement}
+use Rattle.pair_chip.proofs.open.Tie as tie
+
+refusal-requires : tie.Need-refusal-requires
+refusal-requires c κs = search needs
+
+open-requires : tie.Need-open-requires
+open-requires c κs = search needs
+
+opened-requires : tie.Need-opened-requires
+opened-requires c κs = search needs
+
+returns : tie.Need-returns
+returns c = ?
+
+pub open-spec : {M : Type 1} → statement M
+open-spec = tie.close (tie.spec refusal-requires open-requires opened-requires returns)

@@ -1,0 +1,36 @@
+use borrow.Author.Needs.{needs}
+use Rattle.pair_chip.proofs.open_both.Statement.{statement}
+use Rattle.pair_chip.proofs.open_both.Tie as tie
+
+open-requires : tie.Need-open-requires
+open-requires c κs = search needs
+
+fault-requires : tie.Need-fault-requires
+fault-requires c κs = search needs
+
+or-else-requires : tie.Need-or-else-requires
+or-else-requires c κs = search needs
+
+opened-requires : tie.Need-opened-requires
+opened-requires c κs = search needs
+
+opened-requires-2 : tie.Need-opened-requires-2
+opened-requires-2 c κs = search needs
+
+map-by-requires : tie.Need-map-by-requires
+map-by-requires c κs = search needs
+
+returns : tie.Need-returns
+returns c = ?
+
+pub open-both-spec : {M : Type 1} → statement M
+open-both-spec =
+    tie.close
+    (tie.spec
+    open-requires
+    fault-requires
+    or-else-requires
+    opened-requires
+    opened-requires-2
+    map-by-requires
+    returns)
