@@ -9,9 +9,10 @@ use mathlib.Core.Bool.{Bool, true, false}
 use lib.ListN.{length, length-append}
 use lib.Dec.{leb}
 use borrow.Author.Tests.{leb-true, leb-false, lt-ltb, le-ltb}
-use Rattle.topology.specs.Reader.{pick}
+use Rattle.topology.specs.Reader.{pick, tree}
 use Rattle.pifo.specs.Tree.{Step, step}
-use Rattle.pifo.specs.Machine.{Machine, Call, pushing, Answer, serve}
+use Rattle.pifo.specs.Machine.{Machine, Call, pushing, popping, Answer, serve}
+use Rattle.embedding_laws.specs.Check.{mapFault}
 use Rattle.queue_state.specs.State.{Packet, machine, wellFormed}
 use Rattle.queue_state.specs.Calls.{answerOf, Serves}
 use Rattle.queue_state.specs.declared.Answer.{Answer as CodeAnswer}
@@ -20,11 +21,12 @@ use Rattle.queue_state.specs.declared.State.{State}
 use Rattle.queue_push.specs.Calls.{stepsOf, pathOf, extendedBy}
 use Rattle.queue_push.specs.declared.Path.{Path}
 use Rattle.queue_push.proofs.Paths.{steps-path, path-plain, path-more}
-use Rattle.paired.specs.Demand.{Request, push, pop, SourceCall, ChipCall, callOf}
-use Rattle.pair_step.specs.Step.{InStep}
-use Rattle.paired.proofs.Sides.{source-serves, chip-pushed, chip-refused, next}
+use Rattle.pair_step.specs.Step.{ServesCarried, InStep}
+use Rattle.pair_step.proofs.Step.{next}
 use Rattle.translator.specs.Carry.{Carries}
+use Rattle.translator.specs.Push.{pushAlong}
 use Rattle.translator.specs.declared.Carried.{Carried}
+use Rattle.translator.proofs.Pushing.{carried-serves, refused-serves}
 use Rattle.lines.specs.Lines.{noLine}
 use Rattle.commands.specs.declared.Call.{Call as CallCommand}
 use Rattle.commands.specs.declared.Call.the-variants.{Step as StepTo, Push, Pop}
@@ -70,12 +72,14 @@ module _ (rest : List Read) (k : ℕ) where
 
 -- The chip's side of a push: with the path carried over, and where the carrying is refused.
 module _ (source target images : List ℕ) (t : State) (path : Path) (x : Packet) (c : Carried) (e : Carries source target images path c) (b : CodeAnswer) (y : State) where
-  pub sent : (d : CodeAnswer) (z : State) → c .refusal ≡ 0 → Serves t (pushing (stepsOf (c .path)) (c .path .«leaf_rank») x) (answerOf d) z → y ≡ z → b ≡ d
-      → ChipCall source target images t (push path x) (answerOf b) y
-  sent d z n v i j = rw (i, j) (chip-pushed source target images t path x c e (answerOf d) z n v)
+  abbrev Chip : Type 0
+  Chip = ServesCarried (tree source) (tree target) images t (pushAlong path x) (answerOf b) y
 
-  pub unsent : c .refusal ≢ 0 → y ≡ t → b ≡ Refused (c .refusal) → ChipCall source target images t (push path x) (answerOf b) y
-  unsent n i j = rw (i, j) (chip-refused source target images t path x c e n)
+  pub sent : (d : CodeAnswer) (z : State) → c .refusal ≡ 0 → Serves t (pushAlong (c .path) x) (answerOf d) z → y ≡ z → b ≡ d → Chip
+  sent d z n v i j = rw (i, j) (carried-serves source target images path c e n t x (answerOf d) z v)
+
+  pub unsent : mapFault source target images ≡ 0 → c .refusal ≢ 0 → y ≡ t → b ≡ Refused (c .refusal) → Chip
+  unsent passes n i j = rw (i, j) (refused-serves source target images path c e passes n t x)
 
 step-in : (m : Machine Packet) (ss : List Step) (i r : ℕ) → length ss < 8 → obey (serving m ss) (Calling (StepTo i r)) ≡ (silent, serving m (ss ++ (step i r ∷ [])))
 unfolding obey
@@ -104,40 +108,38 @@ module _ (source target images : List ℕ) (s t : State) (p : Path) (h : Served 
       }
 
   -- a call on each side: the chip's answer is the source's machine's
-  module _ (c : Request) (a b : Answer Packet) (s′ t′ : State) (v : SourceCall s c a s′) (u : ChipCall source target images t c b t′) where
+  module _ (c : Call Packet) (a b : Answer Packet) (s′ t′ : State) (v : Serves s c a s′)
+      (u : ServesCarried (tree source) (tree target) images t c b t′) where
     abbrev both : (a ≡ b) × InStep source target images s′ t′
     both = next source target images s t (h .in-step) c a b s′ t′ v u
-
-    own : Serves s (callOf c) a s′
-    own = source-serves c s a s′ v
 
     formed : wellFormed s ≡ true
     formed = h .in-step .source-formed
 
-    answer : serve (machine s) (callOf c) .0 ≡ b
-    answer = sym (own .answer formed) ∙ both .0
+    answer : serve (machine s) c .0 ≡ b
+    answer = sym (v .answer formed) ∙ both .0
 
-    after : serve (machine s) (callOf c) .1 ≡ machine s′
-    after = sym (own .machine formed)
+    after : serve (machine s) c .1 ≡ machine s′
+    after = sym (v .machine formed)
 
   pub push-turned : (x l : ℕ) (q : Path) → q ≡ endedBy p l → (a b : Answer Packet) (s′ t′ : State)
-      → SourceCall s (push q x) a s′ → ChipCall source target images t (push q x) b t′ → (p′ : Path) → p′ ≡ pathOf [] 0
+      → Serves s (pushAlong q x) a s′ → ServesCarried (tree source) (tree target) images t (pushAlong q x) b t′ → (p′ : Path) → p′ ≡ pathOf [] 0
       → Turned source target images s p (Push x l) (replied b) s′ t′ p′
   unfolding obey endedBy
   push-turned x l q eq a b s′ t′ v u p′ n =
-      let call : callOf (push q x) ≡ pushing (stepsOf p) l x = rw eq refl in
-      let answered = ap (λ (z : Call Packet). serve (machine s) z .0) (sym call) ∙ answer (push q x) a b s′ t′ v u in
-      let then = ap (λ (z : Call Packet). serve (machine s) z .1) (sym call) ∙ after (push q x) a b s′ t′ v u in
+      let call : pushAlong q x ≡ pushing (stepsOf p) l x = rw eq refl in
+      let answered = ap (λ (z : Call Packet). serve (machine s) z .0) (sym call) ∙ answer (pushAlong q x) a b s′ t′ v u in
+      let then = ap (λ (z : Call Packet). serve (machine s) z .1) (sym call) ∙ after (pushAlong q x) a b s′ t′ v u in
       record {
         is = rw (answered, then, n);
-        served = record { in-step = both (push q x) a b s′ t′ v u .1; few = rw n (omega arith); plain = rw n refl };
+        served = record { in-step = both (pushAlong q x) a b s′ t′ v u .1; few = rw n (omega arith); plain = rw n refl };
       }
 
-  pub pop-turned : (a b : Answer Packet) (s′ t′ : State) → SourceCall s pop a s′ → ChipCall source target images t pop b t′
+  pub pop-turned : (a b : Answer Packet) (s′ t′ : State) → Serves s popping a s′ → Serves t popping b t′
       → Turned source target images s p Pop (replied b) s′ t′ p
   unfolding obey
   pop-turned a b s′ t′ v u =
       record {
-        is = rw (answer pop a b s′ t′ v u, after pop a b s′ t′ v u);
-        served = record { in-step = both pop a b s′ t′ v u .1; few = h .few; plain = h .plain };
+        is = rw (answer popping a b s′ t′ v u, after popping a b s′ t′ v u);
+        served = record { in-step = both popping a b s′ t′ v u .1; few = h .few; plain = h .plain };
       }

@@ -132,7 +132,7 @@ loop-again-4 c =
     push-turned _ _ _ _ _ _ (g .served refl) _ _ _ (c .before .before .before .before .before .before .before .before .before .before .before .ended .ensures) _ (answerOf (c .before .before .before .before .before .if2 .answer)) _ (c .before .before .before .before .before .if2 .chip) (c .before .before .before .before .before .before .before .before .push .ensures)
     (⊎-elim
     (λ x. sent _ _ _ _ _ _ _ (c .before .before .before .before .before .before .before .before .before .carry .ensures) (c .before .before .before .before .before .if2 .answer) (c .before .before .before .before .before .if2 .chip) _ _ (x .0 .taken) (x .1 .ensures) (x .3) (x .4))
-    (λ x. unsent _ _ _ _ _ _ _ (c .before .before .before .before .before .before .before .before .before .carry .ensures) (c .before .before .before .before .before .if2 .answer) (c .before .before .before .before .before .if2 .chip) (x .0 .left) (x .1) (x .2))
+    (λ x. unsent _ _ _ _ _ _ _ (c .before .before .before .before .before .before .before .before .before .carry .ensures) (c .before .before .before .before .before .if2 .answer) (c .before .before .before .before .before .if2 .chip) (g .served refl .in-step .mapped) (x .0 .left) (x .1) (x .2))
     (c .before .before .before .before .before .if2 .came))
     (c .before .before .before .before .before .before .before .before .before .before .no-steps .result) (c .before .before .before .before .before .before .before .before .before .before .no-steps .ensures) in
     (replied-on _ _ _ _ _ _ _ _ _ _ _ _ _ _ _ (c .before .before .before .before .before .before .before .before .before .before .before .before .before .before .before .before .before .before .before .before .if1 .taken) (c .before .before .before .before .before .before .before .before .before .before .before .before .before .before .before .before .before .before .before .before .before .before .loop .inv .1) g _ _ _ (sym (c .before .before .before .before .before .before .before .before .before .before .before .before .before .before .before .before .before .before .turn-of .ensures) ∙ c .before .before .before .before .before .before .before .before .before .before .before .before .before .before .before .before .call .given .1) (c .before .before .before .before .before .before .before .before .before .before .before .before .before .call3 .given .1) _ _ _ _ answered _ _ _ (c .stops .ensures) (c .before .before .before .put-reply .ensures), c .before .before .before .before .before .before .before .before .before .before .before .before .before .before .before .before .before .before .before .before .before .before .loop .inv .1)
