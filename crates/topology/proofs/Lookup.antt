@@ -1,4 +1,5 @@
--- What the definitions over bytes are where the bytes are the code of a tree: the branch's end, the branch, the children and ancestry.
+-- What the definitions over bytes are where the bytes are the code of a tree: the branch's end, the branch, the children, ancestry and the
+-- child toward a node.
 use mathlib.Core.Path.{_≡_, refl, sym, ap, _∙_, subst}
 use mathlib.Core.Logic.{_≢_}
 use Prim.Native.Nat.{ℕ, zero, suc, _+_, _-_, _≤_, _<_}
@@ -113,11 +114,12 @@ pub record IsToward (t : Topo) (x y i n : ℕ) : Type 0 where
   pub node : n ≡ childOf t x i
   pub above : Above (addr t n) (addr t y)
 
+-- the answer is such a child
 abbrev pub Leads : Topo → ℕ → ℕ → Toward → Type 0
 Leads t x y (Child i n) = IsToward t x y i n
 Leads t x y Nowhere = ⊥
 
--- The scan for the child toward y comes to child `last`, which is one, if it has found none before.
+-- The children are looked at in turn, and child `last` is y or lies above it, so that one is found there at the latest.
 module _ (t : Topo) (x y last : ℕ) (has : HasChild t x last) (below : y < size t) (above : Above (addr t (childOf t x last)) (addr t y)) where
   module _ (i : ℕ) (l : i < last) where
     here : HasChild t x (suc i)
@@ -148,7 +150,7 @@ module _ (t : Topo) (x y last : ℕ) (has : HasChild t x last) (below : y < size
   toward-from i zero s l = absurd (omega (arith, has .2))
   toward-from i (suc k) s l = toward-by i l k (isAbove (code t) (start (code t) x i) y) refl (toward-from (suc i) k (omega arith))
 
--- Of a node strictly above y the code finds the child that is y or lies above it.
+-- A node strictly above y has a child that is y or lies above it, and the code finds it.
 pub toward-code : (t : Topo) (x y : ℕ) → x < size t → y < size t → Above (addr t x) (addr t y) → x ≢ y → Leads t x y (towardAt (code t) x y)
 unfolding towardAt
 toward-code t x y h g a n =

@@ -1,5 +1,5 @@
--- Branches, children and ancestry read off the bytes of a topology, for any bytes and numbers. `proofs/Lookup.antt` shows what they
--- are where the bytes are a tree's.
+-- Branches, children, ancestry and the child toward a node, read off the bytes of a topology, for any bytes and numbers.
+-- `proofs/Lookup.antt` shows what they are where the bytes are a tree's.
 use Prim.Native.Nat.{ℕ, zero, suc, _+_, _-_}
 use mathlib.Core.List.{List, [], _∷_}
 use mathlib.Core.Bool.{Bool, _&&_}
@@ -35,7 +35,7 @@ childAt bytes n (suc i) = pick (ltb i (getD bytes n 0)) (Node (start bytes n i))
 unfoldable pub isAbove : List ℕ → ℕ → ℕ → Bool
 isAbove bytes a b = leb a b && ltb b (branchEnd bytes a)
 
--- the first child of node n that is node y or lies above it, among its child i + 1 and the k - 1 that follow
+-- the first that is node y or lies above it, of k children of node n from its child i + 1 on
 abbrev pub towardFrom : List ℕ → ℕ → ℕ → ℕ → ℕ → Toward
 towardFrom bytes n y i zero = Nowhere
 towardFrom bytes n y i (suc k) =
