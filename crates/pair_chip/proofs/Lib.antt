@@ -1,2 +1,4 @@
 pub mod Numbers
 pub mod Openings
+pub mod Serving
+pub mod Counting

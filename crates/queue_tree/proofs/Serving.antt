@@ -89,8 +89,17 @@ pub same-drawing : (s : State) (c : Call Packet) (a : Answer Packet) (r : State)
 unfolding machine
 same-drawing s c a r w v = ap (λ (m : Machine Packet). m .topology) (v .machine w) ∙ serve-topology (machine s) c
 
-refused-accepted : {n h : ℕ} → _≡_ {A = Answer Packet} (refused n) (accepted h) → ⊥
+pub refused-accepted : {n h : ℕ} → _≡_ {A = Answer Packet} (refused n) (accepted h) → ⊥
 refused-accepted e = let z : _≡_ {A = ℕ} 0 1 = cc in omega arith
+
+-- the push along a plan's path
+pub planned-call : (S : Topo) (d : Disciplines) (leaf class len : ℕ) (plan : Plan) (p : Packet) → Planned S d leaf class len plan
+    → pushing (stepsOf (plan .path)) (plan .path .«leaf_rank») p ≡ pushing (stepsDown S d class 0 (addr S leaf)) (rankBy (kindAt (d .rules) leaf) 0 class) p
+planned-call S d leaf class len plan p is =
+    let path = is .path in
+    let l : Rank = rankBy (kindAt (d .rules) leaf) 0 class in
+    (λ i. pushing (stepsOf (path i)) (path i .«leaf_rank») p)
+    ∙ ap (λ (ss : List Step). pushing ss l p) (steps-path (stepsDown S d class 0 (addr S leaf)) l)
 
 -- ---- a tree by itself
 
@@ -235,14 +244,8 @@ module _ (t : Tree) where
             abbrev c : Call Packet
             c = pushing (stepsDown S d class 0 (addr S leaf)) (rankBy (kindAt (d .rules) leaf) 0 class) p
 
-            same-call : pushing (stepsOf (plan .path)) (plan .path .«leaf_rank») p ≡ c
-            same-call =
-                let path = the-plan .path in
-                (λ i. pushing (stepsOf (path i)) (path i .«leaf_rank») p)
-                ∙ ap (λ (ss : List Step). pushing ss (rankBy (kindAt (d .rules) leaf) 0 class) p) (steps-path (stepsDown S d class 0 (addr S leaf)) (rankBy (kindAt (d .rules) leaf) 0 class))
-
             as-planned : Serves s c a r
-            as-planned = subst (λ (x : Call Packet). Serves s x a r) same-call v
+            as-planned = subst (λ (x : Call Packet). Serves s x a r) (planned-call S d leaf class len plan p the-plan) v
 
             below : Below serve s c a r
             below = below-of s c a r w as-planned

@@ -1,9 +1,11 @@
+-- `map_by` meets its contract.
 use borrow.Author.Needs.{needs}
+use Rattle.pair_chip.proofs.Numbers.{no-map}
 use Rattle.pair_chip.proofs.map_by.Statement.{statement}
 use Rattle.pair_chip.proofs.map_by.Tie as tie
 
 returns : tie.Need-returns
-returns c = ?
+returns c = no-map _ _ (c .if1 .taken)
 
 returns-2 : tie.Need-returns-2
 returns-2 c = search needs

@@ -1,4 +1,6 @@
+-- `open` meets its contract.
 use borrow.Author.Needs.{needs}
+use Rattle.pair_chip.proofs.Openings.{chip-opened}
 use Rattle.pair_chip.proofs.open.Statement.{statement}
 use Rattle.pair_chip.proofs.open.Tie as tie
 
@@ -12,7 +14,7 @@ opened-requires : tie.Need-opened-requires
 opened-requires c κs = search needs
 
 returns : tie.Need-returns
-returns c = ?
+returns c = chip-opened _ _ _ _ _ _ _ (c .before .before .before .refusal .ensures) (c .before .before .«open» .ensures) (c .opened .ensures)
 
 pub open-spec : {M : Type 1} → statement M
 open-spec = tie.close (tie.spec refusal-requires open-requires opened-requires returns)

@@ -1,4 +1,6 @@
+-- `open_both` meets its contract.
 use borrow.Author.Needs.{needs}
+use Rattle.pair_chip.proofs.Openings.{both-opened}
 use Rattle.pair_chip.proofs.open_both.Statement.{statement}
 use Rattle.pair_chip.proofs.open_both.Tie as tie
 
@@ -21,7 +23,8 @@ map-by-requires : tie.Need-map-by-requires
 map-by-requires c κs = search needs
 
 returns : tie.Need-returns
-returns c = ?
+returns c =
+    both-opened _ _ _ _ _ _ _ _ _ _ (c .before .before .before .before .before .before .before .before .before .before .before .«open» .ensures) (c .before .before .before .before .before .before .before .before .before .fault .ensures) (c .before .before .before .before .before .before .before .before .or-else .ensures) (c .before .before .before .before .before .opened .ensures) (c .before .before .opened2 .ensures) (c .map-by .ensures)
 
 pub open-both-spec : {M : Type 1} → statement M
 open-both-spec =

@@ -1,4 +1,14 @@
+-- `push_to_leaf` meets its contract, a law for each answer (proofs/Serving).
 use borrow.Author.Needs.{needs}
+use native.Mathlib.Omega.{arith}
+use mathlib.Core.Path.{refl, sym, ap}
+use lib.Seq.{length-take-le}
+use borrow.Author.Tests.{not-true, not-false}
+use Rattle.queue_state.specs.State.{bytes}
+use Rattle.queue_state.specs.Calls.{answerOf}
+use Rattle.queue_tree.proofs.Serving.{others-apart}
+use Rattle.queue_tree.proofs.Arrays.{the-topology}
+use Rattle.pair_chip.proofs.Serving.{first-refused, few-nodes, not-a-leaf, leaf-refused, leaf-late, leaf-taken, leaf-rest}
 use Rattle.pair_chip.proofs.push_to_leaf.Statement.{statement}
 use Rattle.pair_chip.proofs.push_to_leaf.Tie as tie
 
@@ -6,13 +16,14 @@ first-fault-requires : tie.Need-first-fault-requires
 first-fault-requires c κs = search needs
 
 returns : tie.Need-returns
-returns c = ?
+returns c = first-refused _ _ _ _ (c .before .first-fault .ensures) (c .if1 .taken) _
 
 array-share-prefix-topology : tie.Need-array-share-prefix-topology
-array-share-prefix-topology c = ?
+array-share-prefix-topology c = omega (arith, few-nodes _ (c .before .before .before .before .before .before .before .before .before .args .tree) _ (c .before .first-fault .ensures) (c .if1 .left), (the-topology (c .before .before .before .before .before .before .before .before .before .args .tree) _ (c .before .before .before .before .before .before .before .before .before .good .1 .1 .0)))
 
 slice-aggregate-target : tie.Need-slice-aggregate-target
-slice-aggregate-target c = ?
+slice-aggregate-target c =
+    sym (length-take-le _ _ (omega (arith, few-nodes _ (c .before .before .before .before .before .before .before .before .before .before .args .tree) _ (c .before .before .first-fault .ensures) (c .before .if1 .left), (the-topology (c .before .before .before .before .before .before .before .before .before .before .args .tree) _ (c .before .before .before .before .before .before .before .before .before .before .good .1 .1 .0)))))
 
 is-leaf-requires : tie.Need-is-leaf-requires
 is-leaf-requires c κs = search needs
@@ -27,7 +38,11 @@ refused-requires : tie.Need-refused-requires
 refused-requires c κs = search needs
 
 returns-2 : tie.Need-returns-2
-returns-2 c = ?
+unfolding bytes
+returns-2 c =
+    rw (c .refused .ensures)
+    (not-a-leaf _ _ _ _ (c .before .before .before .before .before .before .before .first-fault .ensures) (c .before .before .before .before .before .before .if1 .left) _ _ _ _ _ (c .before .before .before .before .is-leaf .ensures) (not-true _ (c .before .before .before .if2 .taken)) _ _
+    (c .before .before .map-fault .ensures) (c .before .or-else .ensures))
 
 plan-to-requires : tie.Need-plan-to-requires
 plan-to-requires c κs = search needs
@@ -39,7 +54,10 @@ refused-requires-2 : tie.Need-refused-requires-2
 refused-requires-2 c κs = search needs
 
 returns-3 : tie.Need-returns-3
-returns-3 c = ?
+unfolding bytes
+returns-3 c =
+    rw (c .refused2 .ensures)
+    (leaf-refused _ _ _ _ (c .before .before .before .before .before .before .before .before .before .first-fault .ensures) (c .before .before .before .before .before .before .before .before .if1 .left) _ _ _ _ _ (c .before .before .before .before .before .before .is-leaf .ensures) (not-false _ (c .before .before .before .before .before .if2 .left)) _ (c .before .before .before .before .plan-to .ensures) _ (c .before .before .carry .ensures) (c .before .if3 .taken))
 
 push-requires : tie.Need-push-requires
 push-requires c κs = search needs
@@ -48,13 +66,22 @@ enum-told : tie.Need-enum-told
 enum-told c = search needs
 
 returns-4 : tie.Need-returns-4
-returns-4 c = ?
+unfolding bytes
+returns-4 c =
+    leaf-late _ _ _ _ (c .before .before .before .before .before .before .before .before .before .before .before .before .before .before .before .first-fault .ensures) (c .before .before .before .before .before .before .before .before .before .before .before .before .before .before .if1 .left) _ _ _ _ _ (c .before .before .before .before .before .before .before .before .before .before .before .before .is-leaf .ensures) (not-false _ (c .before .before .before .before .before .before .before .before .before .before .before .if2 .left)) _ (c .before .before .before .before .before .before .before .before .before .before .plan-to .ensures) _ (c .before .before .before .before .before .before .before .before .carry .ensures) (c .before .before .before .before .before .before .before .if3 .left)
+    _ _ (c .before .before .before .before .before .push .ensures) _ (ap answerOf (c .before .before .enum-told .given .1)) (not-true _ (c .if4 .taken))
 
 returns-5 : tie.Need-returns-5
-returns-5 c = ?
+unfolding bytes
+returns-5 c =
+    leaf-taken _ _ _ _ (c .before .before .before .before .before .before .before .before .before .before .before .before .before .before .before .before .before .first-fault .ensures) (c .before .before .before .before .before .before .before .before .before .before .before .before .before .before .before .before .if1 .left) _ _ _ _ _ (c .before .before .before .before .before .before .before .before .before .before .before .before .before .before .is-leaf .ensures) (not-false _ (c .before .before .before .before .before .before .before .before .before .before .before .before .before .if2 .left)) _ (c .before .before .before .before .before .before .before .before .before .before .before .before .plan-to .ensures) _ (c .before .before .before .before .before .before .before .before .before .before .carry .ensures) (c .before .before .before .before .before .before .before .before .before .if3 .left)
+    _ _ (c .before .before .before .before .before .before .before .push .ensures) _ (ap answerOf (c .before .before .before .before .enum-told .given .1)) (not-false _ (c .before .before .if4 .left)) _ refl
 
 returns-6 : tie.Need-returns-6
-returns-6 c = ?
+unfolding bytes
+returns-6 c =
+    leaf-rest _ _ _ _ (c .before .before .before .before .before .before .before .before .before .before .before .before .first-fault .ensures) (c .before .before .before .before .before .before .before .before .before .before .before .if1 .left) _ _ _ _ _ (c .before .before .before .before .before .before .before .before .before .is-leaf .ensures) (not-false _ (c .before .before .before .before .before .before .before .before .if2 .left)) _ (c .before .before .before .before .before .before .before .plan-to .ensures) _ (c .before .before .before .before .before .carry .ensures) (c .before .before .before .before .if3 .left)
+    _ _ (c .before .before .push .ensures) (others-apart (c .before .before .push .result .answer) (c .match .keys2))
 
 pub push-to-leaf-spec : {M : Type 1} → statement M
 push-to-leaf-spec =

@@ -1,4 +1,6 @@
+-- `refusal` meets its contract.
 use borrow.Author.Needs.{needs}
+use Rattle.pair_chip.proofs.Numbers.{source-refused, target-refused, rules-judged}
 use Rattle.pair_chip.proofs.refusal.Statement.{statement}
 use Rattle.pair_chip.proofs.refusal.Tie as tie
 
@@ -15,16 +17,16 @@ refusal-requires : tie.Need-refusal-requires
 refusal-requires c κs = search needs
 
 returns : tie.Need-returns
-returns c = ?
+returns c = target-refused _ _ (c .before .before .before .before .read .ensures) _ _ _ (c .before .before .enum-told .given .1) _ (c .before .refusal .ensures) (c .if1 .taken)
 
 fault-requires : tie.Need-fault-requires
 fault-requires c κs = search needs
 
 returns-2 : tie.Need-returns-2
-returns-2 c = ?
+returns-2 c = source-refused _ _ (c .before .before .before .read .ensures) _ _ _ _ (c .before .number .given .1)
 
 returns-3 : tie.Need-returns-3
-returns-3 c = ?
+returns-3 c = rules-judged _ _ (c .before .before .before .before .before .read .ensures) _ _ _ (c .before .before .before .enum-told .given .1) _ _ (c .before .before .refusal .ensures) (c .before .if1 .left) (c .fault .ensures)
 
 pub refusal-spec : {M : Type 1} → statement M
 refusal-spec =
