@@ -291,8 +291,8 @@ module _ (source m : List ℕ) (t : Tree) where
             → ChipServes source m t to-leaf (refused (pick (wellFormed s) k 18)) t
         not-a-leaf l is f g k u v = by-map (mapFault source (bytes s) m) refl
           where
-            e : k ≡ orElse (mapFault source (bytes s) m) 25
-            e = v ∙ ap (λ (x : ℕ). orElse x 25) u
+            number-is : k ≡ orElse (mapFault source (bytes s) m) 25
+            number-is = v ∙ ap (λ (x : ℕ). orElse x 25) u
 
             by-form : (w : Bool) → wellFormed s ≡ w → mapFault source (bytes s) m ≡ 0 → ChipServes source m t to-leaf (refused (pick w 25 18)) t
             by-form false i p = ill i to-leaf
@@ -302,10 +302,10 @@ module _ (source m : List ℕ) (t : Tree) where
 
             by-map : (g : ℕ) → mapFault source (bytes s) m ≡ g → ChipServes source m t to-leaf (refused (pick (wellFormed s) k 18)) t
             by-map zero p =
-                let number : k ≡ 25 = e ∙ ap (λ (g : ℕ). orElse g 25) p in
+                let number : k ≡ 25 = number-is ∙ ap (λ (g : ℕ). orElse g 25) p in
                 rw number (by-form (wellFormed s) refl p)
             by-map (suc g) p =
-                let number : k ≡ mapFault source (bytes s) m = e ∙ ap (λ (g : ℕ). orElse g 25) p ∙ sym p in
+                let number : k ≡ mapFault source (bytes s) m = number-is ∙ ap (λ (g : ℕ). orElse g 25) p ∙ sym p in
                 map-refused k number (λ y. omega (arith, number, p, y)) to-leaf
 
         module _ (l : Bool) (is : fault 64 source ≡ 0 → l ≡ isLeaf S leaf) (here : l ≡ true) (plan : Plan)
