@@ -1,2 +1,3 @@
 pub mod Sharing
 pub mod Planning
+pub mod Calls

@@ -31,7 +31,7 @@ use Rattle.pair_step.proofs.Step.{carried-follows}
 use Rattle.queue_tree.specs.Calls.{schedulerOf, wellKept}
 use Rattle.queue_tree.specs.declared.Tree.{Tree}
 use Rattle.queue_tree.proofs.Scheduled.{treeWith, Below}
-use Rattle.queue_tree.proofs.Serving.{serve-topology}
+use Rattle.queue_tree.proofs.Below.{serve-topology}
 use Rattle.pair_trees.specs.Calls.{chipRefusal, serveMapped}
 
 -- ---- what a chip's tree is refused by

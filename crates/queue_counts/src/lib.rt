@@ -1,9 +1,12 @@
-// A queue tree asked for its counts: packets held, pushes refused.
+// A queue tree asked for its counts, packets held and pushes refused; and a refusal that comes after the state's own test.
 use queue_check::examine;
+use queue_state::Answer;
 use queue_state::State;
 ghost use mathlib.Core.Path.{_≡_};
 ghost use Rattle.pifo.specs.Tree.{held};
 ghost use Rattle.queue_state.specs.State.{wellFormed, treeOf};
+ghost use Rattle.topology.specs.Reader.{pick};
+ghost use Rattle.queue_state.specs.declared.Answer.the-variants.{Refused};
 ghost use Rattle.queue_counts.specs.Amounts.{amount};
 
 // The answer to a question about a state: a count, or a refusal by its number.
@@ -33,4 +36,15 @@ pub fn refusals(state: State) -> Amount
         return Amount::Refused(18);
     }
     Amount::Count(state.refused)
+}
+
+// A refusal by a number that comes after 18: the number, or 18 where the state is not well formed.
+pub fn refused(state: State, number: u8) -> Answer
+    ensures { λ r. ⌜ r ≡ Refused (pick (wellFormed state) number 18) ⌝ }
+{
+    let test = examine(state);
+    if test.sound {
+        return Answer::Refused(number);
+    }
+    Answer::Refused(18)
 }

@@ -1,4 +1,3 @@
 pub mod Scheduled
-pub mod Openings
-pub mod Serving
+pub mod Below
 pub mod Arrays

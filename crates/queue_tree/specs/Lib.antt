@@ -1,5 +1,3 @@
--- To believe: Opening (what `open` promises) and Calls (what a push by path, a push to a leaf and a pop promise, and when a tree is well
--- formed). Parts has the words in which private functions state what they do.
+-- To believe: Opening (what the opening of a tree by itself promises) and Calls (what calls on a tree promise, and when a tree is well formed).
 pub mod Opening
 pub mod Calls
-pub mod Parts

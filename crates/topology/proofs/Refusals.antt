@@ -1,5 +1,6 @@
 -- Refusal numbers: what no refusal says of two tests in turn, and how large the numbers get.
 use mathlib.Core.Path.{_≡_, refl}
+use mathlib.Core.Logic.{_≢_}
 use Prim.Native.Nat.{ℕ, zero, suc, _≤_}
 use native.Mathlib.Omega.{arith}
 use mathlib.Core.List.{List, [], _∷_}
@@ -11,6 +12,11 @@ use Rattle.topology.specs.Reader.{pick, orElse, after, faultAt, faultFro
 pub orElse-none : (f r : ℕ) → orElse f r ≡ 0 → (f ≡ 0) × (r ≡ 0)
 orElse-none zero r e = (refl, e)
 orElse-none (suc f) r e = absurd (omega arith)
+
+-- a fault comes before what is tested after it
+pub orElse-first : (f r : ℕ) → f ≢ 0 → f ≡ orElse f r
+orElse-first zero r z = absurd (z refl)
+orElse-first (suc f) r z = refl
 
 pub orElse-most : (k f r : ℕ) → f ≤ k → r ≤ k → orElse f r ≤ k
 orElse-most k zero r h g = g

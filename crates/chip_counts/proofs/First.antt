@@ -1,0 +1,117 @@
+-- What is tested first in a call on a chip's tree. `first_fault` answers it, case by case; where it refuses, that is the number of the whole call
+-- (`first-number`), and where it refuses nothing, the drawing is a tree and only the chip's state can make the tree ill formed (`kept-formed`).
+use mathlib.Core.Path.{_≡_, refl, sym, ap, _∙_}
+use mathlib.Core.Logic.{_≢_}
+use Prim.Native.Nat.{ℕ, zero, suc, _≤_, _<_}
+use native.Mathlib.Omega.{arith}
+use mathlib.Core.List.{List}
+use mathlib.Core.Bool.{Bool, true, false, _&&_}
+use lib.Dec.{eqb, leb}
+use borrow.Author.Tests.{leb-true, le-leb, lt-leb, ne-eqb}
+use Rattle.topology.specs.Reader.{pick, orElse, fault, tree, reading}
+use Rattle.topology.specs.declared.Reading.{Reading}
+use Rattle.topology.specs.declared.Reading.the-variants.{Tree as Read, Refused}
+use Rattle.topology.proofs.Cases.{read-tree, read-refused}
+use Rattle.topology.proofs.Reader.{fault-wider}
+use Rattle.topology.proofs.Refusals.{orElse-none, orElse-first}
+use Rattle.pifo.proofs.Order.{both}
+use Rattle.queue_state.specs.State.{wellFormed}
+use Rattle.queue_state.proofs.Formed.{formed}
+use Rattle.disciplines.specs.Figure.{ruleFault}
+use Rattle.disciplines.specs.declared.Rule.{Rule}
+use Rattle.queue_tree.specs.Calls.{wellKept}
+use Rattle.queue_tree.specs.declared.Tree.{Tree}
+use Rattle.chip_counts.specs.First.{firstFault}
+
+-- ---- what `first_fault` answers
+
+module _ (source : List ℕ) (r : Reading) (e : r ≡ reading (fault 32 source)) (nodes : ℕ) (rules : List Rule) where
+  pub drawing-fault : (number : ℕ) → r ≡ Refused number → number ≡ firstFault source nodes rules
+  unfolding firstFault
+  drawing-fault number q =
+      let f = read-refused (fault 32 source) r e number q in
+      f .0 ∙ orElse-first (fault 32 source) (pick (leb nodes 64 && eqb (ruleFault (tree source) rules) 0) 0 18) (f .1)
+
+  module _ (t : r ≡ Read) where
+    valid : fault 32 source ≡ 0
+    valid = read-tree (fault 32 source) r e t
+
+    pub too-many : 64 < nodes → 18 ≡ firstFault source nodes rules
+    unfolding firstFault
+    too-many h = rw (valid, lt-leb nodes 64 h) refl
+
+    module _ (h : nodes ≤ 64) (f : ℕ) (is : fault 64 source ≡ 0 → f ≡ ruleFault (tree source) rules) where
+      judged : firstFault source nodes rules ≡ pick (eqb f 0) 0 18
+      unfolding firstFault
+      judged = rw (valid, le-leb nodes 64 h, sym (is (fault-wider 32 64 source (omega arith) valid))) refl
+
+      pub rules-fault : f ≢ 0 → 18 ≡ firstFault source nodes rules
+      rules-fault n = sym (judged ∙ ap (λ (b : Bool). pick b 0 18) (ne-eqb f 0 n))
+
+      pub no-fault : f ≡ 0 → 0 ≡ firstFault source nodes rules
+      no-fault z = sym (judged ∙ ap (λ (k : ℕ). pick (eqb k 0) 0 18) z)
+
+-- ---- what it says of the tree
+
+module _ (source : List ℕ) (t : Tree) where
+  -- a tree whose state is not well formed, or whose rules have a fault, is not well formed by the drawing
+  pub not-formed : wellFormed (t .state) ≡ false → wellKept (tree source) t ≡ false
+  unfolding wellKept
+  not-formed n = rw n refl
+
+  abbrev passesFirst : Bool
+  passesFirst = leb (t .state .frame .nodes) 64 && eqb (ruleFault (tree source) (t .disciplines .rules)) 0
+
+  not-kept : passesFirst ≡ false → wellKept (tree source) t ≡ false
+  unfolding wellKept
+  not-kept e = by-form (wellFormed (t .state)) refl
+    where
+      sound : Bool
+      sound = eqb (ruleFault (tree source) (t .disciplines .rules)) 0
+
+      by-form : (w : Bool) → wellFormed (t .state) ≡ w → (w && sound) ≡ false
+      by-form false i = refl
+      by-form true w = sym (ap (λ (b : Bool). b && sound) (le-leb (t .state .frame .nodes) 64 (formed (t .state) w .nodes))) ∙ e
+
+  module _ (n : ℕ) (e : n ≡ firstFault source (t .state .frame .nodes) (t .disciplines .rules)) where
+    -- where it refuses, the number is that of the drawing and the tree, whatever comes after them
+    pub first-number : n ≢ 0 → (after : ℕ) → orElse (fault 32 source) (pick (wellKept (tree source) t) after 18) ≡ n
+    unfolding firstFault
+    first-number z after = by-drawing (fault 32 source) (λ k. z (e ∙ k)) ∙ sym e
+      where
+        by-test : (b : Bool) → passesFirst ≡ b → _≢_ {A = ℕ} (pick b 0 18) 0 → pick (wellKept (tree source) t) after 18 ≡ pick b 0 18
+        by-test true k z = absurd (z refl)
+        by-test false k z = ap (λ (b : Bool). pick b after 18) (not-kept k)
+
+        by-drawing : (f : ℕ) → orElse f (pick passesFirst 0 18) ≢ 0 → orElse f (pick (wellKept (tree source) t) after 18) ≡ orElse f (pick passesFirst 0 18)
+        by-drawing zero z = by-test passesFirst refl z
+        by-drawing (suc f) z = refl
+
+    -- where it refuses nothing, the drawing is a tree, the state has no more nodes than a tree can have, and the rules have no fault
+    module _ (z : n ≡ 0) where
+      all-pass : (fault 32 source ≡ 0) × (passesFirst ≡ true)
+      unfolding firstFault
+      all-pass =
+          let o = orElse-none (fault 32 source) (pick passesFirst 0 18) (sym e ∙ z) in
+          (o .0, by-test passesFirst (o .1))
+        where
+          by-test : (b : Bool) → _≡_ {A = ℕ} (pick b 0 18) 0 → b ≡ true
+          by-test true q = refl
+          by-test false q = absurd (omega arith)
+
+      both-pass : (leb (t .state .frame .nodes) 64 ≡ true) × (eqb (ruleFault (tree source) (t .disciplines .rules)) 0 ≡ true)
+      both-pass = both (leb (t .state .frame .nodes) 64) (eqb (ruleFault (tree source) (t .disciplines .rules)) 0) (all-pass .1)
+
+      pub drawing-valid : fault 32 source ≡ 0
+      drawing-valid = all-pass .0
+
+      pub few-nodes : t .state .frame .nodes ≤ 64
+      few-nodes = leb-true (t .state .frame .nodes) 64 (both-pass .0)
+
+      pub kept-formed : wellKept (tree source) t ≡ wellFormed (t .state)
+      unfolding wellKept
+      kept-formed = by-form (wellFormed (t .state))
+        where
+          by-form : (w : Bool) → (w && eqb (ruleFault (tree source) (t .disciplines .rules)) 0) ≡ w
+          by-form false = refl
+          by-form true = both-pass .1

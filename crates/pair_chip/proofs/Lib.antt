@@ -1,4 +1,0 @@
-pub mod Numbers
-pub mod Openings
-pub mod Serving
-pub mod Counting

@@ -1,0 +1,45 @@
+-- `pop` meets its contract.
+use borrow.Author.Needs.{needs}
+use borrow.Author.Tests.{not-true, not-false}
+use Rattle.queue_tree.proofs.Arrays.{the-topology}
+use Rattle.tree_calls.proofs.Serving.{unsound, by-pop}
+use Rattle.tree_calls.proofs.pop.Statement.{statement}
+use Rattle.tree_calls.proofs.pop.Tie as tie
+
+are-sound-requires : tie.Need-are-sound-requires
+are-sound-requires c κs = search needs
+
+returns : tie.Need-returns
+returns c = unsound _ _ (c .before .are-sound .ensures) (not-true _ (c .if1 .taken)) _
+
+pop-requires : tie.Need-pop-requires
+pop-requires c κs = search needs
+
+own-images-requires : tie.Need-own-images-requires
+own-images-requires c κs = search needs
+
+slice-aggregate-after-pop : tie.Need-slice-aggregate-after-pop
+slice-aggregate-after-pop c = search needs
+
+after-pop-requires : tie.Need-after-pop-requires
+after-pop-requires c κs = search needs
+
+returns-2 : tie.Need-returns-2
+returns-2 c =
+    let popped = c .before .before .before .before .before .before .pop in
+    let at = c .before .before .before .before .before .before .before in
+    by-pop _ _ (at .before .are-sound .ensures) (not-false _ (at .if1 .left))
+    (the-topology (c .before .before .before .before .before .before .before .before .before .before .before .before .before .before .args .tree) _ (c .before .before .before .before .before .before .before .before .before .before .before .before .before .before .good .0)) _ _ _ _ _ (popped .ensures .0)
+    (popped .ensures .1) (c .before .before .own-images .ensures) (c .after-pop .ensures)
+
+pub pop-spec : {M : Type 1} → statement M
+pop-spec =
+    tie.close
+    (tie.spec
+    are-sound-requires
+    returns
+    pop-requires
+    own-images-requires
+    slice-aggregate-after-pop
+    after-pop-requires
+    returns-2)

@@ -1,0 +1,135 @@
+// The calls on a queue tree with disciplines, by itself. A call takes the tree by value and answers it by value.
+use discipline_check::is_leaf;
+use discipline_clock::after_pop;
+use discipline_clock::own_images;
+use discipline_path::plan_to;
+use disciplines::Disciplines;
+use queue_counts::refused;
+use queue_push::Path;
+use queue_state::Answer;
+use queue_state::Packet;
+use queue_tree::Tree;
+use queue_tree::TreeServed;
+use tree_counts::are_sound;
+ghost use mathlib.Core.Path.{_≡_};
+ghost use Rattle.pifo.specs.Machine.{pushing, popping};
+ghost use Rattle.queue_state.specs.Calls.{answerOf};
+ghost use Rattle.queue_push.specs.Calls.{stepsOf};
+ghost use Rattle.disciplines.specs.Scheduler.{calling, pushingTo};
+ghost use Rattle.queue_tree.specs.Calls.{OwnServes};
+
+// Pushes a packet along a path, which enters its ranks as given and alters no finish: 18, 13, 14, 15 are tested in this order.
+pub fn push(tree: Tree, path: Path, packet: Packet) -> TreeServed
+    ensures { λ r. ⌜ OwnServes tree (calling (pushing (stepsOf path) (path .«leaf_rank») packet)) (answerOf (r .answer)) (r .tree) ⌝ }
+{
+    let state = tree.state;
+    let disciplines = tree.disciplines;
+    let frame = state.frame;
+    let topology = frame.topology;
+    let rules = disciplines.rules;
+    if !are_sound(topology, frame.nodes, rules) {
+        return TreeServed {
+            tree,
+            answer: Answer::Refused(18),
+        };
+    }
+    let served = queue_push::push(state, path, packet);
+    let after = served.state;
+    let answer = served.answer;
+    TreeServed {
+        tree: Tree {
+            state: after,
+            disciplines,
+        },
+        answer,
+    }
+}
+
+// Pushes a packet to a leaf, with its class and its length, by the ranks that the disciplines give: 18, 25, 15, 23 are tested in this order.
+pub fn push_to_leaf(tree: Tree, leaf: usize, class: u8, length: u16, packet: Packet) -> TreeServed
+    ensures { λ r. ⌜ OwnServes tree (pushingTo leaf class length packet) (answerOf (r .answer)) (r .tree) ⌝ }
+{
+    let state = tree.state;
+    let disciplines = tree.disciplines;
+    let frame = state.frame;
+    let topology = frame.topology;
+    let nodes = frame.nodes;
+    let rules = disciplines.rules;
+    if !are_sound(topology, nodes, rules) {
+        return TreeServed {
+            tree,
+            answer: Answer::Refused(18),
+        };
+    }
+    let bytes = &topology[..nodes];
+    if !is_leaf(bytes, leaf) {
+        return TreeServed {
+            tree,
+            answer: refused(state, 25),
+        };
+    }
+    let plan = plan_to(bytes, disciplines, leaf, class, length);
+    let along = plan.path;
+    let served = queue_push::push(state, along, packet);
+    let after = served.state;
+    let answer = served.answer;
+    match answer {
+        Answer::Accepted(_) => {
+            if !plan.fits {
+                return TreeServed {
+                    tree,
+                    answer: Answer::Refused(23),
+                };
+            }
+            let times = disciplines.virtual_time;
+            let finish = plan.finish;
+            TreeServed {
+                tree: Tree {
+                    state: after,
+                    disciplines: Disciplines {
+                        rules,
+                        virtual_time: times,
+                        finish,
+                    },
+                },
+                answer,
+            }
+        }
+        _ => TreeServed {
+            tree: Tree {
+                state: after,
+                disciplines,
+            },
+            answer,
+        },
+    }
+}
+
+// Pops the packet at the head; virtual times become the ranks that it took on its way: 18 and 16 are tested in this order.
+pub fn pop(tree: Tree) -> TreeServed
+    ensures { λ r. ⌜ OwnServes tree (calling popping) (answerOf (r .answer)) (r .tree) ⌝ }
+{
+    let state = tree.state;
+    let disciplines = tree.disciplines;
+    let frame = state.frame;
+    let topology = frame.topology;
+    let rules = disciplines.rules;
+    if !are_sound(topology, frame.nodes, rules) {
+        return TreeServed {
+            tree,
+            answer: Answer::Refused(18),
+        };
+    }
+    let popped = queue_pop::pop(state);
+    let way = popped.way;
+    let served = popped.served;
+    let after = served.state;
+    let answer = served.answer;
+    TreeServed {
+        tree: Tree {
+            state: after,
+            disciplines: after_pop(disciplines, frame.nodes, way, &own_images()),
+        },
+        answer,
+    }
+}

@@ -1,0 +1,69 @@
+// The opening of a queue tree with disciplines.
+use discipline_check::fault;
+use disciplines::Disciplines;
+use disciplines::Rule;
+use queue_state::State;
+use queue_tree::Tree;
+use queue_tree::TreeOpened;
+ghost use mathlib.Core.Path.{_≡_};
+ghost use Rattle.disciplines.specs.Figure.{fresh as Figure·fresh};
+ghost use Rattle.queue_tree.specs.Opening.{treeFault, openedBy, openedTree};
+
+// Nothing was popped yet, and nothing finished.
+fn fresh(rules: [Rule; 64]) -> Disciplines
+    ensures { λ r. ⌜ r ≡ Figure·fresh rules ⌝ }
+{
+    Disciplines {
+        rules,
+        virtual_time: [0; 64],
+        finish: [0; 64],
+    }
+}
+
+// An opening by the number of its refusal: the tree with these rules, or zeros throughout.
+pub fn opened(refusal: u8, state: State, rules: [Rule; 64]) -> TreeOpened
+    ensures { λ r. ⌜ r ≡ openedBy refusal state rules ⌝ }
+{
+    if refusal != 0 {
+        let none = queue_state::open(b"", 0);
+        let no_state = none.state;
+        return TreeOpened {
+            tree: Tree {
+                state: no_state,
+                disciplines: fresh([Rule {
+                    discipline: 0,
+                    weight: 0,
+                }; 64]),
+            },
+            refusal,
+        };
+    }
+    TreeOpened {
+        tree: Tree {
+            state,
+            disciplines: fresh(rules),
+        },
+        refusal: 0,
+    }
+}
+
+// The number by which an opening is refused, or 0: 1 to 5, 17, then 24.
+fn refusal(bytes: &[u8], limit: usize, rules: [Rule; 64]) -> u8
+    ensures { λ r. ⌜ r ≡ treeFault (now (bytes .entry)) limit rules ⌝ }
+{
+    let number = queue_state::refusal(bytes, limit);
+    if number != 0 {
+        return number;
+    }
+    fault(bytes, rules)
+}
+
+// Opens an empty tree with a packet limit and a rule for each of its nodes: 1 to 5 are tested, 17, then 24.
+pub fn open(bytes: &[u8], limit: usize, rules: [Rule; 64]) -> TreeOpened
+    ensures { λ r. ⌜ r ≡ openedTree (now (bytes .entry)) limit rules ⌝ }
+{
+    let number = refusal(bytes, limit, rules);
+    let empty = queue_state::open(bytes, limit);
+    let state = empty.state;
+    opened(number, state, rules)
+}
