@@ -27,21 +27,21 @@ pub fn push(tree: Tree, path: Path, packet: Packet) -> TreeServed
     let frame = state.frame;
     let topology = frame.topology;
     let rules = disciplines.rules;
-    if !are_sound(topology, frame.nodes, rules) {
+    if are_sound(topology, frame.nodes, rules) {
+        let served = queue_push::push(state, path, packet);
+        let after = served.state;
+        let answer = served.answer;
         return TreeServed {
-            tree,
-            answer: Answer::Refused(18),
+            tree: Tree {
+                state: after,
+                disciplines,
+            },
+            answer,
         };
     }
-    let served = queue_push::push(state, path, packet);
-    let after = served.state;
-    let answer = served.answer;
     TreeServed {
-        tree: Tree {
-            state: after,
-            disciplines,
-        },
-        answer,
+        tree,
+        answer: Answer::Refused(18),
     }
 }
 
