@@ -1,1 +1,2 @@
 pub mod Churning
+pub mod TreeChurning

@@ -1,1 +1,2 @@
 pub mod Churn
+pub mod TreeChurn

@@ -1,7 +1,7 @@
 // The opening of a queue tree and the questions about it, for a program in C or Rust: what `tests/` links and compares. A state crosses as
 // plain numbers.
-use plain_answers::amount_of;
 use plain_answers::PlainAmount;
+use plain_answers::amount_of;
 use plain_state::PlainState;
 ghost use mathlib.Core.Path.{_≡_};
 ghost use Rattle.pifo.specs.Tree.{held};

@@ -1,11 +1,11 @@
 // The queue tree with disciplines for a program in C or Rust, by itself: what `tests/` links and compares. A tree crosses as plain numbers.
-use plain_answers::amount_of;
 use plain_answers::PlainAmount;
-use plain_tree::answered;
-use plain_tree::tree_of;
+use plain_answers::amount_of;
 use plain_tree::PlainRules;
 use plain_tree::PlainTree;
 use plain_tree::PlainTreeAnswer;
+use plain_tree::answered;
+use plain_tree::tree_of;
 use queue_push::Path;
 use queue_state::Packet;
 ghost use mathlib.Core.Path.{_≡_};
@@ -47,11 +47,7 @@ pub extern "C" fn linduvar_tree_open(
 
 // Pushes a packet along a path.
 #[no_mangle]
-pub extern "C" fn linduvar_tree_push(
-    tree: PlainTree,
-    path: Path,
-    packet: Packet,
-) -> PlainTreeAnswer
+pub extern "C" fn linduvar_tree_push(tree: PlainTree, path: Path, packet: Packet) -> PlainTreeAnswer
     ensures { λ r. ⌜ OwnServesPlain tree (calling (pushing (stepsOf path) (path .«leaf_rank») packet)) r ⌝ }
 {
     answered(queue_tree::push(tree_of(tree), path, packet))
