@@ -1,2 +1,1 @@
 pub mod Churning
-pub mod TreeChurning

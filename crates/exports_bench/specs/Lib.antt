@@ -1,2 +1,1 @@
 pub mod Churn
-pub mod TreeChurn

@@ -30,9 +30,9 @@ pub record ComesTo (t : Tree) (s : Scheduler Packet) (r : Tree) : Type 0 where
   pub ill : ownRefusal t ≢ 0 → r ≡ t
 
 -- one round of a tree
-abbrev pub TreeRounded : Tree → Request Packet → Tree → Type 0
-TreeRounded t push r = ComesTo t (afterRound (schedulerOf t) push) r
+abbrev pub Rounded : Tree → Request Packet → Tree → Type 0
+Rounded t push r = ComesTo t (afterRound (schedulerOf t) push) r
 
 -- all rounds of a tree
-abbrev pub TreeChurned : Tree → (ℕ → Request Packet) → ℕ → Tree → Type 0
-TreeChurned t push n r = ComesTo t (afterRounds push (schedulerOf t) n) r
+abbrev pub Churned : Tree → (ℕ → Request Packet) → ℕ → Tree → Type 0
+Churned t push n r = ComesTo t (afterRounds push (schedulerOf t) n) r

@@ -13,11 +13,11 @@ use Rattle.plain_state.proofs.Crossing.{is-written}
 use Rattle.plain_tree.specs.Trees.{treeFrom, plainTree}
 use Rattle.plain_tree.specs.declared.PlainTree.{PlainTree}
 use Rattle.plain_tree.proofs.Answering.{tree-back}
-use Rattle.exports_bench.specs.TreeChurn.{afterRound, afterRounds, TreeRounded, TreeChurned}
+use Rattle.exports_tree_bench.specs.Churn.{afterRound, afterRounds, Rounded, Churned}
 
-pub tree-rounded : (t u r : Tree) (push : Request Packet) (a b : Answer Packet) → OwnServes t (calling popping) a u → OwnServes u push b r
-    → TreeRounded t push r
-tree-rounded t u r push a b first second =
+pub round-served : (t u r : Tree) (push : Request Packet) (a b : Answer Packet) → OwnServes t (calling popping) a u → OwnServes u push b r
+    → Rounded t push r
+round-served t u r push a b first second =
     record {
       scheduler = λ o. second .scheduler (first .formed o) ∙ ap (λ (s : Scheduler Packet). serveOwn s push .1) (first .scheduler o);
       formed = λ o. second .formed (first .formed o);
@@ -27,13 +27,13 @@ tree-rounded t u r push a b first second =
     }
 
 module _ (push : ℕ → Request Packet) where
-  pub tree-churn-none : (t : Tree) → TreeChurned t push 0 t
+  pub churn-none : (t : Tree) → Churned t push 0 t
   unfolding afterRounds
-  tree-churn-none t = record { scheduler = λ o. refl; formed = λ o. o; ill = λ z. refl }
+  churn-none t = record { scheduler = λ o. refl; formed = λ o. o; ill = λ z. refl }
 
-  pub tree-churn-more : (t u r : Tree) (k : ℕ) → TreeChurned t push k u → TreeRounded u (push k) r → TreeChurned t push (k + 1) r
+  pub churn-more : (t u r : Tree) (k : ℕ) → Churned t push k u → Rounded u (push k) r → Churned t push (k + 1) r
   unfolding afterRounds
-  tree-churn-more t u r k before now =
+  churn-more t u r k before now =
       let n : k + 1 ≡ suc k = omega arith in
       record {
         scheduler = λ o.
@@ -45,11 +45,11 @@ module _ (push : ℕ → Request Packet) where
       }
 
   -- all rounds of the tree that plain numbers stand for, where all are made
-  pub tree-churn-plain : (p q : PlainTree) (t u : Tree) (i n : ℕ) → t ≡ treeFrom p → i ≡ n → q ≡ plainTree u → TreeChurned t push i u
-      → TreeChurned (treeFrom p) push n (treeFrom q) × Written (q .state)
-  tree-churn-plain p q t u i n is all e h = (
-    subst (λ (x : Tree). TreeChurned x push n (treeFrom q)) is
-        (subst (λ (x : ℕ). TreeChurned t push x (treeFrom q)) all
-        (subst (TreeChurned t push i) (sym (tree-back q u e)) h)),
+  pub churn-plain : (p q : PlainTree) (t u : Tree) (i n : ℕ) → t ≡ treeFrom p → i ≡ n → q ≡ plainTree u → Churned t push i u
+      → Churned (treeFrom p) push n (treeFrom q) × Written (q .state)
+  churn-plain p q t u i n is all e h = (
+    subst (λ (x : Tree). Churned x push n (treeFrom q)) is
+        (subst (λ (x : ℕ). Churned t push x (treeFrom q)) all
+        (subst (Churned t push i) (sym (tree-back q u e)) h)),
     is-written (q .state) (u .state) (ap (λ (x : PlainTree). x .state) e),
   )

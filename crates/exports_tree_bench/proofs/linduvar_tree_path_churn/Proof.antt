@@ -2,13 +2,13 @@
 use borrow.Author.Needs.{needs}
 use Prim.Native.Nat.{_≤_, _-_}
 use native.Mathlib.Omega.{arith}
-use Rattle.exports_bench.specs.TreeChurn.{pushingBy, TreeChurned}
-use Rattle.exports_bench.proofs.TreeChurning.{tree-churn-none, tree-churn-more, tree-churn-plain}
-use Rattle.exports_bench.proofs.linduvar_tree_path_churn.Statement.{statement}
-use Rattle.exports_bench.proofs.linduvar_tree_path_churn.Tie as tie
+use Rattle.exports_tree_bench.specs.Churn.{pushingBy, Churned}
+use Rattle.exports_tree_bench.proofs.Churning.{churn-none, churn-more, churn-plain}
+use Rattle.exports_tree_bench.proofs.linduvar_tree_path_churn.Statement.{statement}
+use Rattle.exports_tree_bench.proofs.linduvar_tree_path_churn.Tie as tie
 
 abbrev Inv-loop : tie.InvT-loop
-Inv-loop path rounds current₀ i₀ current i = (i ≤ rounds) × TreeChurned current₀ (pushingBy path) i current
+Inv-loop path rounds current₀ i₀ current i = (i ≤ rounds) × Churned current₀ (pushingBy path) i current
 
 abbrev μ-loop : tie.MeasureT-loop
 μ-loop path rounds current₀ i₀ current i = rounds - i
@@ -17,7 +17,7 @@ tree-of-requires : tie.Need-tree-of-requires Inv-loop μ-loop
 tree-of-requires c κs = search needs
 
 loop-holds : tie.Need-loop-holds Inv-loop μ-loop
-loop-holds c = (omega arith, tree-churn-none (pushingBy (c .before .args .path)) _)
+loop-holds c = (omega arith, churn-none (pushingBy (c .before .args .path)) _)
 
 round-by-path-requires : tie.Need-round-by-path-requires Inv-loop μ-loop
 round-by-path-requires c κs = search needs
@@ -33,7 +33,7 @@ loop-again c =
     let inside = c .before in
     let taken = inside .loop-test .taken in
     let path = inside .before .before .before .args .path in
-    (omega (arith, taken), tree-churn-more (pushingBy path) _ _ _ _ (inside .before .loop .inv .1) (c .round-by-path .ensures))
+    (omega (arith, taken), churn-more (pushingBy path) _ _ _ _ (inside .before .loop .inv .1) (c .round-by-path .ensures))
 
 plain-requires : tie.Need-plain-requires Inv-loop μ-loop
 plain-requires c κs = search needs
@@ -41,7 +41,7 @@ plain-requires c κs = search needs
 returns : tie.Need-returns Inv-loop μ-loop
 returns c =
     let loop = c .before .before .loop in
-    tree-churn-plain (pushingBy (c .before .before .before .before .args .path)) _ _ _ _ _ _ (c .before .before .before .tree-of .ensures)
+    churn-plain (pushingBy (c .before .before .before .before .args .path)) _ _ _ _ _ _ (c .before .before .before .tree-of .ensures)
     (omega (arith, loop .inv .0, c .before .loop-test .left)) (c .plain .ensures) (loop .inv .1)
 
 pub linduvar-tree-path-churn-spec : {M : Type 1} → statement M
