@@ -8,7 +8,7 @@ ghost use Rattle.plain_state.specs.Plain.{Written};
 ghost use Rattle.plain_tree.specs.Trees.{treeFrom};
 ghost use Rattle.exports_tree_bench.specs.Churn.{pushingBy, Rounded, Churned};
 
-// One round of a churn to a leaf.
+// One round of a churn: a pop, then a push to a leaf of a packet with the round's number.
 fn round_to_leaf(tree: Tree, leaf: usize, class: u8, length: u16, number: u32) -> Tree
     ensures { λ r. ⌜ Rounded tree (pushingTo leaf class length number) r ⌝ }
 {
@@ -37,7 +37,7 @@ pub extern "C" fn linduvar_tree_churn(
     plain_tree::plain(current)
 }
 
-// One round of a churn by path.
+// The same with a push along a path.
 fn round_by_path(tree: Tree, path: Path, number: u32) -> Tree
     ensures { λ r. ⌜ Rounded tree (pushingBy path number) r ⌝ }
 {
