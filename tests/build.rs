@@ -3,7 +3,7 @@
 use std::path::Path;
 use std::{env, fs};
 
-const CRATES: [&str; 8] = [
+const CRATES: [&str; 9] = [
     "exports_topology",
     "exports_embedding",
     "exports_translator",
@@ -12,6 +12,7 @@ const CRATES: [&str; 8] = [
     "exports_tree",
     "exports_chip",
     "exports_bench",
+    "exports_tree_bench",
 ];
 
 fn main() {

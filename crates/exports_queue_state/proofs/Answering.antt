@@ -7,7 +7,7 @@ use Rattle.queue_state.specs.declared.State.{State}
 use Rattle.queue_counts.specs.declared.Amount.{Amount}
 use Rattle.plain_state.specs.Plain.{stateOf}
 use Rattle.plain_state.specs.declared.PlainState.{PlainState}
-use Rattle.exports_queue_state.specs.Answers.{plainAmount}
+use Rattle.plain_answers.specs.Answers.{plainAmount}
 
 pub held-plain : (s : PlainState) (t : State) (x : Amount) → t ≡ stateOf s → x ≡ amount (wellFormed t) (held (treeOf t))
     → plainAmount x ≡ plainAmount (amount (wellFormed (stateOf s)) (held (treeOf (stateOf s))))

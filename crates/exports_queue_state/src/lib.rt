@@ -1,36 +1,22 @@
 // The opening of a queue tree and the questions about it, for a program in C or Rust: what `tests/` links and compares. A state crosses as
 // plain numbers.
+use plain_answers::PlainAmount;
+use plain_answers::amount_of;
 use plain_state::PlainState;
-use queue_counts::Amount;
 ghost use mathlib.Core.Path.{_≡_};
 ghost use Rattle.pifo.specs.Tree.{held};
 ghost use Rattle.queue_state.specs.Opening.{openedState};
 ghost use Rattle.queue_counts.specs.Amounts.{amount};
 ghost use Rattle.queue_state.specs.State.{wellFormed, treeOf};
 ghost use Rattle.plain_state.specs.Plain.{stateOf};
-ghost use Rattle.exports_queue_state.specs.Answers.{plainOpened, plainAmount};
+ghost use Rattle.plain_answers.specs.Answers.{plainAmount};
+ghost use Rattle.exports_queue_state.specs.Answers.{plainOpened};
 
 // The answer to an opening: 0 and the empty tree, or a refusal's number and zeros throughout, which every call refuses by 18.
 #[repr(C)]
 pub struct PlainOpened {
     pub state: PlainState,
     pub refusal: u8,
-}
-
-// The answer to a question: 0 and a count, or a refusal's number and 0.
-#[repr(C)]
-pub struct PlainAmount {
-    pub number: u8,
-    pub value: u32,
-}
-
-fn amount_of(amount: Amount) -> PlainAmount
-    ensures { λ r. ⌜ r ≡ plainAmount amount ⌝ }
-{
-    match amount {
-        Amount::Count(value) => PlainAmount { number: 0, value },
-        Amount::Refused(number) => PlainAmount { number, value: 0 },
-    }
 }
 
 // Opens an empty tree with a packet limit.

@@ -7,7 +7,8 @@ use Rattle.queue_state.specs.State.{Packet, machine, wellFormed}
 use Rattle.queue_state.specs.Calls.{Serves}
 use Rattle.queue_state.specs.declared.State.{State}
 use Rattle.plain_state.specs.Plain.{stateOf, plainOf}
-use Rattle.exports_queue_tree.specs.Answers.{valueOf, answered, ServesPlain}
+use Rattle.plain_answers.specs.Answers.{valueOf}
+use Rattle.exports_queue_tree.specs.Answers.{answered, ServesPlain}
 use Rattle.plain_state.specs.declared.PlainState.{PlainState}
 use Rattle.exports_queue_tree.specs.declared.PlainAnswer.{PlainAnswer}
 use Rattle.plain_state.proofs.Crossing.{state-back, is-written}

@@ -1,21 +1,14 @@
--- The answers to a push and a pop as plain numbers, and what such a call on a plain state promises.
+-- What a push or a pop on a plain state answers, and what it promises.
 use mathlib.Core.Path.{_≡_}
-use Prim.Native.Nat.{ℕ}
 use Rattle.topology.specs.Reader.{pick}
-use Rattle.pifo.specs.Machine.{Call, Answer, accepted, departed, refused, full, numberOf, serve}
+use Rattle.pifo.specs.Machine.{Call, Answer, refused, numberOf, serve}
 use Rattle.queue_state.specs.State.{Packet, machine, wellFormed}
 use Rattle.queue_state.specs.Calls.{Serves}
 use Rattle.queue_state.specs.declared.State.{State}
 use Rattle.plain_state.specs.Plain.{stateOf, Written}
 use Rattle.plain_state.specs.declared.PlainState.{PlainState}
+use Rattle.plain_answers.specs.Answers.{valueOf}
 use Rattle.exports_queue_tree.specs.declared.PlainAnswer.{PlainAnswer}
-
--- the packets then held, the packet that departs, or the new count of refusals, else 0
-abbrev pub valueOf : Answer Packet → ℕ
-valueOf (accepted h) = h
-valueOf (departed p) = p
-valueOf (refused n) = 0
-valueOf (full n c) = c
 
 -- what a queue tree answers to a call: as the machine does, or 18 where the state is not well formed
 unfoldable pub answered : State → Call Packet → Answer Packet

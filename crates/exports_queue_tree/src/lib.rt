@@ -1,16 +1,16 @@
 // Pushes and pops of a queue tree for a program in C or Rust: what `tests/` links and compares. A state crosses as plain numbers.
+use plain_answers::answer_number;
+use plain_answers::answer_value;
 use plain_state::PlainState;
 use queue_pop::Way;
 use queue_push::Path;
-use queue_state::Answer;
 use queue_state::Packet;
 ghost use mathlib.Core.Path.{_≡_};
-ghost use Rattle.pifo.specs.Machine.{pushing, popping, numberOf};
-ghost use Rattle.queue_state.specs.Calls.{answerOf};
+ghost use Rattle.pifo.specs.Machine.{pushing, popping};
 ghost use Rattle.queue_push.specs.Calls.{stepsOf};
 ghost use Rattle.queue_pop.specs.Ways.{wayOf};
 ghost use Rattle.plain_state.specs.Plain.{stateOf};
-ghost use Rattle.exports_queue_tree.specs.Answers.{valueOf, ServesPlain};
+ghost use Rattle.exports_queue_tree.specs.Answers.{ServesPlain};
 
 // The answer to a call: a refusal's number or 0, and beside it the packets held after a push, the packet that departs, the new count of
 // refusals of a push that has no room, else 0.
@@ -26,28 +26,6 @@ pub struct PlainAnswer {
 pub struct PlainPopped {
     pub answer: PlainAnswer,
     pub way: Way,
-}
-
-fn answer_number(answer: Answer) -> u8
-    ensures { λ r. ⌜ r ≡ numberOf (answerOf answer) ⌝ }
-{
-    match answer {
-        Answer::Accepted(_) => 0,
-        Answer::Departed(_) => 0,
-        Answer::Refused(number) => number,
-        Answer::Full(number, _) => number,
-    }
-}
-
-fn answer_value(answer: Answer) -> u32
-    ensures { λ r. ⌜ r ≡ valueOf (answerOf answer) ⌝ }
-{
-    match answer {
-        Answer::Accepted(held) => held,
-        Answer::Departed(packet) => packet,
-        Answer::Refused(_) => 0,
-        Answer::Full(_, count) => count,
-    }
 }
 
 // Pushes a packet along a path.

@@ -1,9 +1,9 @@
 -- A count and a refusal.
 use mathlib.Core.Path.{sym, ap}
 use borrow.Author.Needs.{needs}
-use Rattle.exports_queue_state.specs.Answers.{plainAmount}
-use Rattle.exports_queue_state.proofs.amount_of.Statement.{statement}
-use Rattle.exports_queue_state.proofs.amount_of.Tie as tie
+use Rattle.plain_answers.specs.Answers.{plainAmount}
+use Rattle.plain_answers.proofs.amount_of.Statement.{statement}
+use Rattle.plain_answers.proofs.amount_of.Tie as tie
 
 enum-known-amount : tie.Need-enum-known-amount
 enum-known-amount c = search needs

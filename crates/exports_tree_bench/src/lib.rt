@@ -1,0 +1,61 @@
+// Many calls of a tree with disciplines at once, for the benchmark in `tests/`. A tree crosses as plain numbers. These functions are apart from
+// `exports_bench`: a call that has one caller in its archive is compiled into it, and then copies less.
+use plain_tree::PlainTree;
+use queue_push::Path;
+use queue_tree::Tree;
+ghost use Rattle.disciplines.specs.Scheduler.{pushingTo};
+ghost use Rattle.plain_state.specs.Plain.{Written};
+ghost use Rattle.plain_tree.specs.Trees.{treeFrom};
+ghost use Rattle.exports_tree_bench.specs.Churn.{pushingBy, Rounded, Churned};
+
+// One round of a churn: a pop, then a push to a leaf of a packet with the round's number.
+fn round_to_leaf(tree: Tree, leaf: usize, class: u8, length: u16, number: u32) -> Tree
+    ensures { λ r. ⌜ Rounded tree (pushingTo leaf class length number) r ⌝ }
+{
+    let popped = queue_tree::pop(tree);
+    let pushed = queue_tree::push_to_leaf(popped.tree, leaf, class, length, number);
+    pushed.tree
+}
+
+// A pop and a push to a leaf in each round.
+#[no_mangle]
+pub extern "C" fn linduvar_tree_churn(
+    tree: PlainTree,
+    leaf: usize,
+    class: u8,
+    length: u16,
+    rounds: u32,
+) -> PlainTree
+    ensures { λ r. ⌜ Churned (treeFrom tree) (pushingTo leaf class length) rounds (treeFrom r) × Written (r .state) ⌝ }
+{
+    let mut current = plain_tree::tree_of(tree);
+    let mut i = 0;
+    while i < rounds {
+        current = round_to_leaf(current, leaf, class, length, i);
+        i += 1;
+    }
+    plain_tree::plain(current)
+}
+
+// The same with a push along a path.
+fn round_by_path(tree: Tree, path: Path, number: u32) -> Tree
+    ensures { λ r. ⌜ Rounded tree (pushingBy path number) r ⌝ }
+{
+    let popped = queue_tree::pop(tree);
+    let pushed = queue_tree::push(popped.tree, path, number);
+    pushed.tree
+}
+
+// A pop and a push along a path in each round.
+#[no_mangle]
+pub extern "C" fn linduvar_tree_path_churn(tree: PlainTree, path: Path, rounds: u32) -> PlainTree
+    ensures { λ r. ⌜ Churned (treeFrom tree) (pushingBy path) rounds (treeFrom r) × Written (r .state) ⌝ }
+{
+    let mut current = plain_tree::tree_of(tree);
+    let mut i = 0;
+    while i < rounds {
+        current = round_by_path(current, path, i);
+        i += 1;
+    }
+    plain_tree::plain(current)
+}
