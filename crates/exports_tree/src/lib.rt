@@ -4,6 +4,7 @@ use plain_answers::amount_of;
 use plain_tree::PlainRules;
 use plain_tree::PlainTree;
 use plain_tree::PlainTreeAnswer;
+use plain_tree::PlainTreeOpened;
 use plain_tree::answered;
 use plain_tree::tree_of;
 use queue_push::Path;
@@ -19,14 +20,8 @@ ghost use Rattle.queue_tree.specs.Opening.{openedTree};
 ghost use Rattle.queue_tree.specs.Calls.{drawing, wellKept};
 ghost use Rattle.plain_answers.specs.Answers.{plainAmount};
 ghost use Rattle.plain_tree.specs.Trees.{treeFrom};
-ghost use Rattle.exports_tree.specs.Answers.{plainOpened, OwnServesPlain};
-
-// The answer to an opening: 0 and the empty tree, or a refusal's number and zeros throughout, which every call refuses by 18.
-#[repr(C)]
-pub struct PlainTreeOpened {
-    pub tree: PlainTree,
-    pub refusal: u8,
-}
+ghost use Rattle.plain_tree.specs.Answers.{plainOpened};
+ghost use Rattle.exports_tree.specs.Answers.{OwnServesPlain};
 
 // Opens an empty tree with a packet limit and a rule for each of its nodes.
 #[no_mangle]
@@ -38,11 +33,7 @@ pub extern "C" fn linduvar_tree_open(
     ensures { λ r. ⌜ r ≡ plainOpened (openedTree (now (bytes .entry)) limit (rules .rules)) ⌝ }
 {
     let rules = rules.rules;
-    let opened = queue_tree::open(bytes, limit, rules);
-    PlainTreeOpened {
-        tree: plain_tree::plain(opened.tree),
-        refusal: opened.refusal,
-    }
+    plain_tree::opened(tree_open::open(bytes, limit, rules))
 }
 
 // Pushes a packet along a path.
@@ -50,7 +41,7 @@ pub extern "C" fn linduvar_tree_open(
 pub extern "C" fn linduvar_tree_push(tree: PlainTree, path: Path, packet: Packet) -> PlainTreeAnswer
     ensures { λ r. ⌜ OwnServesPlain tree (calling (pushing (stepsOf path) (path .«leaf_rank») packet)) r ⌝ }
 {
-    answered(queue_tree::push(tree_of(tree), path, packet))
+    answered(tree_calls::push(tree_of(tree), path, packet))
 }
 
 // Pushes a packet to a leaf, with its class and its length.
@@ -64,7 +55,7 @@ pub extern "C" fn linduvar_tree_push_to_leaf(
 ) -> PlainTreeAnswer
     ensures { λ r. ⌜ OwnServesPlain tree (pushingTo leaf class length packet) r ⌝ }
 {
-    answered(queue_tree::push_to_leaf(tree_of(tree), leaf, class, length, packet))
+    answered(tree_calls::push_to_leaf(tree_of(tree), leaf, class, length, packet))
 }
 
 // Pops the packet at the head.
@@ -72,7 +63,7 @@ pub extern "C" fn linduvar_tree_push_to_leaf(
 pub extern "C" fn linduvar_tree_pop(tree: PlainTree) -> PlainTreeAnswer
     ensures { λ r. ⌜ OwnServesPlain tree (calling popping) r ⌝ }
 {
-    answered(queue_tree::pop(tree_of(tree)))
+    answered(tree_calls::pop(tree_of(tree)))
 }
 
 // How many packets a tree holds.
@@ -80,7 +71,7 @@ pub extern "C" fn linduvar_tree_pop(tree: PlainTree) -> PlainTreeAnswer
 pub extern "C" fn linduvar_tree_held(tree: PlainTree) -> PlainAmount
     ensures { λ r. ⌜ r ≡ plainAmount (amount (wellKept (drawing (treeFrom tree)) (treeFrom tree)) (held (treeOf (treeFrom tree .state)))) ⌝ }
 {
-    amount_of(queue_tree::held(tree_of(tree)))
+    amount_of(tree_counts::held(tree_of(tree)))
 }
 
 // How many pushes a tree has refused because it was full.
@@ -88,5 +79,5 @@ pub extern "C" fn linduvar_tree_held(tree: PlainTree) -> PlainAmount
 pub extern "C" fn linduvar_tree_refusals(tree: PlainTree) -> PlainAmount
     ensures { λ r. ⌜ r ≡ plainAmount (amount (wellKept (drawing (treeFrom tree)) (treeFrom tree)) (treeFrom tree .state .refused)) ⌝ }
 {
-    amount_of(queue_tree::refusals(tree_of(tree)))
+    amount_of(tree_counts::refusals(tree_of(tree)))
 }

@@ -12,8 +12,8 @@ ghost use Rattle.exports_tree_bench.specs.Churn.{pushingBy, Rounded, Chu
 fn round_to_leaf(tree: Tree, leaf: usize, class: u8, length: u16, number: u32) -> Tree
     ensures { λ r. ⌜ Rounded tree (pushingTo leaf class length number) r ⌝ }
 {
-    let popped = queue_tree::pop(tree);
-    let pushed = queue_tree::push_to_leaf(popped.tree, leaf, class, length, number);
+    let popped = tree_calls::pop(tree);
+    let pushed = tree_calls::push_to_leaf(popped.tree, leaf, class, length, number);
     pushed.tree
 }
 
@@ -41,8 +41,8 @@ pub extern "C" fn linduvar_tree_churn(
 fn round_by_path(tree: Tree, path: Path, number: u32) -> Tree
     ensures { λ r. ⌜ Rounded tree (pushingBy path number) r ⌝ }
 {
-    let popped = queue_tree::pop(tree);
-    let pushed = queue_tree::push(popped.tree, path, number);
+    let popped = tree_calls::pop(tree);
+    let pushed = tree_calls::push(popped.tree, path, number);
     pushed.tree
 }
 

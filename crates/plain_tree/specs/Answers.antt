@@ -7,14 +7,19 @@ use Rattle.queue_state.specs.Calls.{answerOf}
 use Rattle.disciplines.specs.Scheduler.{Scheduler, Request}
 use Rattle.queue_tree.specs.Calls.{schedulerOf, Schedules}
 use Rattle.queue_tree.specs.declared.Tree.{Tree}
+use Rattle.queue_tree.specs.declared.TreeOpened.{TreeOpened}
 use Rattle.queue_tree.specs.declared.TreeServed.{TreeServed}
 use Rattle.plain_state.specs.Plain.{Written}
 use Rattle.plain_answers.specs.Answers.{valueOf}
 use Rattle.plain_tree.specs.Trees.{treeFrom, plainTree}
 use Rattle.plain_tree.specs.declared.PlainTree.{PlainTree}
+use Rattle.plain_tree.specs.declared.PlainTreeOpened.{PlainTreeOpened}
 use Rattle.plain_tree.specs.declared.PlainTreeAnswer.{PlainTreeAnswer}
 
--- what the code answers to a call, as it is written
+-- what the code answers to an opening and to a call, as it is written
+abbrev pub plainOpened : TreeOpened → PlainTreeOpened
+plainOpened o = record { tree = plainTree (o .tree); refusal = o .refusal }
+
 abbrev pub plainServed : TreeServed → PlainTreeAnswer
 plainServed s =
     let a = answerOf (s .answer) in

@@ -6,10 +6,11 @@ use plain_answers::answer_number;
 use plain_answers::answer_value;
 use plain_state::PlainState;
 use queue_tree::Tree;
+use queue_tree::TreeOpened;
 use queue_tree::TreeServed;
 ghost use mathlib.Core.Path.{_≡_};
 ghost use Rattle.plain_tree.specs.Trees.{treeFrom, plainTree};
-ghost use Rattle.plain_tree.specs.Answers.{plainServed};
+ghost use Rattle.plain_tree.specs.Answers.{plainOpened, plainServed};
 
 // The fields are those of a tree.
 #[repr(C)]
@@ -22,6 +23,13 @@ pub struct PlainTree {
 #[repr(C)]
 pub struct PlainRules {
     pub rules: [Rule; 64],
+}
+
+// The answer to an opening: 0 and the empty tree, or a refusal's number and zeros throughout, which every call refuses by 18.
+#[repr(C)]
+pub struct PlainTreeOpened {
+    pub tree: PlainTree,
+    pub refusal: u8,
 }
 
 // The tree after a call; a refusal's number or 0, and beside it the packets held after a push, the packet that departs, the new count of
@@ -61,5 +69,16 @@ pub fn answered(served: TreeServed) -> PlainTreeAnswer
         tree,
         number: answer_number(answer),
         value: answer_value(answer),
+    }
+}
+
+// The answer to an opening, as plain numbers.
+pub fn opened(opening: TreeOpened) -> PlainTreeOpened
+    ensures { λ r. ⌜ r ≡ plainOpened opening ⌝ }
+{
+    let tree = plain(opening.tree);
+    PlainTreeOpened {
+        tree,
+        refusal: opening.refusal,
     }
 }
