@@ -1,4 +1,5 @@
 pub mod Scheduled
 pub mod Openings
 pub mod Serving
+pub mod Existing
 pub mod Arrays
