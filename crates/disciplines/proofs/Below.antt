@@ -13,7 +13,7 @@ use Rattle.topology.specs.Reader.{pick}
 use Rattle.pifo.specs.Queue.{Rank}
 use Rattle.pifo.specs.Machine.{Machine, Call, pushing, Answer, accepted, departed, refused, full, Server}
 use Rattle.disciplines.specs.Figure.{kindAt, rankBy, stepsDown, finishesDown, fitsDown, withFinishes}
-use Rattle.disciplines.specs.Scheduler.{Scheduler, Request, calling, pushingTo, isLeaf, with, pushedBy, calledBy, serveBy}
+use Rattle.disciplines.specs.Scheduler.{Scheduler, Request, calling, pushingTo, isLeaf, pushedBy, calledBy, serveBy}
 use Rattle.disciplines.specs.declared.Disciplines.{Disciplines}
 
 module _ {P : Type 0} (S : Topo) (server : Server P) (at : Machine P → ℕ → Option Rank) (s : Scheduler P) where

@@ -1,19 +1,19 @@
 -- What is promised of a call on a tree with disciplines can be kept: every request has an answer and a tree after it. Where the tree passes what is
 -- tested first and each call below has an answer and a state, the disciplines after it are computed (`scheduled-some`); so it is for a tree by itself
 -- (`own-some`).
-use mathlib.Core.Path.{_≡_, refl, sym, _∙_}
+use mathlib.Core.Path.{_≡_, refl}
 use Prim.Native.Nat.{ℕ, zero, suc}
 use native.Mathlib.Omega.{arith}
-use mathlib.Core.Bool.{Bool, true, false, _&&_}
+use mathlib.Core.Bool.{Bool, true, false}
 use mathlib.Core.Option.{Option}
 use lib.Dec.{eqb}
 use Rattle.topology.specs.Tree.{Topo}
-use Rattle.topology.specs.Reader.{pick, tree}
+use Rattle.topology.specs.Reader.{pick}
 use Rattle.topology.proofs.Cases.{clash}
 use Rattle.pifo.specs.Queue.{Rank}
 use Rattle.pifo.specs.Machine.{Machine, Call, Answer, accepted, departed, refused, full, Server, serve}
 use Rattle.pifo.proofs.Order.{both}
-use Rattle.queue_state.specs.State.{Packet, bytes, machine, wellFormed}
+use Rattle.queue_state.specs.State.{Packet, machine, wellFormed}
 use Rattle.queue_state.specs.declared.State.{State}
 use Rattle.queue_state.proofs.Existing.{serves-some}
 use Rattle.disciplines.specs.Figure.{ruleFault}
@@ -85,16 +85,18 @@ module _ (S : Topo) (server : Server Packet) (at : Machine Packet → ℕ → Op
 
 -- ---- a tree by itself
 
-own-known : (t : Tree) → ownRefusal t ≡ 0
-    → (wellFormed (t .state) ≡ true) × (eqb (ruleFault (drawing t) (t .disciplines .rules)) 0 ≡ true)
-unfolding ownRefusal wellKept
-own-known t e =
-    both (wellFormed (t .state)) (eqb (ruleFault (drawing t) (t .disciplines .rules)) 0)
-    (by-test (wellFormed (t .state) && eqb (ruleFault (drawing t) (t .disciplines .rules)) 0) e)
+pub own-well : (t : Tree) → ownRefusal t ≡ 0 → wellKept (drawing t) t ≡ true
+unfolding ownRefusal
+own-well t = by-test (wellKept (drawing t) t)
   where
     by-test : (b : Bool) → _≡_ {A = ℕ} (pick b 0 18) 0 → b ≡ true
     by-test true z = refl
     by-test false z = absurd (omega arith)
+
+own-known : (t : Tree) → ownRefusal t ≡ 0
+    → (wellFormed (t .state) ≡ true) × (eqb (ruleFault (drawing t) (t .disciplines .rules)) 0 ≡ true)
+unfolding wellKept
+own-known t e = both (wellFormed (t .state)) (eqb (ruleFault (drawing t) (t .disciplines .rules)) 0) (own-well t e)
 
 pub own-some : (t : Tree) (q : Request Packet) → (a : Answer Packet) × (r : Tree) × OwnServes t q a r
 own-some t q = by-refusal (ownRefusal t) refl
