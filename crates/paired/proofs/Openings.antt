@@ -6,7 +6,7 @@ use native.Mathlib.Omega.{arith}
 use mathlib.Core.List.{List}
 use mathlib.Core.Bool.{true}
 use Rattle.topology.specs.Tree.{Topo, code}
-use Rattle.topology.specs.Reader.{orElse, fault, tree}
+use Rattle.topology.specs.Reader.{fault, tree}
 use Rattle.topology.proofs.Reader.{drawn, fault-wider}
 use Rattle.pifo.specs.Machine.{Machine, opened}
 use Rattle.embedding_laws.specs.Rules.{Passes}
@@ -22,7 +22,6 @@ use Rattle.disciplines.specs.Scheduler.{with}
 use Rattle.disciplines.specs.declared.Rule.{Rule}
 use Rattle.queue_tree.specs.Opening.{treeFault, openedBy, openedTree}
 use Rattle.queue_tree.specs.Calls.{schedulerOf, wellKept, ownRefusal}
-use Rattle.queue_tree.specs.declared.Tree.{Tree}
 use Rattle.queue_tree.specs.declared.TreeOpened.{TreeOpened}
 use Rattle.queue_tree.proofs.Scheduled.{treeWith}
 use Rattle.pair_trees.specs.Opening.{chipFault, openedChip}
