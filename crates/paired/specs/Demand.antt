@@ -1,8 +1,9 @@
 -- Demand 3 of paper 01 ("Both trees on one sheet"), with the disciplines of paper 02, 2.1: one statement about whole lists of calls, which mix pushes
 -- by path, pushes to a leaf and pops: `Demand3`. `proofs/Demand.antt` proves it.
 --
--- It speaks of the code by its contracts: an execution is any sequence of answers and trees that the contracts of the calls of the crates
--- `queue_tree` and `pair_chip` allow, and an answer of the search any that its contract allows, so that it holds of whatever the code does.
+-- It speaks of the code by its contracts: an execution is any sequence of answers and trees that the contracts of the calls on a tree by itself and
+-- on a chip's tree (`OwnServes`, `ChipServes`) allow, and an answer of the search any that its contract allows, so that it holds of whatever the
+-- code does.
 use mathlib.Core.Path.{_≡_}
 use mathlib.Core.Logic.{_↔_}
 use Prim.Native.Nat.{ℕ, _+_, _≤_, min}
