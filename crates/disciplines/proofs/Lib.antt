@@ -4,4 +4,5 @@ pub mod Steps
 pub mod Finishes
 pub mod Times
 pub mod Requests
+pub mod Below
 pub mod Examples

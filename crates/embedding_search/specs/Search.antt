@@ -11,6 +11,7 @@ use Rattle.queue_state.specs.State.{Packet}
 use Rattle.queue_state.specs.Opening.{limitFault, openedState}
 use Rattle.queue_state.specs.Calls.{Serves}
 use Rattle.queue_state.specs.Runs.{History, Execution}
+use Rattle.queue_state.specs.declared.State.{State}
 use Rattle.pair_step.specs.Step.{ServesCarried}
 use Rattle.pair_step.specs.Alike.{SeenAlike}
 use Rattle.embedding_search.specs.Outcomes.{outcome, numberOf}
@@ -33,7 +34,7 @@ pub record Simulated (source target : List ℕ) (r : Searched) : Type 0 where
   pub alike : (limit : ℕ) → limitFault limit ≡ 0
       → let x = openedState source limit .state in
       let y = openedState target limit .state in
-      (calls : List (Call Packet)) (vs ws : History) → Execution Serves x calls vs
+      (calls : List (Call Packet)) (vs ws : History State) → Execution Serves x calls vs
       → Execution (ServesCarried (tree source) (tree target) (images source r)) y calls ws
       → SeenAlike (tree source) (tree target) (images source r) limit calls x y vs ws
 

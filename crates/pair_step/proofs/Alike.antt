@@ -27,8 +27,8 @@ counts-machine : (s : State) → countsOf s ≡ counts (machine s)
 unfolding machine
 counts-machine s = refl
 
-module _ (server : Server Packet) (step : Transition (Call Packet)) (follows : AllFollow server step) where
-  seen-follow : (calls : List (Call Packet)) (s : State) (vs : History) → wellFormed s ≡ true → Execution step s calls vs
+module _ (server : Server Packet) (step : Transition State (Call Packet)) (follows : AllFollow server step) where
+  seen-follow : (calls : List (Call Packet)) (s : State) (vs : History State) → wellFormed s ≡ true → Execution step s calls vs
       → seenIn vs ≡ seenBy server (machine s) calls
   seen-follow [] s [] t run = refl
   seen-follow [] s (v ∷ vs) t run = absurd run
@@ -54,7 +54,7 @@ module _ (source target : List ℕ) (f : fault 32 source ≡ 0) (g : fault 64 ta
   pub both-alike : (m : List ℕ) → Passes (tree source) (tree target) m → limitFault limit ≡ 0
       → let x = openedState source limit .state in
       let y = openedState target limit .state in
-      (calls : List (Call Packet)) (vs ws : History) → Execution Serves x calls vs → Execution (ServesCarried (tree source) (tree target) m) y calls ws
+      (calls : List (Call Packet)) (vs ws : History State) → Execution Serves x calls vs → Execution (ServesCarried (tree source) (tree target) m) y calls ws
       → SeenAlike (tree source) (tree target) m limit calls x y vs ws
   both-alike m E fits calls vs ws v w =
       let S : Topo = tree source in

@@ -14,11 +14,11 @@ use Rattle.queue_state.specs.declared.State.{State}
 abbrev pub countsOf : State → ℕ × ℕ
 countsOf s = (held (treeOf s), s .refused)
 
-abbrev pub seenIn : History → List (Answer Packet × (ℕ × ℕ))
+abbrev pub seenIn : History State → List (Answer Packet × (ℕ × ℕ))
 seenIn vs = map (λ (v : Answer Packet × State). (v .0, countsOf (v .1))) vs
 
 -- Both trees were opened with one limit, as x and y, and a list of calls went to both, with the executions vs and ws.
-pub record SeenAlike (S T : Topo) (m : List ℕ) (limit : ℕ) (calls : List (Call Packet)) (x y : State) (vs ws : History) : Type 0 where
+pub record SeenAlike (S T : Topo) (m : List ℕ) (limit : ℕ) (calls : List (Call Packet)) (x y : State) (vs ws : History State) : Type 0 where
   -- the same is seen of both before the first call, and at every call and after it
   pub before : countsOf x ≡ countsOf y
   pub every : seenIn vs ≡ seenIn ws

@@ -18,11 +18,11 @@ use Rattle.queue_state.specs.declared.State.{State}
 
 -- A push goes on with its path carried over. For a path at fault in the drawing the answer is the fault's number, and the tree stays. So
 -- `serveCarried` of the crate `simulation` has it for machines.
-abbrev pub PushesCarried : ℕ → Transition (Call Packet)
+abbrev pub PushesCarried : ℕ → Transition State (Call Packet)
 PushesCarried zero t call b y = Serves t call b y
 PushesCarried (suc f) t call b y = (b ≡ refused (suc f)) × (y ≡ t)
 
-abbrev pub ServesCarried : Topo → Topo → List ℕ → Transition (Call Packet)
+abbrev pub ServesCarried : Topo → Topo → List ℕ → Transition State (Call Packet)
 ServesCarried S T m t (pushing ss l p) b y = PushesCarried (pathFault S ss) t (pushing (carry S T m ss) l p) b y
 ServesCarried S T m t popping b y = Serves t popping b y
 

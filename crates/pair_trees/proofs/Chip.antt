@@ -42,10 +42,6 @@ module _ (source m : List ℕ) (t : Tree) where
     pub kept : wellKept (tree source) t ≡ true
     pub mapped : listFault source (bytes (t .state)) m ≡ 0
 
-  pub chip-known : Known → chipRefusal source m t ≡ 0
-  unfolding chipRefusal
-  chip-known k = rw (k .drawing, k .kept, k .mapped) refl
-
   pub known-chip : chipRefusal source m t ≡ 0 → Known
   unfolding chipRefusal
   known-chip e =
@@ -57,6 +53,10 @@ module _ (source m : List ℕ) (t : Tree) where
           → (b ≡ true) × (listFault source (bytes (t .state)) m ≡ 0)
       by-test true q = (refl, q)
       by-test false q = absurd (omega arith)
+
+  pub chip-known : Known → chipRefusal source m t ≡ 0
+  unfolding chipRefusal
+  chip-known k = rw (k .drawing, k .kept, k .mapped) refl
 
 -- The tree after a call below has the drawing of its state and its rules, so it is refused by nothing.
 module _ (source m : List ℕ) (t : Tree) (e : chipRefusal source m t ≡ 0) where

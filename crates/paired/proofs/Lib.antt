@@ -1,3 +1,3 @@
-pub mod Sides
+pub mod Openings
 pub mod Demand
 pub mod Starred

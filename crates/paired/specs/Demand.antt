@@ -1,74 +1,82 @@
--- Demand 3 of paper 01 ("Both trees on one sheet"), one statement about whole lists of calls: `Demand3`. `proofs/Demand.antt` proves it.
+-- Demand 3 of paper 01 ("Both trees on one sheet"), with the disciplines of paper 02, 2.1: one statement about whole lists of calls, which mix pushes
+-- by path, pushes to a leaf and pops: `Demand3`. `proofs/Demand.antt` proves it.
 --
--- It speaks of the code by its contracts: an execution is any sequence of answers and states that the contracts of the queue tree's and
--- `translator`'s calls allow, and an answer of the search any that its contract allows, so that it holds of whatever the code does.
+-- It speaks of the code by its contracts: an execution is any sequence of answers and trees that the contracts of the calls on a tree by itself and
+-- on a chip's tree (`OwnServes`, `ChipServes`) allow, and an answer of the search any that its contract allows, so that it holds of whatever the
+-- code does.
 use mathlib.Core.Path.{_≡_}
-use mathlib.Core.Logic.{_≢_, _↔_}
+use mathlib.Core.Logic.{_↔_}
 use Prim.Native.Nat.{ℕ, _+_, _≤_, min}
 use mathlib.Core.List.{List, [], _∷_, map}
 use lib.ListN.{length}
 use Rattle.topology.specs.Tree.{Topo}
 use Rattle.topology.specs.Reader.{fault, tree}
 use Rattle.pifo.specs.Tree.{held}
-use Rattle.pifo.specs.Machine.{Call, popping, Answer, refused, numberOf as answerNumber, most, opened, serve, seenBy}
+use Rattle.pifo.specs.Machine.{popping, Answer, numberOf as answerNumber, most, opened}
 use Rattle.pifo.specs.Runs.{acceptedBy, departedBy, times}
 use Rattle.embedding_laws.specs.Rules.{Passes}
-use Rattle.simulation.specs.Sheet.{serveCarried}
 use Rattle.embedding_search.specs.Outcomes.{numberOf}
 use Rattle.embedding_search.specs.Search.{Searches, images}
 use Rattle.embedding_search.specs.declared.Searched.{Searched}
-use Rattle.queue_state.specs.State.{Packet, treeOf, wellFormed}
-use Rattle.queue_counts.specs.Amounts.{amount}
-use Rattle.queue_state.specs.Opening.{openedState}
-use Rattle.queue_state.specs.Calls.{Serves}
+use Rattle.queue_state.specs.State.{Packet, treeOf}
 use Rattle.queue_state.specs.Runs.{Transition, History, Execution}
-use Rattle.queue_state.specs.declared.State.{State}
 use Rattle.queue_push.specs.declared.Path.{Path}
+use Rattle.queue_counts.specs.Amounts.{amount}
 use Rattle.queue_counts.specs.declared.Amount.{Amount}
 use Rattle.queue_counts.specs.declared.Amount.the-variants.{Count}
-use Rattle.translator.specs.Carry.{Carries}
+use Rattle.disciplines.specs.Figure.{ruleFault, fresh}
+use Rattle.disciplines.specs.Scheduler.{Request as SchedulerRequest, calling, pushingTo, with, serveOwn, seenOver}
+use Rattle.disciplines.specs.declared.Rule.{Rule}
+use Rattle.disciplines.specs.declared.Disciplines.{Disciplines}
+use Rattle.queue_tree.specs.Opening.{openedTree}
+use Rattle.queue_tree.specs.Calls.{wellKept, drawing, OwnServes}
+use Rattle.queue_tree.specs.declared.Tree.{Tree}
+use Rattle.pair_schedule.specs.Chip.{serveChip}
+use Rattle.pair_trees.specs.Opening.{openedChip}
+use Rattle.pair_trees.specs.Calls.{ChipServes}
 use Rattle.translator.specs.Push.{pushAlong}
-use Rattle.translator.specs.declared.Carried.{Carried}
 
--- a call of the list: a push with a path as drawn and a packet, or a pop
+-- a call of the list: a push with a path as drawn and a packet; a push of a packet to a leaf of the drawing, with its class and its length; or a pop
 pub data Request : Type 0 where
   push : Path → Packet → Request
+  pushToLeaf : ℕ → ℕ → ℕ → Packet → Request
   pop : Request
 
--- the definition's call for it
-abbrev pub callOf : Request → Call Packet
-callOf (push path packet) = pushAlong path packet
-callOf pop = popping
+-- the definition's request for it
+abbrev pub requestOf : Request → SchedulerRequest Packet
+requestOf (push path packet) = calling (pushAlong path packet)
+requestOf (pushToLeaf leaf class len packet) = pushingTo leaf class len packet
+requestOf pop = calling popping
 
--- packets held and refusals counted, as `held` and `refusals` answer
+-- One call on the source's tree, and one on the chip's. The chip's gets a path carried over; where the path has a fault in the drawing, that number
+-- is the answer and the tree stays. Leaves and ranks go by the drawing on both sides.
+abbrev pub SourceCall : Transition Tree Request
+SourceCall t q a r = OwnServes t (requestOf q) a r
+
+abbrev pub ChipCall : List ℕ → List ℕ → Transition Tree Request
+ChipCall source m t q a r = ChipServes source m t (requestOf q) a r
+
+-- What is shown of a tree: packets held and refusals counted, as `held` and `refusals` answer; and what it keeps for disciplines, which are the rules,
+-- the virtual times and the finishes.
 abbrev pub Look : Type 0
-Look = Amount × Amount
+Look = (Amount × Amount) × Disciplines
 
-abbrev pub look : State → Look
-look s = (amount (wellFormed s) (held (treeOf s)), amount (wellFormed s) (s .refused))
+-- by the drawing S: the source's, for a chip's tree
+abbrev pub look : Topo → Tree → Look
+look S t = ((amount (wellKept S t) (held (treeOf (t .state))), amount (wellKept S t) (t .state .refused)), t .disciplines)
 
--- One call on the source's tree: it gets the path as drawn.
-abbrev pub SourceCall : Transition Request
-SourceCall s c a r = Serves s (callOf c) a r
+-- the source's tree by itself goes by its own drawing
+abbrev pub ownLook : Tree → Look
+ownLook t = look (drawing t) t
 
--- One call on the chip's tree: it gets the path carried over; where the carrying is refused, that number is the answer and the tree stays.
-pub record Passed (s : State) (c : Carried) (packet : Packet) (a : Answer Packet) (r : State) : Type 0 where
-  pub on : c .refusal ≡ 0 → Serves s (pushAlong (c .path) packet) a r
-  pub answered : c .refusal ≢ 0 → a ≡ refused (c .refusal)
-  pub stays : c .refusal ≢ 0 → r ≡ s
-
-abbrev pub ChipCall : List ℕ → List ℕ → List ℕ → Transition Request
-ChipCall source target m s (push path packet) a r = (c : Carried) × Carries source target m path c × Passed s c packet a r
-ChipCall source target m s pop a r = Serves s popping a r
-
--- what is shown of an execution: each answer, and the look at the state after it
-abbrev pub shown : History → List (Answer Packet × Look)
-shown vs = map (λ (v : Answer Packet × State). (v .0, look (v .1))) vs
+-- what is shown of an execution: each answer, and the look at the tree after it
+abbrev pub shown : (Tree → Look) → History Tree → List (Answer Packet × Look)
+shown looks vs = map (λ (v : Answer Packet × Tree). (v .0, looks (v .1))) vs
 
 -- What a look says, where i packets were accepted so far, o departed and f pushes were refused by 15: packets held are those accepted less
 -- those that departed, and refusals counted the pushes refused by 15, up to the largest count.
 abbrev pub Tally : ℕ → ℕ → ℕ → Look → Type 0
-Tally i o f v = (h : ℕ) × (h + o ≡ i) × (v ≡ (Count h, Count (min f most)))
+Tally i o f v = (h : ℕ) × (h + o ≡ i) × (v .0 ≡ (Count h, Count (min f most)))
 
 abbrev pub Tallied : ℕ → ℕ → ℕ → List (Answer Packet × Look) → Type 0
 Tallied i o f [] = Unit
@@ -78,38 +86,42 @@ Tallied i o f ((a, v) ∷ ls) =
     let g = f + times 15 (answerNumber a ∷ []) in
     Tally j p g v × Tallied j p g ls
 
--- what is seen of a machine, as it is shown of a tree
-abbrev pub lookOf : ℕ × ℕ → Look
-lookOf n = (Count (n .0), Count (n .1))
+-- what is seen of a scheduler, as it is shown of a tree
+abbrev pub lookOf : (ℕ × ℕ) × Disciplines → Look
+lookOf (n, d) = ((Count (n .0), Count (n .1)), d)
 
-abbrev pub shownBy : List (Answer Packet × (ℕ × ℕ)) → List (Answer Packet × Look)
-shownBy ls = map (λ (l : Answer Packet × (ℕ × ℕ)). (l .0, lookOf (l .1))) ls
+abbrev pub shownBy : List (Answer Packet × ((ℕ × ℕ) × Disciplines)) → List (Answer Packet × Look)
+shownBy ls = map (λ (l : Answer Packet × ((ℕ × ℕ) × Disciplines)). (l .0, lookOf (l .1))) ls
 
--- Both trees were opened empty with one limit, as the states x and y, and a list of calls went to both, with the executions vs and ws.
-pub record Alike (S T : Topo) (m : List ℕ) (limit : ℕ) (calls : List Request) (x y : State) (vs ws : History) : Type 0 where
-  -- alike before the first call, in packets held and refusals counted
-  pub before : look x ≡ look y
+-- Both trees were opened empty with one limit and the same rules, as x and y, and a list of calls went to both, with the executions vs and ws.
+pub record Alike (S T : Topo) (m : List ℕ) (limit : ℕ) (rules : List Rule) (calls : List Request) (x y : Tree) (vs ws : History Tree) : Type 0 where
+  -- alike before the first call, in packets held, refusals counted and what is kept for disciplines
+  pub before : ownLook x ≡ look S y
   -- alike at every call, in the answer (accepted, departed with its packet, refused with its number, full with the new count), and after it
-  pub every : shown vs ≡ shown ws
+  pub every : shown ownLook vs ≡ shown (look S) ws
   -- what the two counts are
-  pub empty : Tally 0 0 0 (look x)
-  pub tallied : Tallied 0 0 0 (shown vs)
-  -- each tree answers and counts as its topology, the limit and the calls so far give
-  pub source : shown vs ≡ shownBy (seenBy serve (opened S limit) (map callOf calls))
-  pub chip : shown ws ≡ shownBy (seenBy (serveCarried S T m) (opened T limit) (map callOf calls))
+  pub empty : Tally 0 0 0 (ownLook x)
+  pub tallied : Tallied 0 0 0 (shown ownLook vs)
+  -- each tree answers, counts and keeps what its topology, the limit, the rules and the calls so far give
+  pub source : shown ownLook vs ≡ shownBy (seenOver serveOwn (with (opened S limit) (fresh rules)) (map requestOf calls))
+  pub chip : shown (look S) ws ≡ shownBy (seenOver (serveChip S T m) (with (opened T limit) (fresh rules)) (map requestOf calls))
 
 pub record Demand3 : Type 0 where
-  -- Any source and target with none of the faults, any map that meets the rules, any limit, and any list of calls: the two trees are alike.
-  pub alike : (source target m : List ℕ) (limit : ℕ) → fault 32 source ≡ 0 → fault 64 target ≡ 0 → Passes (tree source) (tree target) m
-      → 1 ≤ limit → limit ≤ 256
-      → let x = openedState source limit .state in
-      let y = openedState target limit .state in
-      (calls : List Request) (vs ws : History) → Execution SourceCall x calls vs → Execution (ChipCall source target m) y calls ws
-      → Alike (tree source) (tree target) m limit calls x y vs ws
-  -- There are such executions of every list of calls, from every state on, and there is an answer of the search.
-  pub source-executes : (s : State) (calls : List Request) → (vs : History) × Execution SourceCall s calls vs
-  pub chip-executes : (source target m : List ℕ) (t : State) (calls : List Request)
-      → (ws : History) × Execution (ChipCall source target m) t calls ws
+  -- Any source and target with none of the faults, any map that meets the rules, any limit, any rules without fault 24 in the source, and any list
+  -- of calls: the two trees are alike.
+  pub alike : (source target m : List ℕ) (limit : ℕ) (rules : List Rule) → fault 32 source ≡ 0 → fault 64 target ≡ 0
+      → Passes (tree source) (tree target) m → 1 ≤ limit → limit ≤ 256 → ruleFault (tree source) rules ≡ 0
+      → let x = openedTree source limit rules .tree in
+      let y = openedChip source target limit rules .tree in
+      (calls : List Request) (vs ws : History Tree) → Execution SourceCall x calls vs → Execution (ChipCall source m) y calls ws
+      → Alike (tree source) (tree target) m limit rules calls x y vs ws
+  -- Neither opening is refused then.
+  pub opens : (source target : List ℕ) (limit : ℕ) (rules : List Rule) → fault 32 source ≡ 0 → fault 64 target ≡ 0
+      → 1 ≤ limit → limit ≤ 256 → ruleFault (tree source) rules ≡ 0
+      → (openedTree source limit rules .refusal ≡ 0) × (openedChip source target limit rules .refusal ≡ 0)
+  -- There are such executions of every list of calls, from every tree on, and there is an answer of the search.
+  pub source-executes : (t : Tree) (calls : List Request) → (vs : History Tree) × Execution SourceCall t calls vs
+  pub chip-executes : (source m : List ℕ) (t : Tree) (calls : List Request) → (ws : History Tree) × Execution (ChipCall source m) t calls ws
   pub searches : (source target : List ℕ) → (r : Searched) × Searches source target r
   -- The search's half: whatever it answers, that is 12 exactly when every list of numbers fails as the map of the pair.
   pub twelve : (source target : List ℕ) → fault 32 source ≡ 0 → fault 64 target ≡ 0 → (r : Searched) → Searches source target r

@@ -112,8 +112,8 @@ serves-some s call = by-form (wellFormed s) refl call
 
 -- ---- lists of calls
 
-module _ {C : Type 0} (step : Transition C) (step-some : (s : State) (c : C) → (a : Answer Packet) × (r : State) × step s c a r) where
-  pub execution-some : (s : State) (calls : List C) → (vs : History) × Execution step s calls vs
+module _ {S C : Type 0} (step : Transition S C) (step-some : (s : S) (c : C) → (a : Answer Packet) × (r : S) × step s c a r) where
+  pub execution-some : (s : S) (calls : List C) → (vs : History S) × Execution step s calls vs
   execution-some s [] = ([], tt)
   execution-some s (c ∷ cs) =
       let first = step-some s c in

@@ -15,15 +15,15 @@ pub record Follows (server : Server Packet) (s : State) (call : Call Packet) (a 
   pub formed : wellFormed r ≡ true
 
 -- so it is from every well-formed state
-abbrev pub AllFollow : Server Packet → Transition (Call Packet) → Type 0
+abbrev pub AllFollow : Server Packet → Transition State (Call Packet) → Type 0
 AllFollow server step =
     (s : State) (call : Call Packet) (a : Answer Packet) (r : State) → wellFormed s ≡ true → step s call a r → Follows server s call a r
 
 pub serves-follows : AllFollow serve Serves
 serves-follows s call a r t v = record { answer = v .answer t; machine = v .machine t; formed = v .formed t }
 
-module _ (server : Server Packet) (step : Transition (Call Packet)) (follows : AllFollow server step) where
-  pub answers-follow : (calls : List (Call Packet)) (s : State) (vs : History) → wellFormed s ≡ true → Execution step s calls vs
+module _ (server : Server Packet) (step : Transition State (Call Packet)) (follows : AllFollow server step) where
+  pub answers-follow : (calls : List (Call Packet)) (s : State) (vs : History State) → wellFormed s ≡ true → Execution step s calls vs
       → answersIn vs ≡ answersBy server (machine s) calls
   answers-follow [] s [] t run = refl
   answers-follow [] s (v ∷ vs) t run = absurd run
@@ -34,7 +34,7 @@ module _ (server : Server Packet) (step : Transition (Call Packet)) (follows : A
       let others = answers-follow cs r vs (f .formed) rest ∙ ap (λ (q : Machine Packet). answersBy server q cs) (f .machine) in
       λ k. answer k ∷ others k
 
-  pub last-follows : (calls : List (Call Packet)) (s : State) (vs : History) → wellFormed s ≡ true → Execution step s calls vs
+  pub last-follows : (calls : List (Call Packet)) (s : State) (vs : History State) → wellFormed s ≡ true → Execution step s calls vs
       → (wellFormed (lastState s vs) ≡ true) × (machine (lastState s vs) ≡ afterBy server (machine s) calls)
   last-follows [] s [] t run = (t, refl)
   last-follows [] s (v ∷ vs) t run = absurd run
@@ -45,9 +45,9 @@ module _ (server : Server Packet) (step : Transition (Call Packet)) (follows : A
       (last .0, last .1 ∙ ap (λ (q : Machine Packet). afterBy server q cs) (f .machine))
 
 -- the execution of the same calls under other names
-module _ {C D : Type 0} (name : C → D) (step : Transition C) (other : Transition D)
-    (same : (s : State) (c : C) (a : Answer Packet) (r : State) → step s c a r → other s (name c) a r) where
-  pub execution-as : (calls : List C) (s : State) (vs : History) → Execution step s calls vs → Execution other s (map name calls) vs
+module _ {S C D : Type 0} (name : C → D) (step : Transition S C) (other : Transition S D)
+    (same : (s : S) (c : C) (a : Answer Packet) (r : S) → step s c a r → other s (name c) a r) where
+  pub execution-as : (calls : List C) (s : S) (vs : History S) → Execution step s calls vs → Execution other s (map name calls) vs
   execution-as [] s [] run = tt
   execution-as [] s (v ∷ vs) run = absurd run
   execution-as (c ∷ cs) s [] run = absurd run

@@ -48,7 +48,7 @@ tells s call (full n c) r f =
     let u = subst (λ (a : Answer Packet). Unmoved (machine s) a (serve (machine s) call .1)) (sym (f .answer)) (unmoved (machine s) call) in
     sym (ap (λ (q : Machine Packet). q .refusals) (f .machine ∙ u .1))
 
-each-sound : (calls : List (Call Packet)) (s : State) (vs : History) → wellFormed s ≡ true → Execution Serves s calls vs → EachSound vs
+each-sound : (calls : List (Call Packet)) (s : State) (vs : History State) → wellFormed s ≡ true → Execution Serves s calls vs → EachSound vs
 each-sound [] s [] t run = tt
 each-sound [] s (v ∷ vs) t run = absurd run
 each-sound (c ∷ cs) s [] t run = absurd run
@@ -59,7 +59,7 @@ each-sound (c ∷ cs) s ((a, r) ∷ vs) t (call, rest) =
 -- ---- from an opening on
 
 conserves : (bytes : List ℕ) (limit : ℕ) → openFault bytes limit ≡ 0 → let s = openedState bytes limit .state in
-    (calls : List (Call Packet)) (vs : History) → Execution Serves s calls vs → Conserves s calls vs
+    (calls : List (Call Packet)) (vs : History State) → Execution Serves s calls vs → Conserves s calls vs
 unfolding machine
 conserves bytes limit e calls vs v =
     let s = openedState bytes limit .state in
@@ -85,7 +85,7 @@ conserves bytes limit e calls vs v =
 
 -- ---- as many pops as packets
 
-drains : (s : State) → wellFormed s ≡ true → (vs : History)
+drains : (s : State) → wellFormed s ≡ true → (vs : History State)
     → Execution Serves s (replicate (held (treeOf s)) popping) vs → Drains s vs
 unfolding machine
 drains s t vs v =

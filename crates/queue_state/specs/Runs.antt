@@ -13,27 +13,28 @@ use Rattle.queue_state.specs.Opening.{openFault, openedState}
 use Rattle.queue_state.specs.Calls.{Serves}
 use Rattle.queue_state.specs.declared.State.{State}
 
--- What a call may do: from a state, for a call, an answer and the state after it. `Serves` is one.
-abbrev pub Transition : Type 0 → Type 1
-Transition C = State → C → Answer Packet → State → Type 0
+-- What a call may do: from a state, for a call, an answer and the state after it. `Serves` is one. States are of any type: the crate `queue_tree`
+-- has trees for them.
+abbrev pub Transition : Type 0 → Type 0 → Type 1
+Transition S C = S → C → Answer Packet → S → Type 0
 
 -- to each call of a list its answer and the state after it
-abbrev pub History : Type 0
-History = List (Answer Packet × State)
+abbrev pub History : Type 0 → Type 0
+History S = List (Answer Packet × S)
 
 -- An execution of a list of calls from a state on, each on the state that the call before it left.
-abbrev pub Execution : {C : Type 0} → Transition C → State → List C → History → Type 0
+abbrev pub Execution : {S C : Type 0} → Transition S C → S → List C → History S → Type 0
 Execution step s [] [] = Unit
 Execution step s [] (v ∷ vs) = ⊥
 Execution step s (c ∷ cs) [] = ⊥
 Execution step s (c ∷ cs) ((a, r) ∷ vs) = step s c a r × Execution step r cs vs
 
 -- its answers, and the state after its last call
-abbrev pub answersIn : History → List (Answer Packet)
+abbrev pub answersIn : History State → List (Answer Packet)
 answersIn [] = []
 answersIn ((a, r) ∷ vs) = a ∷ answersIn vs
 
-abbrev pub lastState : State → History → State
+abbrev pub lastState : State → History State → State
 lastState s [] = s
 lastState s ((a, r) ∷ vs) = lastState r vs
 
@@ -45,12 +46,12 @@ Tells (refused n) r = Unit
 Tells (full n c) r = c ≡ r .refused
 
 -- Each state after a call is well formed, and what the answer says of it is so.
-abbrev pub EachSound : History → Type 0
+abbrev pub EachSound : History State → Type 0
 EachSound [] = Unit
 EachSound ((a, r) ∷ vs) = (wellFormed r ≡ true) × Tells a r × EachSound vs
 
 -- What holds of a list of calls from an opening on, as the state s, for their answers and the states after them.
-pub record Conserves (s : State) (calls : List (Call Packet)) (vs : History) : Type 0 where
+pub record Conserves (s : State) (calls : List (Call Packet)) (vs : History State) : Type 0 where
   -- the state opened and each after it is well formed, no call is refused by 18, and no count in an answer is invented
   pub opened : wellFormed s ≡ true
   pub each : EachSound vs
@@ -64,7 +65,7 @@ pub record Conserves (s : State) (calls : List (Call Packet)) (vs : History) : T
   pub refusals : lastState s vs .refused ≡ min (times 15 (map numberOf (answersIn vs))) most
 
 -- What holds of as many pops as a state s holds packets.
-pub record Drains (s : State) (vs : History) : Type 0 where
+pub record Drains (s : State) (vs : History State) : Type 0 where
   -- every pop hands out a packet, and together these are the packets that s held
   pub each : answersIn vs ≡ map departed (departures (answersIn vs))
   pub contents : List·Permᴰ (departures (answersIn vs)) (packets (treeOf s))
@@ -76,9 +77,9 @@ pub record Drains (s : State) (vs : History) : Type 0 where
 pub record Demand2 : Type 0 where
   -- from every opening that is not refused, over every list of calls
   pub conserves : (bytes : List ℕ) (limit : ℕ) → openFault bytes limit ≡ 0 → let s = openedState bytes limit .state in
-      (calls : List (Call Packet)) (vs : History) → Execution Serves s calls vs → Conserves s calls vs
+      (calls : List (Call Packet)) (vs : History State) → Execution Serves s calls vs → Conserves s calls vs
   -- from every well-formed state, with as many pops as it holds packets
-  pub drains : (s : State) → wellFormed s ≡ true → (vs : History)
+  pub drains : (s : State) → wellFormed s ≡ true → (vs : History State)
       → Execution Serves s (replicate (held (treeOf s)) popping) vs → Drains s vs
   -- and every list of calls has an execution, from every state on
-  pub executes : (s : State) (calls : List (Call Packet)) → (vs : History) × Execution Serves s calls vs
+  pub executes : (s : State) (calls : List (Call Packet)) → (vs : History State) × Execution Serves s calls vs

@@ -50,7 +50,8 @@ use Rattle.tree_counts.specs.Sound.{SoundIn}
 use Rattle.tree_counts.proofs.Testing.{exact}
 use Rattle.queue_tree.specs.declared.Tree.{Tree}
 use Rattle.queue_tree.proofs.Scheduled.{treeWith, Below, learnt, ill-scheduled, called, no-leaf, late, taken, not-taken}
-use Rattle.queue_tree.proofs.Below.{push-learnt, below-of, same-drawing, refused-accepted}
+use Rattle.queue_tree.proofs.Below.{push-learnt, below-of, refused-accepted}
+use Rattle.queue_tree.proofs.Own.{own-ill, own-kept, own-is, own-after}
 
 module _ (t : Tree) where
   abbrev s : State
@@ -62,24 +63,6 @@ module _ (t : Tree) where
   abbrev S : Topo
   S = tree (bytes s)
 
-  own-ill : wellFormed s ≡ false → ownRefusal t ≡ 18
-  unfolding ownRefusal wellKept
-  own-ill f = rw f refl
-
-  own-kept : wellFormed s ≡ true → (b : Bool) → eqb (ruleFault S (d .rules)) 0 ≡ b → ownRefusal t ≡ pick b 0 18
-  unfolding ownRefusal wellKept
-  own-kept w b e = rw (w, e) refl
-
-  own-is : (q : Request Packet) → serveOwn (schedulerOf t) q ≡ serveBy S serve rankAt (schedulerOf t) q
-  unfolding machine
-  own-is q = refl
-
-  -- the tree after a call on its state, with the rules that it had
-  own-after : (c : Call Packet) (a : Answer Packet) (r : State) (after : Disciplines) → wellFormed s ≡ true → Serves s c a r
-      → eqb (ruleFault S (d .rules)) 0 ≡ true → after .rules ≡ d .rules → ownRefusal (treeWith r after) ≡ 0
-  unfolding ownRefusal wellKept
-  own-after c a r after w v e k = rw (v .formed w, same-drawing s c a r w v, k, e) refl
-
   -- the code's test of the rules
   module _ (b : Bool) (z : SoundIn (s .frame .topology) (s .frame .nodes) (d .rules) b) where
     -- refused by 18: the rules have a fault, or the state has one
@@ -87,15 +70,15 @@ module _ (t : Tree) where
     unsound f q = by-form (wellFormed s) refl
       where
         by-form : (w : Bool) → wellFormed s ≡ w → OwnServes t q (refused 18) t
-        by-form false n = ill-scheduled ownRefusal serveOwn t q 18 (own-ill n) (λ e. omega arith)
-        by-form true y = ill-scheduled ownRefusal serveOwn t q 18 (own-kept y false (sym (exact t b z y) ∙ f)) (λ e. omega arith)
+        by-form false n = ill-scheduled ownRefusal serveOwn t q 18 (own-ill t n) (λ e. omega arith)
+        by-form true y = ill-scheduled ownRefusal serveOwn t q 18 (own-kept t y false (sym (exact t b z y) ∙ f)) (λ e. omega arith)
 
     module _ (yes : b ≡ true) where
       rules-sound : wellFormed s ≡ true → eqb (ruleFault S (d .rules)) 0 ≡ true
       rules-sound w = sym (exact t b z w) ∙ yes
 
       own-ok : wellFormed s ≡ true → ownRefusal t ≡ 0
-      own-ok w = own-kept w true (rules-sound w)
+      own-ok w = own-kept t w true (rules-sound w)
 
       -- a call on a state that is not well formed
       ill-call : (q : Request Packet) (c : Call Packet) (a : Answer Packet) (r : State) (after : Disciplines) → wellFormed s ≡ false → Serves s c a r
@@ -103,7 +86,7 @@ module _ (t : Tree) where
       ill-call q c a r after n v k =
           let answer = v .ill n in
           let same : treeWith r after ≡ t = λ i. treeWith (v .kept 18 answer i) (k i) in
-          rw (answer, same) (ill-scheduled ownRefusal serveOwn t q 18 (own-ill n) (λ e. omega arith))
+          rw (answer, same) (ill-scheduled ownRefusal serveOwn t q 18 (own-ill t n) (λ e. omega arith))
 
       -- a push by path
       pub by-path : (ss : List Step) (l : Rank) (p : Packet) (a : Answer Packet) (r : State) → Serves s (pushing ss l p) a r
@@ -116,9 +99,9 @@ module _ (t : Tree) where
           by-form : (w : Bool) → wellFormed s ≡ w → OwnServes t (calling c) a (treeWith r d)
           by-form false n = ill-call (calling c) c a r d n v refl
           by-form true y =
-              called S serve rankAt ownRefusal serveOwn t (own-ok y) own-is c a r d (below-of s c a r y v)
+              called S serve rankAt ownRefusal serveOwn t (own-ok y) (own-is t) c a r d (below-of s c a r y v)
               (sym (ap (learnt S d (rankAt (machine s))) (v .answer y) ∙ push-learnt S d (rankAt (machine s)) (machine s) ss l p))
-              (own-after c a r d y v (rules-sound y) refl)
+              (own-after t c a r d y v (rules-sound y) refl)
 
       -- a pop, which hands back its way
       pub by-pop : length (s .frame .topology) ≡ 64 → (a : Answer Packet) (r : State) (way : Way) (images : List ℕ) (after : Disciplines)
@@ -142,9 +125,9 @@ module _ (t : Tree) where
           by-form : (w : Bool) → wellFormed s ≡ w → OwnServes t (calling popping) a (treeWith r after)
           by-form false n = ill-call (calling popping) popping a r after n v (k ∙ clock-ill s d (s .frame .nodes) ownImages n)
           by-form true y =
-              called S serve rankAt ownRefusal serveOwn t (own-ok y) own-is popping a r after (below-of s popping a r y v)
+              called S serve rankAt ownRefusal serveOwn t (own-ok y) (own-is t) popping a r after (below-of s popping a r y v)
               (learns y (pop (treeOf s)) refl ∙ ap (learnt S d (rankAt (machine s))) (sym (v .answer y)))
-              (own-after popping a r after y v (rules-sound y) (ap (λ (x : Disciplines). x .rules) k))
+              (own-after t popping a r after y v (rules-sound y) (ap (λ (x : Disciplines). x .rules) k))
 
       -- a push to a leaf
       module _ (leaf class len : ℕ) (p : Packet) where
@@ -155,9 +138,9 @@ module _ (t : Tree) where
         not-a-leaf l e f = by-form (wellFormed s) refl
           where
             by-form : (w : Bool) → wellFormed s ≡ w → OwnServes t q (refused (pick w 25 18)) t
-            by-form false n = ill-scheduled ownRefusal serveOwn t q 18 (own-ill n) (λ e. omega arith)
+            by-form false n = ill-scheduled ownRefusal serveOwn t q 18 (own-ill t n) (λ e. omega arith)
             by-form true y =
-                no-leaf S serve rankAt ownRefusal serveOwn t (own-ok y) own-is leaf class len p (sym (e (formed s y .valid)) ∙ f)
+                no-leaf S serve rankAt ownRefusal serveOwn t (own-ok y) (own-is t) leaf class len p (sym (e (formed s y .valid)) ∙ f)
 
         module _ (l : Bool) (is : fault 64 (bytes s) ≡ 0 → l ≡ isLeaf S leaf) (here : l ≡ true) (plan : Plan)
             (planned : fault 64 (bytes s) ≡ 0 → isLeaf S leaf ≡ true → Planned S d leaf class len plan)
@@ -189,7 +172,7 @@ module _ (t : Tree) where
           pub leaf-late : (h : ℕ) → a ≡ accepted h → plan .fits ≡ false → OwnServes t q (refused 23) t
           leaf-late h e f =
               let w = taken-formed h e in
-              late S serve rankAt ownRefusal serveOwn t (own-ok w) own-is leaf class len p (at-leaf w) a r (below w) h e
+              late S serve rankAt ownRefusal serveOwn t (own-ok w) (own-is t) leaf class len p (at-leaf w) a r (below w) h e
               (sym (the-plan w .fits) ∙ f)
 
           pub leaf-taken : (h : ℕ) → a ≡ accepted h → plan .fits ≡ true → (after : Disciplines)
@@ -197,9 +180,9 @@ module _ (t : Tree) where
           leaf-taken h e f after k =
               let w = taken-formed h e in
               let whole = k ∙ ap (λ (fs : List Rank). record { rules = d .rules; «virtual_time» = d .«virtual_time»; finish = fs }) (the-plan w .finish f) in
-              taken S serve rankAt ownRefusal serveOwn t (own-ok w) own-is leaf class len p (at-leaf w) a r (below w) h e
+              taken S serve rankAt ownRefusal serveOwn t (own-ok w) (own-is t) leaf class len p (at-leaf w) a r (below w) h e
               (sym (the-plan w .fits) ∙ f) after whole
-              (own-after (c w) a r after w (as-planned w) (rules-sound w) (ap (λ (x : Disciplines). x .rules) k))
+              (own-after t (c w) a r after w (as-planned w) (rules-sound w) (ap (λ (x : Disciplines). x .rules) k))
 
           pub leaf-rest : ((h : ℕ) → a ≡ accepted h → ⊥) → OwnServes t q a (treeWith r d)
           leaf-rest n = by-form (wellFormed s) refl
@@ -207,5 +190,5 @@ module _ (t : Tree) where
               by-form : (w : Bool) → wellFormed s ≡ w → OwnServes t q a (treeWith r d)
               by-form false i = ill-call q (pushing (stepsOf (plan .path)) (plan .path .«leaf_rank») p) a r d i v refl
               by-form true w =
-                  not-taken S serve rankAt ownRefusal serveOwn t (own-ok w) own-is leaf class len p (at-leaf w) a r (below w) n
-                  (own-after (c w) a r d w (as-planned w) (rules-sound w) refl)
+                  not-taken S serve rankAt ownRefusal serveOwn t (own-ok w) (own-is t) leaf class len p (at-leaf w) a r (below w) n
+                  (own-after t (c w) a r d w (as-planned w) (rules-sound w) refl)
