@@ -1,5 +1,5 @@
 -- What `map_fault` answers: the map's number, or what comes after it.
-use mathlib.Core.Path.{_≡_, refl, sym, ap, _∙_}
+use mathlib.Core.Path.{_≡_, refl, sym, _∙_}
 use Prim.Native.Nat.{ℕ, zero, suc}
 use mathlib.Core.List.{List}
 use Rattle.topology.specs.Reader.{orElse}

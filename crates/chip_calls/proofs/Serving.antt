@@ -2,24 +2,20 @@
 -- or served: the call below goes with its path carried over, and disciplines go by the drawing (`ChipServes`).
 use mathlib.Core.Path.{_≡_, refl, sym, ap, _∙_, subst}
 use mathlib.Core.Logic.{_≢_}
-use Prim.Native.Nat.{ℕ, zero, suc, _≤_, _<_}
+use Prim.Native.Nat.{ℕ, zero, suc}
 use native.Mathlib.Omega.{arith}
 use mathlib.Core.List.{List, []}
-use mathlib.Core.Bool.{Bool, true, false, _&&_}
+use mathlib.Core.Bool.{Bool, true, false}
 use mathlib.Core.Option.{Option, none, some}
-use lib.ListN.{length, getD}
-use lib.Dec.{eqb, leb}
-use borrow.Author.Tests.{leb-true, le-leb}
-use Rattle.topology.specs.Tree.{Topo, size}
+use lib.ListN.{length}
+use Rattle.topology.specs.Tree.{Topo}
 use Rattle.topology.specs.Address.{addr}
 use Rattle.topology.specs.Reader.{pick, orElse, fault, tree}
 use Rattle.topology.proofs.Lookup.{valid-size}
 use Rattle.topology.proofs.Reader.{fault-wider}
-use Rattle.topology.proofs.Refusals.{orElse-none}
 use Rattle.pifo.specs.Queue.{Rank}
 use Rattle.pifo.specs.Tree.{Step, pathFault, PTree, pop}
-use Rattle.pifo.specs.Machine.{Machine, Call, pushing, popping, Answer, accepted, refused, servePop}
-use Rattle.pifo.proofs.Order.{both}
+use Rattle.pifo.specs.Machine.{Call, pushing, popping, Answer, accepted, refused, servePop}
 use Rattle.embedding_laws.specs.Check.{listFault, mapFault}
 use Rattle.embedding_laws.specs.Rules.{image, Passes}
 use Rattle.embedding_laws.proofs.Rules.{mapFault-none}
@@ -28,12 +24,12 @@ use Rattle.simulation.specs.Sheet.{pushCarried, serveCarried}
 use Rattle.queue_state.specs.State.{Packet, bytes, treeOf, machine, wellFormed}
 use Rattle.queue_state.specs.Calls.{Serves}
 use Rattle.queue_state.specs.declared.State.{State}
-use Rattle.queue_state.proofs.Formed.{off, formed}
+use Rattle.queue_state.proofs.Formed.{formed}
 use Rattle.queue_push.specs.Calls.{stepsOf}
 use Rattle.queue_push.specs.declared.Path.{Path}
 use Rattle.queue_pop.specs.Ways.{wayOf}
 use Rattle.queue_pop.specs.declared.Way.{Way}
-use Rattle.disciplines.specs.Figure.{kindAt, rankBy, stepsDown, ruleFault}
+use Rattle.disciplines.specs.Figure.{kindAt, rankBy, stepsDown}
 use Rattle.disciplines.specs.Scheduler.{Request, calling, pushingTo, isLeaf}
 use Rattle.disciplines.specs.declared.Disciplines.{Disciplines}
 use Rattle.disciplines.proofs.Steps.{steps-valid}
@@ -43,21 +39,19 @@ use Rattle.discipline_clock.proofs.Idle.{clock-ill, clock-idle}
 use Rattle.discipline_path.specs.Plans.{Planned}
 use Rattle.discipline_path.specs.declared.Plan.{Plan}
 use Rattle.discipline_path.proofs.Calls.{planned-call}
-use Rattle.queue_tree.specs.Calls.{wellKept}
-use Rattle.queue_tree.specs.declared.Tree.{Tree}
-use Rattle.queue_tree.proofs.Scheduled.{treeWith, learnt, ill-scheduled, called, no-leaf, late, taken, not-taken}
-use Rattle.queue_tree.proofs.Below.{push-learnt, refused-accepted}
+use Rattle.tree_state.specs.declared.Tree.{Tree}
+use Rattle.tree_state.proofs.Scheduled.{treeWith, learnt, ill-scheduled, called, no-leaf, late, taken, not-taken}
+use Rattle.tree_state.proofs.Below.{push-learnt, refused-accepted}
 use Rattle.pair_step.specs.Step.{ServesCarried}
 use Rattle.pair_step.proofs.Step.{carried-follows}
 use Rattle.pair_schedule.specs.Chip.{imageRank}
 use Rattle.translator.specs.Carry.{carryFault, Carries}
 use Rattle.translator.specs.Push.{pushAlong}
 use Rattle.translator.specs.declared.Carried.{Carried}
-use Rattle.translator.proofs.Faults.{carry-path}
 use Rattle.translator.proofs.Outcome.{carry-none}
 use Rattle.translator.proofs.Pushing.{carried-serves, refused-serves}
-use Rattle.pair_trees.specs.Calls.{chipRefusal, serveMapped, ChipServes}
-use Rattle.pair_trees.proofs.Chip.{chip-known, chip-after, below-carried, carried-drawing, chip-is}
+use Rattle.chip_state.specs.Calls.{chipRefusal, serveMapped, ChipServes}
+use Rattle.chip_state.proofs.Chip.{chip-after, below-carried, carried-drawing, chip-is}
 use Rattle.chip_counts.specs.First.{firstFault}
 use Rattle.chip_counts.proofs.First.{not-formed, first-number, drawing-valid, kept-formed}
 

@@ -10,8 +10,8 @@ use queue_counts::refused;
 use queue_push::Path;
 use queue_state::Answer;
 use queue_state::Packet;
-use queue_tree::Tree;
-use queue_tree::TreeServed;
+use tree_state::Tree;
+use tree_state::TreeServed;
 ghost use mathlib.Core.Path.{_≡_};
 ghost use Rattle.topology.specs.Reader.{orElse};
 ghost use Rattle.pifo.specs.Machine.{pushing, popping};
@@ -19,7 +19,7 @@ ghost use Rattle.embedding_laws.specs.Check.{mapFault};
 ghost use Rattle.queue_state.specs.Calls.{answerOf};
 ghost use Rattle.queue_push.specs.Calls.{stepsOf};
 ghost use Rattle.disciplines.specs.Scheduler.{calling, pushingTo};
-ghost use Rattle.pair_trees.specs.Calls.{ChipServes};
+ghost use Rattle.chip_state.specs.Calls.{ChipServes};
 
 // The number by which a map is refused, or what comes after it where the map passes.
 fn map_fault(source: &[u8], target: &[u8], map: &[u8], after: u8) -> u8

@@ -4,13 +4,12 @@ use mathlib.Core.Logic.{_≢_}
 use Prim.Native.Nat.{ℕ, zero, suc}
 use mathlib.Core.List.{List}
 use mathlib.Core.Bool.{Bool, true, false}
-use Rattle.topology.specs.Reader.{pick, orElse, fault, tree}
+use Rattle.topology.specs.Reader.{pick}
 use Rattle.queue_state.specs.State.{wellFormed}
 use Rattle.queue_counts.specs.Amounts.{amount}
 use Rattle.queue_counts.specs.declared.Amount.{Amount}
 use Rattle.queue_counts.specs.declared.Amount.the-variants.{Refused}
-use Rattle.queue_tree.specs.Calls.{wellKept}
-use Rattle.queue_tree.specs.declared.Tree.{Tree}
+use Rattle.tree_state.specs.declared.Tree.{Tree}
 use Rattle.chip_counts.specs.Counts.{amountBy, chipAmount}
 use Rattle.chip_counts.specs.First.{firstFault}
 use Rattle.chip_counts.proofs.First.{first-number, kept-formed, drawing-valid}

@@ -19,8 +19,8 @@ use Rattle.queue_state.specs.State.{wellFormed}
 use Rattle.queue_state.proofs.Formed.{formed}
 use Rattle.disciplines.specs.Figure.{ruleFault}
 use Rattle.disciplines.specs.declared.Rule.{Rule}
-use Rattle.queue_tree.specs.Calls.{wellKept}
-use Rattle.queue_tree.specs.declared.Tree.{Tree}
+use Rattle.tree_state.specs.Calls.{wellKept}
+use Rattle.tree_state.specs.declared.Tree.{Tree}
 use Rattle.chip_counts.specs.First.{firstFault}
 
 -- ---- what `first_fault` answers

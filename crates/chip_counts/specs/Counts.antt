@@ -4,8 +4,8 @@ use mathlib.Core.List.{List}
 use Rattle.topology.specs.Reader.{pick, orElse, fault, tree}
 use Rattle.queue_counts.specs.declared.Amount.{Amount}
 use Rattle.queue_counts.specs.declared.Amount.the-variants.{Count, Refused}
-use Rattle.queue_tree.specs.Calls.{wellKept}
-use Rattle.queue_tree.specs.declared.Tree.{Tree}
+use Rattle.tree_state.specs.Calls.{wellKept}
+use Rattle.tree_state.specs.declared.Tree.{Tree}
 
 abbrev pub amountBy : ℕ → ℕ → Amount
 amountBy zero n = Count n

@@ -2,10 +2,10 @@
 use discipline_check::fault;
 use disciplines::Rule;
 use queue_counts::Amount;
-use queue_tree::Tree;
 use topology::Reading;
 use topology::SOURCE_NODES;
 use topology::read;
+use tree_state::Tree;
 ghost use mathlib.Core.Path.{_≡_};
 ghost use Rattle.pifo.specs.Tree.{held};
 ghost use Rattle.queue_state.specs.State.{treeOf};

@@ -14,7 +14,7 @@ use Rattle.topology.proofs.Refusals.{orElse-first}
 use Rattle.queue_state.specs.Opening.{openFault}
 use Rattle.disciplines.specs.Figure.{ruleFault}
 use Rattle.disciplines.specs.declared.Rule.{Rule}
-use Rattle.pair_trees.specs.Opening.{chipFault}
+use Rattle.chip_state.specs.Opening.{chipFault}
 use Rattle.chip_open.specs.Opening.{mapBy}
 
 pub no-map : (n : ℕ) (m : List ℕ) → n ≢ 0 → replicate 32 0 ≡ mapBy n m

@@ -6,19 +6,17 @@ use native.Mathlib.Omega.{arith}
 use mathlib.Core.List.{List}
 use Rattle.topology.specs.Reader.{orElse, fault, tree}
 use Rattle.topology.proofs.Reader.{fault-wider}
-use Rattle.embedding_laws.specs.Least.{searchMap}
 use Rattle.queue_state.specs.Opening.{openedState}
 use Rattle.queue_state.specs.declared.Opened.{Opened}
 use Rattle.disciplines.specs.Figure.{ruleFault}
 use Rattle.disciplines.specs.declared.Rule.{Rule}
-use Rattle.queue_tree.specs.Opening.{openedBy}
-use Rattle.queue_tree.specs.declared.TreeOpened.{TreeOpened}
+use Rattle.tree_state.specs.Opening.{openedBy}
+use Rattle.tree_state.specs.declared.TreeOpened.{TreeOpened}
 use Rattle.pair_state.specs.Opening.{bothFault, pairBy, openedPair}
 use Rattle.pair_state.specs.declared.PairOpened.{PairOpened}
 use Rattle.pair_state.proofs.Kept.{both-trees}
-use Rattle.pair_trees.specs.Opening.{chipFault, openedChip}
+use Rattle.chip_state.specs.Opening.{chipFault, openedChip}
 use Rattle.chip_open.specs.Opening.{bothTreesFault, mapBy, bothBy, openedBoth}
-use Rattle.chip_open.specs.declared.BothOpened.{BothOpened}
 
 pub chip-opened : (source target : List ℕ) (limit : ℕ) (rules : List Rule) (n : ℕ) (o : Opened) (r : TreeOpened)
     → n ≡ chipFault source target limit rules → o ≡ openedState target limit → r ≡ openedBy n (o .state) rules → r ≡ openedChip source target limit rules

@@ -7,7 +7,7 @@ use Rattle.embedding_laws.specs.Least.{searchMap}
 use Rattle.queue_state.specs.Opening.{openedState}
 use Rattle.disciplines.specs.Figure.{ruleFault}
 use Rattle.disciplines.specs.declared.Rule.{Rule}
-use Rattle.queue_tree.specs.Opening.{openedBy}
+use Rattle.tree_state.specs.Opening.{openedBy}
 use Rattle.pair_state.specs.Opening.{bothFault}
 use Rattle.chip_open.specs.declared.BothOpened.{BothOpened}
 

@@ -1,15 +1,15 @@
 // The opening of a chip's tree with disciplines for a drawing, and of both trees with the least map between them.
 use discipline_check::fault;
 use disciplines::Rule;
-use queue_tree::Tree;
-use queue_tree::TreeOpened;
 use topology::Reading;
 use topology::SOURCE_NODES;
 use topology::read;
 use tree_open::opened;
+use tree_state::Tree;
+use tree_state::TreeOpened;
 ghost use mathlib.Core.Path.{_≡_};
 ghost use Rattle.topology.specs.Reader.{orElse};
-ghost use Rattle.pair_trees.specs.Opening.{chipFault, openedChip};
+ghost use Rattle.chip_state.specs.Opening.{chipFault, openedChip};
 ghost use Rattle.chip_open.specs.Opening.{mapBy, openedBoth};
 
 // The answer to an opening of both trees: 0, the trees, empty, and the least map; or a refusal's number and zeros throughout.

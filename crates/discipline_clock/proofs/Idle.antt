@@ -3,13 +3,13 @@ use mathlib.Core.Path.{_≡_, refl, ap, _∙_}
 use Prim.Native.Nat.{ℕ, suc}
 use mathlib.Core.List.{List, [], _∷_}
 use mathlib.Core.Bool.{Bool, true, false}
-use mathlib.Core.Option.{Option, none}
+use mathlib.Core.Option.{none}
 use lib.ListN.{take}
 use lib.Dec.{eqb}
 use Rattle.topology.specs.Reader.{pick}
 use Rattle.pifo.specs.Queue.{Rank}
 use Rattle.pifo.specs.Tree.{pop}
-use Rattle.pifo.specs.Way.{Taken, way}
+use Rattle.pifo.specs.Way.{way}
 use Rattle.pifo.proofs.Pop.{pop-none}
 use Rattle.pifo.proofs.Ways.{none-way}
 use Rattle.queue_state.specs.State.{treeOf, wellFormed}

@@ -2,31 +2,29 @@
 -- the way so far, and with the way that is left it has them all (`Planning`); at the leaf nothing is left (`planning-end`).
 use mathlib.Core.Path.{_≡_, refl, sym, ap, ap₂, _∙_, subst}
 use mathlib.Core.Logic.{_≢_}
-use Prim.Native.Nat.{ℕ, zero, suc, _+_, _≤_, _<_}
+use Prim.Native.Nat.{ℕ, _≤_, _<_}
 use native.Mathlib.Omega.{arith}
 use mathlib.Core.List.{List, [], _∷_, _++_, append-nil, append-assoc}
 use mathlib.Core.Bool.{Bool, true, false, _&&_}
-use lib.ListN.{length, drop, getD, length-append}
-use lib.Dec.{eqb, leb, ltb}
-use borrow.Author.Tests.{ltb-true, leb-true}
+use lib.ListN.{length, drop, length-append}
+use lib.Dec.{eqb, ltb}
+use borrow.Author.Tests.{ltb-true}
 use Rattle.topology.specs.Tree.{Topo, width, size}
-use Rattle.topology.specs.Address.{Addr, Above, addr, subtree, depth}
-use Rattle.topology.specs.Reader.{pick, fault, tree}
-use Rattle.topology.specs.Branch.{branchEnd, start as startAt, isAbove, towardFrom, towardAt}
+use Rattle.topology.specs.Address.{Addr, Above, addr, subtree, depth, route}
+use Rattle.topology.specs.Reader.{fault, tree}
+use Rattle.topology.specs.Branch.{towardAt}
 use Rattle.topology.specs.declared.Toward.{Toward}
 use Rattle.topology.specs.declared.Toward.the-variants.{Child, Nowhere}
-use Rattle.topology.proofs.Cases.{clash}
+use Rattle.topology.proofs.Cases.{toward-between}
 use Rattle.topology.proofs.Numbering.{addr-root, addr-in}
 use Rattle.topology.proofs.Ancestry.{size-pos, in-height}
-use Rattle.topology.proofs.Children.{HasChild, childOf-lt, depth-childOf}
+use Rattle.topology.proofs.Children.{childOf-lt, depth-childOf, route-self, route-step}
 use Rattle.topology.proofs.Lookup.{valid-size, valid-length, IsToward, Leads, valid-toward}
 use Rattle.topology.proofs.Reader.{within}
 use Rattle.pifo.specs.Queue.{Rank}
 use Rattle.pifo.proofs.Order.{both}
 use Rattle.pifo.specs.Tree.{Step, step}
-use Rattle.simulation.specs.Carrying.{route}
-use Rattle.simulation.proofs.Nodes.{route-self, route-step}
-use Rattle.queue_push.specs.Calls.{stepsOf, pathOf, extendedBy, Plain}
+use Rattle.queue_push.specs.Calls.{stepsOf, pathOf, Plain}
 use Rattle.queue_push.specs.declared.Path.{Path}
 use Rattle.queue_push.proofs.Paths.{steps-path, path-more}
 use Rattle.disciplines.specs.Figure.{kindAt, start, finish, rankBy, finishBy, fitsBy, stepsDown, finishesDown, fitsDown}
@@ -157,32 +155,6 @@ module _ (bytes : List ℕ) (valid : fault 64 bytes ≡ 0) (d : Disciplines) (le
                 ∙ w .finishes (first (p .fits) (fitsBy k (finish d node c len)) (sym (z .fits) ∙ f));
           }
 
--- ---- the child toward a node comes after its parent, and is that node or comes before it
-
-start-after : (bytes : List ℕ) (n i : ℕ) → n < startAt bytes n i
-unfolding branchEnd
-start-after bytes n zero = omega arith
-start-after bytes n (suc i) = let h = start-after bytes n i in omega arith
-
-child-same : {i j m n : ℕ} → _≡_ {A = Toward} (Child i m) (Child j n) → m ≡ n
-child-same e = cc
-
-above-low : (bytes : List ℕ) (a b : ℕ) → isAbove bytes a b ≡ true → a ≤ b
-unfolding isAbove
-above-low bytes a b q = leb-true a b (both (leb a b) (ltb b (branchEnd bytes a)) q .0)
-
-toward-from : (bytes : List ℕ) (n y i k j c : ℕ) → towardFrom bytes n y i k ≡ Child j c → (n < c) × (c ≤ y)
-toward-from bytes n y i zero j c e = absurd (clash (cc))
-toward-from bytes n y i (suc k) j c e = by-test (isAbove bytes (startAt bytes n i) y) refl e (λ q. toward-from bytes n y (suc i) k j c q)
-  where
-    by-test : (b : Bool) → isAbove bytes (startAt bytes n i) y ≡ b
-        → pick b (Child (suc i) (startAt bytes n i)) (towardFrom bytes n y (suc i) k) ≡ Child j c
-        → (towardFrom bytes n y (suc i) k ≡ Child j c → (n < c) × (c ≤ y)) → (n < c) × (c ≤ y)
-    by-test true q z rest =
-        let is : startAt bytes n i ≡ c = child-same z in
-        (omega (arith, start-after bytes n i), omega (arith, above-low bytes (startAt bytes n i) y q))
-    by-test false q z rest = rest z
-
 -- ---- the loop, for any bytes: where they are a tree and the leaf is one of its leaves, it plans
 
 leaf-lt : (t : Topo) (leaf : ℕ) → isLeaf t leaf ≡ true → leaf < size t
@@ -224,8 +196,7 @@ module _ (bytes : List ℕ) (d : Disciplines) (leaf class len : ℕ) where
 
       module _ (i c : ℕ) (q : o ≡ Child i c) where
         pub walking-down : (node < c) × (c ≤ leaf)
-        unfolding towardAt
-        walking-down = toward-from bytes node leaf 0 (getD bytes node 0) i c (sym e ∙ q)
+        walking-down = toward-between bytes node leaf i c (sym e ∙ q)
 
         pub walking-next : (r : Plan) → StepsDown d node c i class len p r → Walking c r
         walking-next r z =

@@ -3,7 +3,7 @@ use Prim.Native.Nat.{ℕ}
 use mathlib.Core.List.{List}
 use Rattle.queue_state.specs.State.{Packet}
 use Rattle.disciplines.specs.Scheduler.{Request}
-use Rattle.pair_trees.specs.Calls.{chipRefusal, serveMapped}
+use Rattle.chip_state.specs.Calls.{chipRefusal, serveMapped}
 use Rattle.chip_open.specs.declared.BothOpened.{BothOpened}
 use Rattle.plain_tree.specs.Trees.{plainTree}
 use Rattle.plain_tree.specs.Answers.{SchedulesPlain}

@@ -16,7 +16,7 @@ ghost use Rattle.pifo.specs.Machine.{pushing, popping};
 ghost use Rattle.queue_state.specs.State.{treeOf};
 ghost use Rattle.queue_push.specs.Calls.{stepsOf};
 ghost use Rattle.disciplines.specs.Scheduler.{calling, pushingTo};
-ghost use Rattle.pair_trees.specs.Opening.{openedChip};
+ghost use Rattle.chip_state.specs.Opening.{openedChip};
 ghost use Rattle.chip_open.specs.Opening.{openedBoth};
 ghost use Rattle.chip_counts.specs.Counts.{chipAmount};
 ghost use Rattle.plain_answers.specs.Answers.{plainAmount};

@@ -6,8 +6,8 @@ use native.Mathlib.Omega.{arith}
 use Rattle.pifo.specs.Machine.{Answer, popping}
 use Rattle.queue_state.specs.State.{Packet}
 use Rattle.disciplines.specs.Scheduler.{Scheduler, Request, calling, serveOwn}
-use Rattle.queue_tree.specs.Calls.{schedulerOf, ownRefusal, OwnServes}
-use Rattle.queue_tree.specs.declared.Tree.{Tree}
+use Rattle.tree_state.specs.Calls.{schedulerOf, ownRefusal, OwnServes}
+use Rattle.tree_state.specs.declared.Tree.{Tree}
 use Rattle.plain_state.specs.Plain.{Written}
 use Rattle.plain_state.proofs.Crossing.{is-written}
 use Rattle.plain_tree.specs.Trees.{treeFrom, plainTree}

@@ -7,8 +7,8 @@ use Rattle.queue_push.specs.Calls.{stepsOf}
 use Rattle.queue_push.specs.declared.Path.{Path}
 use Rattle.queue_state.specs.State.{Packet}
 use Rattle.disciplines.specs.Scheduler.{Scheduler, Request, calling, serveOwn}
-use Rattle.queue_tree.specs.Calls.{schedulerOf, ownRefusal}
-use Rattle.queue_tree.specs.declared.Tree.{Tree}
+use Rattle.tree_state.specs.Calls.{schedulerOf, ownRefusal}
+use Rattle.tree_state.specs.declared.Tree.{Tree}
 
 -- the push of packet k along a path
 abbrev pub pushingBy : Path → ℕ → Request Packet

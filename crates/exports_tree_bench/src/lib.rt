@@ -2,7 +2,7 @@
 // `exports_bench`: a call that has one caller in its archive is compiled into it, and then copies less.
 use plain_tree::PlainTree;
 use queue_push::Path;
-use queue_tree::Tree;
+use tree_state::Tree;
 ghost use Rattle.disciplines.specs.Scheduler.{pushingTo};
 ghost use Rattle.plain_state.specs.Plain.{Written};
 ghost use Rattle.plain_tree.specs.Trees.{treeFrom};

@@ -1,7 +1,7 @@
 -- The proof of demand 3. From an opening on, each call answers and leaves what the definition gives for the tree's scheduler, so that what is shown of an
 -- execution is what is seen of the scheduler (`shown-over`); the source's and the chip's are seen alike (`schedulers-alike` of the crate
 -- `pair_schedule`). What the looks count follows from the machine's laws, as each request is at most one call of the machine (`tallied`).
--- Executions there are, as every call has an answer and a tree after it (`own-some` and `chip-some` of the crates `queue_tree` and `pair_trees`).
+-- Executions there are, as every call has an answer and a tree after it (`own-some` and `chip-some` of the crates `tree_state` and `chip_state`).
 use mathlib.Core.Path.{_≡_, refl, sym, ap, _∙_, subst}
 use mathlib.Core.Logic.{⊎-elim}
 use Prim.Native.Nat.{ℕ, _+_, _≤_, min}
@@ -35,16 +35,16 @@ use Rattle.disciplines.specs.Figure.{ruleFault, fresh}
 use Rattle.disciplines.specs.Scheduler.{Scheduler, Request as SchedulerRequest, rankAt, with, serveOwn, seenOf, seenOver}
 use Rattle.disciplines.specs.declared.Rule.{Rule}
 use Rattle.disciplines.proofs.Below.{OneCall, NoCall, one-call, request-topology}
-use Rattle.queue_tree.specs.Opening.{openedTree}
-use Rattle.queue_tree.specs.Calls.{schedulerOf, wellKept, Schedules, drawing, ownRefusal, OwnServes}
-use Rattle.queue_tree.specs.declared.Tree.{Tree}
-use Rattle.queue_tree.proofs.Existing.{own-well, own-some}
+use Rattle.tree_state.specs.Opening.{openedTree}
+use Rattle.tree_state.specs.Calls.{schedulerOf, wellKept, Schedules, drawing, ownRefusal, OwnServes}
+use Rattle.tree_state.specs.declared.Tree.{Tree}
+use Rattle.tree_state.proofs.Existing.{own-well, own-some}
 use Rattle.pair_schedule.specs.Chip.{imageRank, serveChip}
 use Rattle.pair_schedule.proofs.Alike.{schedulers-alike}
-use Rattle.pair_trees.specs.Opening.{openedChip}
-use Rattle.pair_trees.specs.Calls.{chipRefusal, serveMapped, ChipServes}
-use Rattle.pair_trees.proofs.Chip.{known-chip, carried-topology}
-use Rattle.pair_trees.proofs.Existing.{chip-some}
+use Rattle.chip_state.specs.Opening.{openedChip}
+use Rattle.chip_state.specs.Calls.{chipRefusal, serveMapped, ChipServes}
+use Rattle.chip_state.proofs.Chip.{known-chip, carried-topology}
+use Rattle.chip_state.proofs.Existing.{chip-some}
 use Rattle.paired.specs.Demand.{Request, requestOf, SourceCall, ChipCall, Look, look, ownLook, lookOf, shown, Tallied, shownBy, Alike, Demand3}
 use Rattle.paired.proofs.Openings.{own-opens, own-passes, chip-opens, chip-passes}
 

@@ -20,13 +20,13 @@ use Rattle.queue_state.proofs.Fresh.{opens}
 use Rattle.disciplines.specs.Figure.{ruleFault, fresh}
 use Rattle.disciplines.specs.Scheduler.{with}
 use Rattle.disciplines.specs.declared.Rule.{Rule}
-use Rattle.queue_tree.specs.Opening.{treeFault, openedBy, openedTree}
-use Rattle.queue_tree.specs.Calls.{schedulerOf, wellKept, ownRefusal}
-use Rattle.queue_tree.specs.declared.TreeOpened.{TreeOpened}
-use Rattle.queue_tree.proofs.Scheduled.{treeWith}
-use Rattle.pair_trees.specs.Opening.{chipFault, openedChip}
-use Rattle.pair_trees.specs.Calls.{chipRefusal}
-use Rattle.pair_trees.proofs.Chip.{chip-known}
+use Rattle.tree_state.specs.Opening.{treeFault, openedBy, openedTree}
+use Rattle.tree_state.specs.Calls.{schedulerOf, wellKept, ownRefusal}
+use Rattle.tree_state.specs.declared.TreeOpened.{TreeOpened}
+use Rattle.tree_state.proofs.Scheduled.{treeWith}
+use Rattle.chip_state.specs.Opening.{chipFault, openedChip}
+use Rattle.chip_state.specs.Calls.{chipRefusal}
+use Rattle.chip_state.proofs.Chip.{chip-known}
 
 -- an opening that is not refused, of a tree of these bytes
 pub record OpensAs (bytes : List ℕ) (limit : ℕ) (rules : List Rule) (r : TreeOpened) : Type 0 where

@@ -28,12 +28,12 @@ use Rattle.disciplines.specs.Figure.{ruleFault, fresh}
 use Rattle.disciplines.specs.Scheduler.{Request as SchedulerRequest, calling, pushingTo, with, serveOwn, seenOver}
 use Rattle.disciplines.specs.declared.Rule.{Rule}
 use Rattle.disciplines.specs.declared.Disciplines.{Disciplines}
-use Rattle.queue_tree.specs.Opening.{openedTree}
-use Rattle.queue_tree.specs.Calls.{wellKept, drawing, OwnServes}
-use Rattle.queue_tree.specs.declared.Tree.{Tree}
+use Rattle.tree_state.specs.Opening.{openedTree}
+use Rattle.tree_state.specs.Calls.{wellKept, drawing, OwnServes}
+use Rattle.tree_state.specs.declared.Tree.{Tree}
 use Rattle.pair_schedule.specs.Chip.{serveChip}
-use Rattle.pair_trees.specs.Opening.{openedChip}
-use Rattle.pair_trees.specs.Calls.{ChipServes}
+use Rattle.chip_state.specs.Opening.{openedChip}
+use Rattle.chip_state.specs.Calls.{ChipServes}
 use Rattle.translator.specs.Push.{pushAlong}
 
 -- a call of the list: a push with a path as drawn and a packet; a push of a packet to a leaf of the drawing, with its class and its length; or a pop

@@ -8,9 +8,9 @@ use Rattle.queue_state.specs.State.{Packet}
 use Rattle.queue_state.specs.Calls.{answerOf}
 use Rattle.queue_state.specs.declared.State.{State}
 use Rattle.disciplines.specs.Scheduler.{Scheduler, Request}
-use Rattle.queue_tree.specs.Calls.{schedulerOf, Schedules}
-use Rattle.queue_tree.specs.declared.Tree.{Tree}
-use Rattle.queue_tree.specs.declared.TreeServed.{TreeServed}
+use Rattle.tree_state.specs.Calls.{schedulerOf, Schedules}
+use Rattle.tree_state.specs.declared.Tree.{Tree}
+use Rattle.tree_state.specs.declared.TreeServed.{TreeServed}
 use Rattle.plain_state.proofs.Crossing.{state-back, is-written}
 use Rattle.plain_answers.specs.Answers.{valueOf}
 use Rattle.plain_tree.specs.Trees.{treeFrom, plainTree}

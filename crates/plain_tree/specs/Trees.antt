@@ -1,5 +1,5 @@
 -- A tree with disciplines as plain numbers, and what they stand for.
-use Rattle.queue_tree.specs.declared.Tree.{Tree}
+use Rattle.tree_state.specs.declared.Tree.{Tree}
 use Rattle.plain_state.specs.Plain.{stateOf, plainOf}
 use Rattle.plain_tree.specs.declared.PlainTree.{PlainTree}
 

@@ -13,7 +13,7 @@ use Rattle.queue_state.specs.Opening.{openFault, openedState}
 use Rattle.queue_state.specs.Calls.{Serves}
 use Rattle.queue_state.specs.declared.State.{State}
 
--- What a call may do: from a state, for a call, an answer and the state after it. `Serves` is one. States are of any type: the crate `queue_tree`
+-- What a call may do: from a state, for a call, an answer and the state after it. `Serves` is one. States are of any type: the crate `tree_state`
 -- has trees for them.
 abbrev pub Transition : Type 0 → Type 0 → Type 1
 Transition S C = S → C → Answer Packet → S → Type 0

@@ -1,21 +1,19 @@
 -- Maps and carried paths by node number, for code: no two source nodes have one image; a child's image lies strictly below its parent's;
--- the way down from a node begins with the one child that is the way's end or lies above it; and a path carried from node to node is the
--- carried path.
+-- and a path carried from node to node is the carried path.
 use mathlib.Core.Path.{_≡_, refl, sym, ap, ap₂, _∙_}
 use Prim.Native.Nat.{ℕ, _<_}
 use native.Mathlib.Omega.{arith}
-use mathlib.Core.List.{List, [], _∷_, _++_, append-assoc}
+use mathlib.Core.List.{List, [], _∷_, _++_}
 use lib.ListN.{length, drop}
-use lib.Seq.{drop-length, drop-append-seam}
 use Rattle.topology.specs.Tree.{Topo, size}
-use Rattle.topology.specs.Address.{Addr, Above, addr, subtree, childOf, depth}
+use Rattle.topology.specs.Address.{Addr, Above, addr, subtree, childOf, route}
 use Rattle.topology.proofs.Numbering.{num-addr, num-lt, addr-num}
 use Rattle.topology.proofs.Children.{HasChild, childOf-lt, addr-childOf, subtree-childOf, childOf-after}
 use Rattle.pifo.specs.Tree.{Step, step, pathFault}
 use Rattle.pifo.proofs.Paths.{fault-step}
 use Rattle.embedding_laws.specs.Rules.{image, Passes}
 use Rattle.simulation.specs.Embedding.{imageAt}
-use Rattle.simulation.specs.Carrying.{steps, carryFrom, carry, route, carryNodes}
+use Rattle.simulation.specs.Carrying.{steps, carryFrom, carry, carryNodes}
 
 pub image-below : (S T : Topo) (m : List ℕ) → Passes S T m → (n i : ℕ) → HasChild S n i
     → Above (addr T (image m n)) (addr T (image m (childOf S n i))) × (image m n ≡ image m (childOf S n i) → ⊥)
@@ -25,19 +23,6 @@ image-below S T m E n i h =
       E .order n (childOf S n i) (h .0) l .0 (i ∷ [], addr-childOf S n i h),
       λ e. let same = E .once n (childOf S n i) (h .0) l e in omega arith,
     )
-
--- The way from a node to itself has no step.
-pub route-self : (t : Topo) (x : ℕ) → route t x x ≡ []
-route-self t x = drop-length (addr t x)
-
--- The way down goes first to the child that is its end or lies above it.
-pub route-step : (t : Topo) (x y j : ℕ) → HasChild t x j → Above (addr t (childOf t x j)) (addr t y) → route t x y ≡ j ∷ route t (childOf t x j) y
-route-step t x y j h (d, e) =
-    let c = addr-childOf t x j h in
-    let way : addr t y ≡ addr t x ++ (j ∷ d) = e ∙ ap (λ (a : Addr). a ++ d) c ∙ append-assoc (addr t x) (j ∷ []) d in
-    ap (drop (depth t x)) way
-    ∙ drop-append-seam (addr t x) (j ∷ d)
-    ∙ ap (λ (a : Addr). j ∷ a) (sym (ap (drop (depth t (childOf t x j))) e ∙ drop-append-seam (addr t (childOf t x j)) d))
 
 module _ (S T : Topo) (m : List ℕ) where
   nodes-from : (n : ℕ) (ss : List Step) → n < size S → pathFault (subtree S n) ss ≡ 0 → carryNodes S T m n ss ≡ carryFrom (imageAt S T m) (addr S n) ss

@@ -3,7 +3,7 @@ use Prim.Native.Nat.{ℕ}
 use mathlib.Core.List.{List, [], _∷_, _++_, map}
 use lib.ListN.{length, drop}
 use Rattle.topology.specs.Tree.{Topo}
-use Rattle.topology.specs.Address.{Addr, addr, childOf, depth}
+use Rattle.topology.specs.Address.{Addr, childOf, route}
 use Rattle.pifo.specs.Tree.{Step, step}
 use Rattle.embedding_laws.specs.Rules.{image}
 use Rattle.simulation.specs.Embedding.{imageAt}
@@ -22,11 +22,8 @@ carryFrom F s (step i r ∷ ss) =
 abbrev pub carry : Topo → Topo → List ℕ → List Step → List Step
 carry S T m ss = carryFrom (imageAt S T m) [] ss
 
--- The same by node numbers, as code goes about it: the child numbers on the way down from one node to another, and a path from source node
--- n on. `proofs/Nodes.antt` shows that the two agree on paths with no fault.
-abbrev pub route : Topo → ℕ → ℕ → Addr
-route t x y = drop (depth t x) (addr t y)
-
+-- The same by node numbers, as code goes about it: a path from source node n on. `proofs/Nodes.antt` shows that the two agree on paths with no
+-- fault.
 abbrev pub carryNodes : Topo → Topo → List ℕ → ℕ → List Step → List Step
 carryNodes S T m n [] = []
 carryNodes S T m n (step i r ∷ ss) =

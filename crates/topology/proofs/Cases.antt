@@ -5,10 +5,10 @@ use Prim.Native.Nat.{ℕ, zero, suc, _+_, _-_, _≤_, _<_}
 use native.Mathlib.Numerals.{add-one}
 use native.Mathlib.Omega.{arith}
 use mathlib.Core.List.{List, []}
-use mathlib.Core.Bool.{false}
+use mathlib.Core.Bool.{Bool, true, false, _&&_}
 use lib.ListN.{length, take, drop, getD, List·getD-eq-default}
-use lib.Dec.{ltb}
-use borrow.Author.Tests.{lt-ltb, le-ltb, le-leb, lt-leb}
+use lib.Dec.{leb, ltb}
+use borrow.Author.Tests.{lt-ltb, le-ltb, le-leb, lt-leb, leb-true}
 use Rattle.topology.specs.Reader.{pick, orElse, fault, reading}
 use Rattle.topology.specs.Branch.{branchEnd, start, childAt, isAbove, towardFrom, towardAt, branchFault, unless, branchPart}
 use Rattle.topology.specs.declared.Reading.{Reading}
@@ -93,6 +93,36 @@ module _ (bytes : List ℕ) (n y : ℕ) where
   toward-end i k h =
       let e : k - i ≡ 0 = omega arith in
       rw e
+
+-- The child toward a node comes after its parent, and is that node or comes before it.
+start-after : (bytes : List ℕ) (n i : ℕ) → n < start bytes n i
+unfolding branchEnd
+start-after bytes n zero = omega arith
+start-after bytes n (suc i) = let h = start-after bytes n i in omega arith
+
+above-low : (bytes : List ℕ) (a b : ℕ) → isAbove bytes a b ≡ true → a ≤ b
+unfolding isAbove
+above-low bytes a b e = by-test (leb a b) refl e
+  where
+    by-test : (c : Bool) → leb a b ≡ c → (c && ltb b (branchEnd bytes a)) ≡ true → a ≤ b
+    by-test true q z = leb-true a b q
+    by-test false q z = absurd (clash (cc))
+
+between-from : (bytes : List ℕ) (n y i k j c : ℕ) → towardFrom bytes n y i k ≡ Child j c → (n < c) × (c ≤ y)
+between-from bytes n y i zero j c e = absurd (clash (cc))
+between-from bytes n y i (suc k) j c e = by-test (isAbove bytes (start bytes n i) y) refl e (between-from bytes n y (suc i) k j c)
+  where
+    by-test : (b : Bool) → isAbove bytes (start bytes n i) y ≡ b
+        → pick b (Child (suc i) (start bytes n i)) (towardFrom bytes n y (suc i) k) ≡ Child j c
+        → (towardFrom bytes n y (suc i) k ≡ Child j c → (n < c) × (c ≤ y)) → (n < c) × (c ≤ y)
+    by-test true q z rest =
+        let is : start bytes n i ≡ c = cc in
+        (omega (arith, start-after bytes n i), omega (arith, above-low bytes (start bytes n i) y q))
+    by-test false q z rest = rest z
+
+pub toward-between : (bytes : List ℕ) (n y i c : ℕ) → towardAt bytes n y ≡ Child i c → (n < c) × (c ≤ y)
+unfolding towardAt
+toward-between bytes n y i c e = between-from bytes n y 0 (getD bytes n 0) i c e
 
 -- what the reader's answer says of the fault
 module _ (f : ℕ) (r : Reading) (e : r ≡ reading f) where

@@ -6,10 +6,11 @@ use Prim.Native.Nat.{ℕ, zero, suc, _+_, _≤_, _<_}
 use native.Mathlib.Nat.{not-suc-le-zero, le-of-suc-le-suc}
 use native.Mathlib.Omega.{arith}
 use mathlib.Core.List.{[], _∷_, _++_, append-assoc, append-nil}
-use lib.ListN.{length, length-append}
+use lib.ListN.{length, drop, length-append}
+use lib.Seq.{drop-length, drop-append-seam}
 use Rattle.lists.proofs.Last.{split-last, last-unique}
 use Rattle.topology.specs.Tree.{Topo, Forest, node, fnil, fcons, count, kids, width, size}
-use Rattle.topology.specs.Address.{Addr, nth, child, In, sub, Above, addr, ahead, num, subtree, childOf, depth}
+use Rattle.topology.specs.Address.{Addr, nth, child, In, sub, Above, addr, ahead, num, subtree, childOf, depth, route}
 use Rattle.topology.proofs.Numbering.{addr-in, num-addr, num-lt, addr-num}
 use Rattle.topology.proofs.Ancestry.{in-front, in-below, in-join, sub-append, num-append, above-from, above-to, addr-inj}
 
@@ -126,3 +127,18 @@ above-parent t a n l h g p =
         let front : (addr t a ++ s .0) ++ (s .1 ∷ []) ≡ addr t (p .node) ++ (p .index ∷ []) =
         append-assoc (addr t a) (s .0) (s .1 ∷ []) ∙ ap (λ (r : Addr). addr t a ++ r) (sym (s .2)) ∙ sym e ∙ addr-under t n p in
         (s .0, sym (last-unique (addr t a ++ s .0) (addr t (p .node)) (s .1) (p .index) front .0))
+
+-- ---- the way down from one node to another
+
+-- The way from a node to itself has no step.
+pub route-self : (t : Topo) (x : ℕ) → route t x x ≡ []
+route-self t x = drop-length (addr t x)
+
+-- The way down goes first to the child that is its end or lies above it.
+pub route-step : (t : Topo) (x y j : ℕ) → HasChild t x j → Above (addr t (childOf t x j)) (addr t y) → route t x y ≡ j ∷ route t (childOf t x j) y
+route-step t x y j h (d, e) =
+    let c = addr-childOf t x j h in
+    let way : addr t y ≡ addr t x ++ (j ∷ d) = e ∙ ap (λ (a : Addr). a ++ d) c ∙ append-assoc (addr t x) (j ∷ []) d in
+    ap (drop (depth t x)) way
+    ∙ drop-append-seam (addr t x) (j ∷ d)
+    ∙ ap (λ (a : Addr). j ∷ a) (sym (ap (drop (depth t (childOf t x j))) e ∙ drop-append-seam (addr t (childOf t x j)) d))

@@ -2,7 +2,7 @@
 use mathlib.Core.Path.{_≡_}
 use Prim.Native.Nat.{ℕ, zero, suc, _+_, _≤_, _<_}
 use mathlib.Core.List.{List, [], _∷_, _++_, map}
-use lib.ListN.{length, getD}
+use lib.ListN.{length, drop, getD}
 use Rattle.topology.specs.Tree.{Topo, Forest, node, fnil, fcons, leaf, kids, width, size}
 
 -- the child numbers on the way down from the root
@@ -70,3 +70,7 @@ childOf t n i = num t (addr t n ++ (i ∷ []))
 -- how many steps node n lies below the root
 abbrev pub depth : Topo → ℕ → ℕ
 depth t n = length (addr t n)
+
+-- the child numbers on the way down from one node to another
+abbrev pub route : Topo → ℕ → ℕ → Addr
+route t x y = drop (depth t x) (addr t y)

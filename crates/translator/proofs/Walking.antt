@@ -9,7 +9,7 @@ use mathlib.Core.List.{List, [], _∷_, _++_, append-nil, append-assoc}
 use lib.ListN.{length, drop, getD, length-append, length-drop, drop-of-length-le}
 use Rattle.lists.proofs.Map.{length-map}
 use Rattle.topology.specs.Tree.{Topo, width, size}
-use Rattle.topology.specs.Address.{child, addr, sub, subtree, childOf, depth}
+use Rattle.topology.specs.Address.{child, addr, sub, subtree, childOf, depth, route}
 use Rattle.topology.specs.Reader.{fault, tree}
 use Rattle.topology.specs.Branch.{childAt}
 use Rattle.topology.specs.declared.Found.{Found}
@@ -24,7 +24,7 @@ use Rattle.pifo.proofs.Paths.{end-fault, fault-above, fault-on, fault-off}
 use Rattle.embedding_laws.specs.Rules.{image, Passes}
 use Rattle.embedding_laws.specs.Check.{mapFault}
 use Rattle.embedding_laws.proofs.Rules.{mapFault-none}
-use Rattle.simulation.specs.Carrying.{steps, carry, route, carryNodes}
+use Rattle.simulation.specs.Carrying.{steps, carry, carryNodes}
 use Rattle.simulation.proofs.Nodes.{image-below, carry-nodes}
 use Rattle.queue_push.specs.Calls.{stepOf, stepsOf, noStep, pathOf, Plain}
 use Rattle.queue_push.specs.declared.Step.{Step as CodeStep}

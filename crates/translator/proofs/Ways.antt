@@ -6,19 +6,18 @@ use native.Mathlib.Omega.{arith}
 use mathlib.Core.List.{List, [], _∷_, _++_, append-nil, append-assoc}
 use lib.ListN.{length, length-append}
 use Rattle.topology.specs.Tree.{Topo, size}
-use Rattle.topology.specs.Address.{addr, childOf, depth}
+use Rattle.topology.specs.Address.{addr, childOf, depth, route}
 use Rattle.topology.specs.Reader.{tree}
 use Rattle.topology.specs.Branch.{towardAt}
 use Rattle.topology.specs.declared.Toward.{Toward}
 use Rattle.topology.specs.declared.Toward.the-variants.{Child, Nowhere}
 use Rattle.topology.proofs.Numbering.{addr-in}
 use Rattle.topology.proofs.Ancestry.{above-from, in-height}
-use Rattle.topology.proofs.Children.{childOf-lt, childOf-after, depth-childOf}
+use Rattle.topology.proofs.Children.{childOf-lt, childOf-after, depth-childOf, route-self, route-step}
 use Rattle.topology.proofs.Lookup.{IsToward, Leads, valid-size, valid-toward}
 use Rattle.topology.proofs.Reader.{within}
 use Rattle.pifo.specs.Tree.{Step, step}
-use Rattle.simulation.specs.Carrying.{steps, route}
-use Rattle.simulation.proofs.Nodes.{route-self, route-step}
+use Rattle.simulation.specs.Carrying.{steps}
 use Rattle.queue_push.specs.Calls.{stepsOf, pathOf, Plain, extendedBy}
 use Rattle.queue_push.specs.declared.Path.{Path}
 use Rattle.queue_push.proofs.Paths.{steps-path, path-plain, path-more}

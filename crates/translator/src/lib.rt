@@ -5,9 +5,9 @@
 ghost use mathlib.Core.Path.{_≡_};
 ghost use mathlib.Core.List.{_++_};
 ghost use Rattle.topology.specs.Reader.{tree};
-ghost use Rattle.topology.specs.Address.{depth};
+ghost use Rattle.topology.specs.Address.{depth, route};
 ghost use Rattle.embedding_laws.specs.Check.{mapFault};
-ghost use Rattle.simulation.specs.Carrying.{steps, route};
+ghost use Rattle.simulation.specs.Carrying.{steps};
 ghost use Rattle.queue_push.specs.Calls.{stepsOf, pathOf, Plain};
 ghost use Rattle.translator.specs.Carry.{Carries};
 ghost use Rattle.translator.specs.Ways.{Over};

@@ -1,41 +1,28 @@
 -- The calls on a tree by itself. Its own drawing is that of its state, and `serveOwn` serves it; so what the call on the state does (`Serves`) and
 -- what the functions on disciplines answer make up the promise `OwnServes`.
 use mathlib.Core.Path.{_≡_, refl, sym, ap, _∙_, subst}
-use mathlib.Core.Logic.{_≢_}
-use Prim.Native.Nat.{ℕ, zero, suc, _≤_}
+use Prim.Native.Nat.{ℕ}
 use native.Mathlib.Omega.{arith}
-use mathlib.Core.List.{List, [], _∷_}
-use mathlib.Core.Bool.{Bool, true, false, _&&_}
+use mathlib.Core.List.{List}
+use mathlib.Core.Bool.{Bool, true, false}
 use mathlib.Core.Option.{Option, none, some}
 use lib.ListN.{length, length-take}
 use lib.Dec.{eqb}
-use borrow.Author.Tests.{eqb-true}
 use Rattle.topology.specs.Tree.{Topo, size}
 use Rattle.topology.specs.Address.{addr}
 use Rattle.topology.specs.Reader.{pick, fault, tree}
 use Rattle.topology.proofs.Lookup.{valid-size}
 use Rattle.pifo.specs.Queue.{Rank}
-use Rattle.pifo.specs.Tree.{Step, pathFault, PTree, pop, held}
-use Rattle.pifo.specs.Machine.{Machine, Call, pushing, popping, Answer, accepted, departed, refused, full, room, serve, serveRoom, servePath, servePop}
-use Rattle.pifo.proofs.Order.{both}
+use Rattle.pifo.specs.Tree.{Step, PTree, pop}
+use Rattle.pifo.specs.Machine.{Call, pushing, popping, Answer, accepted, refused, serve, servePop}
 use Rattle.queue_state.specs.State.{Packet, bytes, treeOf, machine, wellFormed}
-use Rattle.queue_state.specs.Calls.{answerOf, Serves}
+use Rattle.queue_state.specs.Calls.{Serves}
 use Rattle.queue_state.specs.declared.State.{State}
-use Rattle.queue_state.proofs.Formed.{off, formed}
-use Rattle.queue_state.specs.declared.Answer.{Answer as CodeAnswer}
-use Rattle.queue_state.specs.declared.Answer.the-variants.{Accepted, Departed, Refused, Full}
+use Rattle.queue_state.proofs.Formed.{formed}
 use Rattle.queue_state.proofs.Answer
-use denote.Enum.Declared.{tagOf}
-use types.Run.{OneOf, miss}
-use Rattle.topology.proofs.Cases.{clash}
-use Rattle.queue_counts.specs.Amounts.{amount}
-use Rattle.queue_counts.specs.declared.Amount.{Amount}
-use Rattle.queue_counts.specs.declared.Amount.the-variants.{Count, Refused as RefusedAmount}
-use Rattle.queue_push.specs.Calls.{stepsOf, pathOf}
-use Rattle.queue_push.specs.declared.Path.{Path}
-use Rattle.queue_push.proofs.Paths.{steps-path}
-use Rattle.disciplines.specs.Figure.{kindAt, rankBy, stepsDown, finishesDown, fitsDown, ruleFault}
-use Rattle.disciplines.specs.Scheduler.{Scheduler, Request, calling, pushingTo, isLeaf, rankAt, serveBy, serveOwn}
+use Rattle.queue_push.specs.Calls.{stepsOf}
+use Rattle.disciplines.specs.Figure.{kindAt, rankBy, stepsDown, ruleFault}
+use Rattle.disciplines.specs.Scheduler.{Request, calling, pushingTo, isLeaf, rankAt, serveOwn}
 use Rattle.disciplines.specs.declared.Disciplines.{Disciplines}
 use Rattle.queue_pop.specs.Ways.{wayOf}
 use Rattle.queue_pop.specs.declared.Way.{Way}
@@ -45,13 +32,13 @@ use Rattle.discipline_clock.proofs.Idle.{clock-ill, clock-idle}
 use Rattle.discipline_path.specs.Plans.{Planned}
 use Rattle.discipline_path.specs.declared.Plan.{Plan}
 use Rattle.discipline_path.proofs.Calls.{planned-call}
-use Rattle.queue_tree.specs.Calls.{schedulerOf, wellKept, ownRefusal, OwnServes}
+use Rattle.tree_state.specs.Calls.{ownRefusal, OwnServes}
 use Rattle.tree_counts.specs.Sound.{SoundIn}
 use Rattle.tree_counts.proofs.Testing.{exact}
-use Rattle.queue_tree.specs.declared.Tree.{Tree}
-use Rattle.queue_tree.proofs.Scheduled.{treeWith, Below, learnt, ill-scheduled, called, no-leaf, late, taken, not-taken}
-use Rattle.queue_tree.proofs.Below.{push-learnt, below-of, refused-accepted}
-use Rattle.queue_tree.proofs.Own.{own-ill, own-kept, own-is, own-after}
+use Rattle.tree_state.specs.declared.Tree.{Tree}
+use Rattle.tree_state.proofs.Scheduled.{treeWith, Below, learnt, ill-scheduled, called, no-leaf, late, taken, not-taken}
+use Rattle.tree_state.proofs.Below.{push-learnt, below-of, refused-accepted}
+use Rattle.tree_state.proofs.Own.{own-ill, own-kept, own-is, own-after}
 
 module _ (t : Tree) where
   abbrev s : State

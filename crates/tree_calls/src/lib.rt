@@ -8,15 +8,14 @@ use queue_counts::refused;
 use queue_push::Path;
 use queue_state::Answer;
 use queue_state::Packet;
-use queue_tree::Tree;
-use queue_tree::TreeServed;
 use tree_counts::are_sound;
-ghost use mathlib.Core.Path.{_≡_};
+use tree_state::Tree;
+use tree_state::TreeServed;
 ghost use Rattle.pifo.specs.Machine.{pushing, popping};
 ghost use Rattle.queue_state.specs.Calls.{answerOf};
 ghost use Rattle.queue_push.specs.Calls.{stepsOf};
 ghost use Rattle.disciplines.specs.Scheduler.{calling, pushingTo};
-ghost use Rattle.queue_tree.specs.Calls.{OwnServes};
+ghost use Rattle.tree_state.specs.Calls.{OwnServes};
 
 // Pushes a packet along a path, which enters its ranks as given and alters no finish: 18, 13, 14, 15 are tested in this order.
 pub fn push(tree: Tree, path: Path, packet: Packet) -> TreeServed

@@ -17,8 +17,8 @@ use Rattle.queue_counts.specs.declared.Amount.the-variants.{Refused}
 use Rattle.disciplines.specs.Figure.{ruleFault}
 use Rattle.disciplines.specs.declared.Disciplines.{Disciplines}
 use Rattle.disciplines.specs.declared.Rule.{Rule}
-use Rattle.queue_tree.specs.Calls.{wellKept}
-use Rattle.queue_tree.specs.declared.Tree.{Tree}
+use Rattle.tree_state.specs.Calls.{wellKept}
+use Rattle.tree_state.specs.declared.Tree.{Tree}
 use Rattle.tree_counts.specs.Sound.{SoundIn}
 
 module _ (topology : List ℕ) (nodes : ℕ) (rules : List Rule) where

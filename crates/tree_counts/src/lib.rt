@@ -2,12 +2,12 @@
 use discipline_check::fault;
 use disciplines::Rule;
 use queue_counts::Amount;
-use queue_tree::Tree;
+use tree_state::Tree;
 ghost use mathlib.Core.Path.{_≡_};
 ghost use Rattle.pifo.specs.Tree.{held};
 ghost use Rattle.queue_state.specs.State.{treeOf};
 ghost use Rattle.queue_counts.specs.Amounts.{amount};
-ghost use Rattle.queue_tree.specs.Calls.{drawing, wellKept};
+ghost use Rattle.tree_state.specs.Calls.{drawing, wellKept};
 ghost use Rattle.tree_counts.specs.Sound.{SoundIn};
 
 // Whether the rules have no fault 24 in a state's own drawing. For a state that is not well formed the answer is free: it is refused by 18 anyhow.

@@ -12,8 +12,8 @@ use Rattle.queue_state.specs.declared.Opened.{Opened}
 use Rattle.disciplines.specs.Figure.{noRule, ruleFault, fresh}
 use Rattle.disciplines.specs.declared.Disciplines.{Disciplines}
 use Rattle.disciplines.specs.declared.Rule.{Rule}
-use Rattle.queue_tree.specs.Opening.{treeFault, openedBy, openedTree}
-use Rattle.queue_tree.specs.declared.TreeOpened.{TreeOpened}
+use Rattle.tree_state.specs.Opening.{treeFault, openedBy, openedTree}
+use Rattle.tree_state.specs.declared.TreeOpened.{TreeOpened}
 
 -- no bytes are no tree
 pub none-opened : (n : ℕ) (o : Opened) (limit : ℕ) (s : State) (rules : List Rule) (d : Disciplines) → n ≢ 0 → o ≡ openedState [] limit

@@ -3,11 +3,11 @@ use discipline_check::fault;
 use disciplines::Disciplines;
 use disciplines::Rule;
 use queue_state::State;
-use queue_tree::Tree;
-use queue_tree::TreeOpened;
+use tree_state::Tree;
+use tree_state::TreeOpened;
 ghost use mathlib.Core.Path.{_≡_};
 ghost use Rattle.disciplines.specs.Figure.{fresh as Figure·fresh};
-ghost use Rattle.queue_tree.specs.Opening.{treeFault, openedBy, openedTree};
+ghost use Rattle.tree_state.specs.Opening.{treeFault, openedBy, openedTree};
 
 // Nothing was popped yet, and nothing finished.
 fn fresh(rules: [Rule; 64]) -> Disciplines

@@ -4,7 +4,7 @@ use native.Mathlib.Omega.{arith}
 use mathlib.Core.Path.{sym}
 use lib.Seq.{length-take-le}
 use Rattle.queue_state.specs.State.{bytes}
-use Rattle.queue_tree.proofs.Arrays.{the-topology}
+use Rattle.tree_state.proofs.Arrays.{the-topology}
 use Rattle.chip_counts.proofs.First.{few-nodes}
 use Rattle.chip_calls.proofs.Serving.{first-refused, path-refused, path-carried}
 use Rattle.chip_calls.proofs.push.Statement.{statement}

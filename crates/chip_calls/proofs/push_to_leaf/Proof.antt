@@ -6,8 +6,8 @@ use lib.Seq.{length-take-le}
 use borrow.Author.Tests.{not-true, not-false}
 use Rattle.queue_state.specs.State.{bytes}
 use Rattle.queue_state.specs.Calls.{answerOf}
-use Rattle.queue_tree.proofs.Below.{others-apart}
-use Rattle.queue_tree.proofs.Arrays.{the-topology}
+use Rattle.tree_state.proofs.Below.{others-apart}
+use Rattle.tree_state.proofs.Arrays.{the-topology}
 use Rattle.chip_counts.proofs.First.{few-nodes}
 use Rattle.chip_calls.proofs.Serving.{first-refused, not-a-leaf, leaf-refused, leaf-late, leaf-taken, leaf-rest}
 use Rattle.chip_calls.proofs.push_to_leaf.Statement.{statement}

@@ -3,7 +3,7 @@ use borrow.Author.Needs.{needs}
 use mathlib.Core.Path.{ap, _∙_}
 use Rattle.pifo.specs.Tree.{held}
 use Rattle.queue_state.specs.State.{treeOf}
-use Rattle.queue_tree.specs.declared.Tree.{Tree}
+use Rattle.tree_state.specs.declared.Tree.{Tree}
 use Rattle.chip_counts.specs.Counts.{chipAmount}
 use Rattle.plain_answers.specs.Answers.{plainAmount}
 use denote.Ref.{now}

@@ -1,7 +1,7 @@
 -- The chip's promise, of plain numbers.
 use borrow.Author.Needs.{needs}
 use mathlib.Core.Path.{ap, _∙_}
-use Rattle.queue_tree.specs.declared.Tree.{Tree}
+use Rattle.tree_state.specs.declared.Tree.{Tree}
 use Rattle.chip_counts.specs.Counts.{chipAmount}
 use Rattle.plain_answers.specs.Answers.{plainAmount}
 use denote.Ref.{now}

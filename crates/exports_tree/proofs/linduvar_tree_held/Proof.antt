@@ -4,8 +4,8 @@ use borrow.Author.Needs.{needs}
 use Rattle.pifo.specs.Tree.{held}
 use Rattle.queue_state.specs.State.{treeOf}
 use Rattle.queue_counts.specs.Amounts.{amount}
-use Rattle.queue_tree.specs.Calls.{drawing, wellKept}
-use Rattle.queue_tree.specs.declared.Tree.{Tree}
+use Rattle.tree_state.specs.Calls.{drawing, wellKept}
+use Rattle.tree_state.specs.declared.Tree.{Tree}
 use Rattle.plain_answers.specs.Answers.{plainAmount}
 use Rattle.exports_tree.proofs.linduvar_tree_held.Statement.{statement}
 use Rattle.exports_tree.proofs.linduvar_tree_held.Tie as tie

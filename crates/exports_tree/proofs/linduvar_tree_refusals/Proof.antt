@@ -2,8 +2,8 @@
 use mathlib.Core.Path.{ap, _∙_}
 use borrow.Author.Needs.{needs}
 use Rattle.queue_counts.specs.Amounts.{amount}
-use Rattle.queue_tree.specs.Calls.{drawing, wellKept}
-use Rattle.queue_tree.specs.declared.Tree.{Tree}
+use Rattle.tree_state.specs.Calls.{drawing, wellKept}
+use Rattle.tree_state.specs.declared.Tree.{Tree}
 use Rattle.plain_answers.specs.Answers.{plainAmount}
 use Rattle.exports_tree.proofs.linduvar_tree_refusals.Statement.{statement}
 use Rattle.exports_tree.proofs.linduvar_tree_refusals.Tie as tie

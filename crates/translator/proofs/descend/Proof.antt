@@ -5,7 +5,8 @@ use mathlib.Core.Path.{refl}
 use mathlib.Core.List.{_++_}
 use Prim.Native.Nat.{_-_}
 use Rattle.topology.specs.Reader.{tree}
-use Rattle.simulation.specs.Carrying.{steps, route}
+use Rattle.topology.specs.Address.{route}
+use Rattle.simulation.specs.Carrying.{steps}
 use Rattle.queue_push.specs.Calls.{stepsOf}
 use Rattle.translator.proofs.Ways.{Descending, descending-lost, descending-down, descending-next, descending-end}
 use Rattle.translator.proofs.descend.Statement.{statement}

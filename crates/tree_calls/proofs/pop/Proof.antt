@@ -1,7 +1,7 @@
 -- `pop` meets its contract.
 use borrow.Author.Needs.{needs}
 use borrow.Author.Tests.{not-true, not-false}
-use Rattle.queue_tree.proofs.Arrays.{the-topology}
+use Rattle.tree_state.proofs.Arrays.{the-topology}
 use Rattle.tree_calls.proofs.Serving.{unsound, by-pop}
 use Rattle.tree_calls.proofs.pop.Statement.{statement}
 use Rattle.tree_calls.proofs.pop.Tie as tie

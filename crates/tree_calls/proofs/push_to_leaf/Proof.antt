@@ -7,8 +7,8 @@ use borrow.Author.Tests.{not-true, not-false}
 use Rattle.topology.specs.Reader.{tree}
 use Rattle.queue_state.specs.State.{bytes}
 use Rattle.queue_state.specs.Calls.{answerOf}
-use Rattle.queue_tree.proofs.Below.{others-apart}
-use Rattle.queue_tree.proofs.Arrays.{the-topology}
+use Rattle.tree_state.proofs.Below.{others-apart}
+use Rattle.tree_state.proofs.Arrays.{the-topology}
 use Rattle.tree_calls.proofs.Serving.{unsound, not-a-leaf, leaf-late, leaf-taken, leaf-rest}
 use Rattle.tree_calls.proofs.push_to_leaf.Statement.{statement}
 use Rattle.tree_calls.proofs.push_to_leaf.Tie as tie

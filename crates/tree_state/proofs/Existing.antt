@@ -19,11 +19,11 @@ use Rattle.queue_state.proofs.Existing.{serves-some}
 use Rattle.disciplines.specs.Figure.{ruleFault}
 use Rattle.disciplines.specs.Scheduler.{Scheduler, Request, calling, pushingTo, isLeaf, rankAt, serveBy, serveOwn}
 use Rattle.disciplines.specs.declared.Disciplines.{Disciplines}
-use Rattle.queue_tree.specs.Calls.{schedulerOf, wellKept, Schedules, drawing, ownRefusal, OwnServes}
-use Rattle.queue_tree.specs.declared.Tree.{Tree}
-use Rattle.queue_tree.proofs.Scheduled.{treeWith, Below, learnt, ill-scheduled, called, pushTo, keptAfter, fits, no-leaf, late, taken, not-taken}
-use Rattle.queue_tree.proofs.Below.{below-of}
-use Rattle.queue_tree.proofs.Own.{own-is, own-after}
+use Rattle.tree_state.specs.Calls.{schedulerOf, wellKept, Schedules, drawing, ownRefusal, OwnServes}
+use Rattle.tree_state.specs.declared.Tree.{Tree}
+use Rattle.tree_state.proofs.Scheduled.{treeWith, Below, learnt, ill-scheduled, called, pushTo, keptAfter, fits, no-leaf, late, taken, not-taken}
+use Rattle.tree_state.proofs.Below.{below-of}
+use Rattle.tree_state.proofs.Own.{own-is, own-after}
 
 module _ (S : Topo) (server : Server Packet) (at : Machine Packet → ℕ → Option Rank) (refusal : Tree → ℕ)
     (serving : Scheduler Packet → Request Packet → Answer Packet × Scheduler Packet) (t : Tree) where

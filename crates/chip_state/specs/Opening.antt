@@ -5,8 +5,8 @@ use Rattle.topology.specs.Reader.{orElse, fault, tree}
 use Rattle.queue_state.specs.Opening.{openFault, openedState}
 use Rattle.disciplines.specs.Figure.{ruleFault}
 use Rattle.disciplines.specs.declared.Rule.{Rule}
-use Rattle.queue_tree.specs.Opening.{openedBy}
-use Rattle.queue_tree.specs.declared.TreeOpened.{TreeOpened}
+use Rattle.tree_state.specs.Opening.{openedBy}
+use Rattle.tree_state.specs.declared.TreeOpened.{TreeOpened}
 
 -- The number by which it is refused: 1 to 5 of the drawing, 1 to 5 of the target, 17, then 24 by the drawing.
 unfoldable pub chipFault : List ℕ → List ℕ → ℕ → List Rule → ℕ

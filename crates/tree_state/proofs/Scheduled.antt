@@ -18,8 +18,8 @@ use Rattle.queue_state.proofs.Serving.{apart}
 use Rattle.disciplines.specs.Figure.{kindAt, rankBy, stepsDown, finishesDown, fitsDown, withFinishes, afterPop}
 use Rattle.disciplines.specs.Scheduler.{Scheduler, Request, calling, pushingTo, isLeaf, with, pushedBy, calledBy, serveBy}
 use Rattle.disciplines.specs.declared.Disciplines.{Disciplines}
-use Rattle.queue_tree.specs.Calls.{schedulerOf, counting, Schedules}
-use Rattle.queue_tree.specs.declared.Tree.{Tree}
+use Rattle.tree_state.specs.Calls.{schedulerOf, counting, Schedules}
+use Rattle.tree_state.specs.declared.Tree.{Tree}
 
 abbrev pub treeWith : State → Disciplines → Tree
 treeWith s d = record { state = s; disciplines = d }

@@ -7,8 +7,8 @@ use Rattle.queue_state.specs.Opening.{openFault, noTree as noState, openedState
 use Rattle.disciplines.specs.Figure.{noRule, ruleFault, fresh}
 use Rattle.disciplines.specs.declared.Rule.{Rule}
 use Rattle.queue_state.specs.declared.State.{State}
-use Rattle.queue_tree.specs.declared.Tree.{Tree}
-use Rattle.queue_tree.specs.declared.TreeOpened.{TreeOpened}
+use Rattle.tree_state.specs.declared.Tree.{Tree}
+use Rattle.tree_state.specs.declared.TreeOpened.{TreeOpened}
 
 -- The number by which an opening is refused: 1 to 5, 17, then 24.
 unfoldable pub treeFault : List ℕ → ℕ → List Rule → ℕ

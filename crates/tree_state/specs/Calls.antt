@@ -11,7 +11,7 @@ use Rattle.queue_state.specs.State.{Packet, bytes, machine, wellFormed}
 use Rattle.queue_state.specs.Calls.{counting as countingState}
 use Rattle.disciplines.specs.Figure.{ruleFault}
 use Rattle.disciplines.specs.Scheduler.{Scheduler, Request, with, serveOwn}
-use Rattle.queue_tree.specs.declared.Tree.{Tree}
+use Rattle.tree_state.specs.declared.Tree.{Tree}
 
 -- the scheduler that a tree of the code stands for
 abbrev pub schedulerOf : Tree → Scheduler Packet

@@ -8,7 +8,7 @@ use mathlib.Core.List.{List}
 use mathlib.Core.Bool.{Bool, true, false}
 use lib.Dec.{eqb}
 use Rattle.topology.specs.Tree.{Topo, code}
-use Rattle.topology.specs.Reader.{pick, orElse, fault, tree}
+use Rattle.topology.specs.Reader.{pick, fault, tree}
 use Rattle.topology.proofs.Reader.{drawn}
 use Rattle.topology.proofs.Refusals.{orElse-none}
 use Rattle.pifo.specs.Tree.{pathFault}
@@ -28,11 +28,11 @@ use Rattle.disciplines.specs.declared.Disciplines.{Disciplines}
 use Rattle.pair_schedule.specs.Chip.{imageRank}
 use Rattle.pair_step.specs.Step.{PushesCarried, ServesCarried}
 use Rattle.pair_step.proofs.Step.{carried-follows}
-use Rattle.queue_tree.specs.Calls.{schedulerOf, wellKept}
-use Rattle.queue_tree.specs.declared.Tree.{Tree}
-use Rattle.queue_tree.proofs.Scheduled.{treeWith, Below}
-use Rattle.queue_tree.proofs.Below.{serve-topology}
-use Rattle.pair_trees.specs.Calls.{chipRefusal, serveMapped}
+use Rattle.tree_state.specs.Calls.{schedulerOf, wellKept}
+use Rattle.tree_state.specs.declared.Tree.{Tree}
+use Rattle.tree_state.proofs.Scheduled.{treeWith, Below}
+use Rattle.tree_state.proofs.Below.{serve-topology}
+use Rattle.chip_state.specs.Calls.{chipRefusal, serveMapped}
 
 -- ---- what a chip's tree is refused by
 

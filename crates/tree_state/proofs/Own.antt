@@ -11,10 +11,10 @@ use Rattle.queue_state.specs.declared.State.{State}
 use Rattle.disciplines.specs.Figure.{ruleFault}
 use Rattle.disciplines.specs.Scheduler.{Request, rankAt, serveBy, serveOwn}
 use Rattle.disciplines.specs.declared.Disciplines.{Disciplines}
-use Rattle.queue_tree.specs.Calls.{schedulerOf, wellKept, ownRefusal}
-use Rattle.queue_tree.specs.declared.Tree.{Tree}
-use Rattle.queue_tree.proofs.Scheduled.{treeWith}
-use Rattle.queue_tree.proofs.Below.{same-drawing}
+use Rattle.tree_state.specs.Calls.{schedulerOf, wellKept, ownRefusal}
+use Rattle.tree_state.specs.declared.Tree.{Tree}
+use Rattle.tree_state.proofs.Scheduled.{treeWith}
+use Rattle.tree_state.proofs.Below.{same-drawing}
 
 module _ (t : Tree) where
   abbrev s : State

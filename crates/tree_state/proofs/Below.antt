@@ -21,7 +21,7 @@ use Rattle.queue_state.specs.declared.Answer.the-variants.{Accepted, Departed, 
 use Rattle.queue_state.specs.declared.State.{State}
 use Rattle.queue_state.proofs.Answer
 use Rattle.disciplines.specs.declared.Disciplines.{Disciplines}
-use Rattle.queue_tree.proofs.Scheduled.{Below, learnt}
+use Rattle.tree_state.proofs.Scheduled.{Below, learnt}
 
 -- ---- no call alters the topology, and a push answers no departure
 

@@ -7,8 +7,8 @@ use Rattle.embedding_laws.specs.Check.{listFault}
 use Rattle.queue_state.specs.State.{Packet, bytes}
 use Rattle.disciplines.specs.Scheduler.{Scheduler, Request}
 use Rattle.pair_schedule.specs.Chip.{serveChip}
-use Rattle.queue_tree.specs.Calls.{wellKept, Schedules}
-use Rattle.queue_tree.specs.declared.Tree.{Tree}
+use Rattle.tree_state.specs.Calls.{wellKept, Schedules}
+use Rattle.tree_state.specs.declared.Tree.{Tree}
 
 -- The number by which a call is refused before anything of its own is tested: 1 to 5 of the drawing; 18 where the tree is not well formed by it;
 -- 6 to 11 of the map between the drawing and the chip's own topology.

@@ -17,11 +17,11 @@ use Rattle.disciplines.specs.Scheduler.{Request}
 use Rattle.pair_step.specs.Step.{PushesCarried, ServesCarried}
 use Rattle.pair_step.proofs.Step.{carried-follows}
 use Rattle.pair_schedule.specs.Chip.{imageRank}
-use Rattle.queue_tree.specs.declared.Tree.{Tree}
-use Rattle.queue_tree.proofs.Scheduled.{ill-scheduled}
-use Rattle.queue_tree.proofs.Existing.{CallsBelow, scheduled-some}
-use Rattle.pair_trees.specs.Calls.{chipRefusal, serveMapped, ChipServes}
-use Rattle.pair_trees.proofs.Chip.{chip-formed, chip-after, carried-drawing, below-carried, chip-is}
+use Rattle.tree_state.specs.declared.Tree.{Tree}
+use Rattle.tree_state.proofs.Scheduled.{ill-scheduled}
+use Rattle.tree_state.proofs.Existing.{CallsBelow, scheduled-some}
+use Rattle.chip_state.specs.Calls.{chipRefusal, serveMapped, ChipServes}
+use Rattle.chip_state.proofs.Chip.{chip-formed, chip-after, carried-drawing, below-carried, chip-is}
 
 push-some : (f : ℕ) (t : State) (c : Call Packet) → (b : Answer Packet) × (y : State) × PushesCarried f t c b y
 push-some zero t c = serves-some t c

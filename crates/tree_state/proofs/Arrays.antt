@@ -6,8 +6,8 @@ use mir.Val.{Val}
 use denote.Laws.{Is}
 use denote.Struct.Declared.{row}
 use Rattle.queue_state.proofs.Arrays.{the-arrays}
-use Rattle.queue_tree.specs.declared.Tree.{Tree}
-use Rattle.queue_tree.proofs.Tree
+use Rattle.tree_state.specs.declared.Tree.{Tree}
+use Rattle.tree_state.proofs.Tree
 
 pub the-topology : (t : Tree) (vs : List Val) → Is (row Tree.the-type) t vs → length (t .state .frame .topology) ≡ 64
 the-topology t vs g = the-arrays (t .state) (g .0 .0) (g .1 .1 .0) .topology
