@@ -2,7 +2,7 @@
 //! the Rattle library, made safe to call.
 
 use crate::plain::{PlainAmount, PlainPath};
-use crate::plain_tree::{PlainPairOpened, PlainRules, PlainTree, PlainTreeAnswer};
+use crate::plain_tree::{PlainPairOpened, PlainRules, PlainTree, PlainTreeAnswer, PlainTreeOpened};
 use crate::scheduler::Rules;
 
 mod boundary {
@@ -17,6 +17,14 @@ mod boundary {
             limit: usize,
             rules: PlainRules,
         ) -> PlainPairOpened;
+        pub fn linduvar_chip_open(
+            source: *const u8,
+            source_len: usize,
+            target: *const u8,
+            target_len: usize,
+            limit: usize,
+            rules: PlainRules,
+        ) -> PlainTreeOpened;
         pub fn linduvar_chip_push(
             source: *const u8,
             source_len: usize,
@@ -72,6 +80,21 @@ pub fn open(source: &[u8], target: &[u8], limit: usize, rules: &Rules) -> PlainP
     let rules = PlainRules { rules: *rules };
     unsafe {
         boundary::linduvar_pair_open(
+            source.as_ptr(),
+            source.len(),
+            target.as_ptr(),
+            target.len(),
+            limit,
+            rules,
+        )
+    }
+}
+
+/// The chip's tree alone, which goes by no map.
+pub fn open_chip(source: &[u8], target: &[u8], limit: usize, rules: &Rules) -> PlainTreeOpened {
+    let rules = PlainRules { rules: *rules };
+    unsafe {
+        boundary::linduvar_chip_open(
             source.as_ptr(),
             source.len(),
             target.as_ptr(),

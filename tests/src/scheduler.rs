@@ -248,6 +248,24 @@ impl Tree {
         })
     }
 
+    /// Opens a chip's tree for a drawing, behind no map yet.
+    pub fn open_chip(
+        source: &[u8],
+        target: &[u8],
+        limit: usize,
+        rules: &Rules,
+    ) -> Result<Tree, Refusal> {
+        let drawing = read(source, SOURCE_NODES)?;
+        let queues = QueueTree::open(target, limit)?;
+        let fresh = Disciplines::fresh(rules);
+        let scheduler = Scheduler::new(drawing, &fresh).ok_or(Refusal::Rules)?;
+        Ok(Tree {
+            queues,
+            scheduler,
+            translator: None,
+        })
+    }
+
     /// The chip's tree in a state behind a map.
     pub fn on_chip(
         source: &[u8],

@@ -8,7 +8,7 @@ use linduvar_tests::generate;
 use linduvar_tests::kinds::Kinds;
 use linduvar_tests::pairs::{self, damaged_map, Drawn};
 use linduvar_tests::plain::{PlainAmount, PlainPath};
-use linduvar_tests::plain_tree::{PlainPairOpened, PlainTree};
+use linduvar_tests::plain_tree::{PlainPairOpened, PlainTree, PlainTreeOpened};
 use linduvar_tests::queue_tree::{Step, MOST_PACKETS};
 use linduvar_tests::random::{seeded, Random};
 use linduvar_tests::rattle_chip::{self, Behind};
@@ -133,6 +133,12 @@ fn openings(kinds: &mut Kinds, random: &mut Random) {
             _ => "",
         };
         kinds.meet(&format!("open: {}{of}", rust.refusal));
+        let alone = rattle_chip::open_chip(&drawn.source, &drawn.target, limit, &rules);
+        let tree = Tree::open_chip(&drawn.source, &drawn.target, limit, &rules);
+        let written = PlainTreeOpened::write(&tree);
+        agree(question, alone.refusal, written.refusal);
+        agree(question, alone.tree, written.tree);
+        kinds.meet(&format!("open a chip's: {}", written.refusal));
         if opened.is_err() {
             let behind = Behind {
                 source: &[0],
@@ -524,7 +530,7 @@ const ANSWERS: [(&str, &[u8]); 8] = [
 ];
 
 /// What is worth to be met besides.
-const OCCASIONS: [&str; 12] = [
+const OCCASIONS: [&str; 15] = [
     "both full at a limit of 1",
     "both full at a limit of 2",
     "both full at a limit of 256",
@@ -532,6 +538,9 @@ const OCCASIONS: [&str; 12] = [
     "open: 12",
     "open: 17",
     "open: 24",
+    "open a chip's: 0",
+    "open a chip's: 17",
+    "open a chip's: 24",
     "another tree",
     "a virtual time moved at a node with another image",
     "a finish moved at a node with another image",
