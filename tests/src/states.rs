@@ -53,6 +53,26 @@ pub fn any_tree(random: &mut Random, habits: &Habits) -> QueueTree {
     tree
 }
 
+/// Whether a list of calls is filling its tree or emptying it; it turns where
+/// the tree is empty, and sooner or later where it is full.
+#[derive(Clone, Copy, PartialEq)]
+pub enum Course {
+    Filling,
+    Emptying,
+}
+
+impl Course {
+    /// Whether the next call is a push.
+    pub fn pushes(&mut self, held: usize, limit: usize, random: &mut Random) -> bool {
+        if held == 0 {
+            *self = Course::Filling;
+        } else if held == limit && random.one_in(8) {
+            *self = Course::Emptying;
+        }
+        !random.one_in(if *self == Course::Filling { 6 } else { 2 })
+    }
+}
+
 /// What ranks and packets a list of calls makes use of.
 pub struct Habits {
     ranks: usize,

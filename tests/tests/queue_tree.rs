@@ -13,7 +13,8 @@ use linduvar_tests::queue_tree::{
 use linduvar_tests::random::{seeded, Random};
 use linduvar_tests::rattle_queue_tree;
 use linduvar_tests::states::{
-    any_path, any_topology, any_tree, damage, dressed, Habits, DAMAGES, DRESSES, LIMITS, PATHS,
+    any_path, any_topology, any_tree, damage, dressed, Course, Habits, DAMAGES, DRESSES, LIMITS,
+    PATHS,
 };
 use std::fmt;
 
@@ -242,14 +243,9 @@ fn random_lists(comparison: &mut Comparison) {
             sides.plain.refused = refused;
             sides = Sides::read(sides.plain).expect("a well formed state");
         }
-        let mut filling = true;
+        let mut course = Course::Filling;
         for _ in 0..calls {
-            let held = sides.tree.held();
-            let random = &mut comparison.random;
-            if held == 0 || held == limit && random.one_in(8) {
-                filling = held == 0;
-            }
-            let push = !random.one_in(if filling { 6 } else { 2 });
+            let push = course.pushes(sides.tree.held(), limit, &mut comparison.random);
             comparison.any_call(&mut sides, &habits, push);
         }
     }

@@ -14,7 +14,8 @@ use linduvar_tests::requests::{any_push, length, some_leaf, Answer, Request, LEA
 use linduvar_tests::rules::{any_rules, break_rules, keep_anything, right_rules, RULE_FAULTS};
 use linduvar_tests::scheduler::{self, Disciplines, Rule, Rules, Tree, ARRIVAL, STRICT, WEIGHTED};
 use linduvar_tests::states::{
-    any_path, any_topology, any_tree, damage, dressed, Habits, DAMAGES, DRESSES, LIMITS, PATHS,
+    any_path, any_topology, any_tree, damage, dressed, Course, Habits, DAMAGES, DRESSES, LIMITS,
+    PATHS,
 };
 use linduvar_tests::topology::{Topology, SOURCE_NODES, TARGET_NODES};
 use linduvar_tests::translator::Path;
@@ -422,14 +423,9 @@ fn random_lists(comparison: &mut Comparison) {
         let mut sides = comparison
             .open(&topology, limit, &rules)
             .expect("right rules");
-        let mut filling = true;
+        let mut course = Course::Filling;
         for _ in 0..calls {
-            let held = sides.tree.held();
-            let random = &mut comparison.random;
-            if held == 0 || held == limit && random.one_in(8) {
-                filling = held == 0;
-            }
-            let push = !random.one_in(if filling { 6 } else { 2 });
+            let push = course.pushes(sides.tree.held(), limit, &mut comparison.random);
             comparison.any_call(&mut sides, &habits, push);
         }
     }
