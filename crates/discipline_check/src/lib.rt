@@ -3,6 +3,7 @@
 // The functions take any bytes and mean what their names say where `topology::read` accepts those bytes.
 use branches::branch_end;
 use disciplines::Rule;
+use disciplines::WEIGHTED;
 use topology::TARGET_NODES;
 use topology::wide;
 ghost use mathlib.Core.Path.{_≡_};
@@ -12,8 +13,6 @@ ghost use Rattle.topology.specs.Reader.{tree};
 ghost use Rattle.topology.specs.Reader.{fault as Reader·fault};
 ghost use Rattle.disciplines.specs.Figure.{weighted, kindAt, soundAt, ruleFault};
 ghost use Rattle.disciplines.specs.Scheduler.{isLeaf};
-
-const WEIGHTED: u8 = 2;
 
 // Whether a weighted node can share: it has children, and each has a weight.
 fn can_share(bytes: &[u8], rules: [Rule; 64], node: usize) -> bool

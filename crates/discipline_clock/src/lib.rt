@@ -1,6 +1,7 @@
 // Virtual times after a pop (paper 02, 2.1): at a weighted node the rank last popped there.
 use disciplines::Disciplines;
 use disciplines::Rule;
+use disciplines::WEIGHTED;
 use queue_pop::Taken;
 use queue_pop::Way;
 use queue_state::Rank;
@@ -9,8 +10,6 @@ ghost use mathlib.Core.Path.{_≡_};
 ghost use lib.ListN.{take};
 ghost use Rattle.disciplines.specs.Figure.{lastOf};
 ghost use Rattle.discipline_clock.specs.Clock.{rankAmong, rankIn, timesBy, clocked, ownImages};
-
-const WEIGHTED: u8 = 2;
 
 // The rank that the first `count` places of a way have at `node`; `time` where they have none.
 fn last_rank(taken: [Taken; 9], count: usize, node: u8, time: Rank) -> Rank

@@ -1,4 +1,6 @@
 // What one node gives a packet on its way: the rank of its entry, and the finish of the child that it goes to.
+use disciplines::STRICT;
+use disciplines::WEIGHTED;
 use queue_state::Rank;
 ghost use mathlib.Core.Path.{_≡_};
 ghost use Prim.Native.Nat.{_*_, _/_, _<_, max};
@@ -45,7 +47,7 @@ pub(crate) fn share_of(
 ) -> Share
     ensures { λ r. ⌜ Shares discipline (max «virtual_time» finish) ((length * 256) / weight) class r ⌝ }
 {
-    if discipline == 2 {
+    if discipline == WEIGHTED {
         let start = larger(virtual_time, finish);
         let more = added(length, weight);
         if MOST_FINISH - start < more {
@@ -61,7 +63,7 @@ pub(crate) fn share_of(
             fits: true,
         };
     }
-    if discipline == 1 {
+    if discipline == STRICT {
         return Share {
             rank: class as Rank,
             finish: 0,
@@ -86,7 +88,7 @@ pub(crate) fn finished(
     ensures { λ r. ⌜ r ≡ finishBy discipline child finish finishes ⌝ }
 {
     let mut after = finishes;
-    if discipline == 2 {
+    if discipline == WEIGHTED {
         after[child] = finish;
     }
     after

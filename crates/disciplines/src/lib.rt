@@ -2,7 +2,15 @@
 // names and what weighted nodes keep, as plain numbers, which cross to C and Rust as they are; specs/ has what they mean. There is no function.
 use queue_state::Rank;
 
-// A node's discipline by its number, 0 arrival, 1 strict, 2 weighted, and its weight under its parent.
+// A discipline by its number: arrival gives rank 0, strict the packet's class, weighted the start of Figure 1 of document 002. Any other number
+// names none.
+pub const ARRIVAL: u8 = 0;
+
+pub const STRICT: u8 = 1;
+
+pub const WEIGHTED: u8 = 2;
+
+// A node's discipline, and its weight under its parent.
 #[repr(C)]
 pub struct Rule {
     pub discipline: u8,

@@ -1,5 +1,6 @@
 // The opening of a queue tree with disciplines.
 use discipline_check::fault;
+use disciplines::ARRIVAL;
 use disciplines::Disciplines;
 use disciplines::Rule;
 use queue_state::State;
@@ -31,7 +32,7 @@ pub fn opened(refusal: u8, state: State, rules: [Rule; 64]) -> TreeOpened
             tree: Tree {
                 state: no_state,
                 disciplines: fresh([Rule {
-                    discipline: 0,
+                    discipline: ARRIVAL,
                     weight: 0,
                 }; 64]),
             },
