@@ -4,7 +4,7 @@ use mathlib.Core.Path.{_≡_, refl, sym, _∙_}
 use mathlib.Core.Logic.{_≢_}
 use Prim.Native.Nat.{ℕ, _≤_, _<_}
 use native.Mathlib.Omega.{arith}
-use mathlib.Core.List.{List, [], _∷_, _++_}
+use mathlib.Core.List.{List, _∷_, _++_}
 use mathlib.Core.Bool.{Bool, true, false}
 use lib.ListN.{length, getD, set, length-set}
 use lib.Seq.{getD-set-same, getD-set-other}
@@ -43,13 +43,6 @@ fits-by k f h = by-test (eqb k weighted) refl
     by-test false e = refl
 
 module _ (t : Topo) (d : Disciplines) (len : ℕ) where
-  pub finishes-length : (n : ℕ) (a : Addr) (fs : List Rank) → length (finishesDown t d len n a fs) ≡ length fs
-  finishes-length n [] fs = refl
-  finishes-length n (i ∷ a) fs =
-      let c = childOf t n i in
-      let f = finish d n c len in
-      finishes-length c a (finishBy (kindAt (d .rules) n) c f fs) ∙ by-length (kindAt (d .rules) n) c f fs
-
   module _ (leaf : ℕ) (l : leaf < size t) where
     pub finish-elsewhere : (x : ℕ) → ((n i : ℕ) → OnWay t leaf n i → kindAt (d .rules) n ≡ weighted → childOf t n i ≢ x) → (fs : List Rank)
         → getD (finishesDown t d len 0 (addr t leaf) fs) x 0 ≡ getD fs x 0

@@ -1,12 +1,11 @@
--- The path that disciplines give to a leaf is the way to it: it has no fault, and as many steps as the leaf is deep. The rank that it enters at a
--- node on the way is the node's: Figure 1's start where the node is weighted (`rank-start`), the packet's class where it is strict
--- (`rank-class`), 0 where it goes by arrival (`rank-arrival`).
-use mathlib.Core.Path.{_≡_, refl, ap}
-use Prim.Native.Nat.{ℕ, suc, _<_}
+-- The path that disciplines give to a leaf is the way to it and has no fault (`steps-valid`). The rank that it enters at a node on the way is the
+-- node's: Figure 1's start where the node is weighted (`rank-start`), the packet's class where it is strict (`rank-class`), 0 where it goes by
+-- arrival (`rank-arrival`).
+use mathlib.Core.Path.{_≡_, refl}
+use Prim.Native.Nat.{ℕ, _<_}
 use mathlib.Core.List.{[], _∷_, _++_}
 use mathlib.Core.Bool.{true}
 use mathlib.Core.Option.{some}
-use lib.ListN.{length}
 use lib.Dec.{eqb, ltb}
 use borrow.Author.Tests.{ltb-true, eqb-true, eq-eqb}
 use Rattle.topology.specs.Tree.{Topo, width, size}
@@ -29,10 +28,6 @@ module _ (t : Topo) where
       (ltb-true n (size t) (b .0), eqb-true (width (subtree t n)) 0 (b .1))
 
   module _ (d : Disciplines) (class : ℕ) where
-    pub steps-length : (n : ℕ) (a : Addr) → length (stepsDown t d class n a) ≡ length a
-    steps-length n [] = refl
-    steps-length n (i ∷ a) = ap suc (steps-length (childOf t n i) a)
-
     -- down to a leaf of any tree u: the steps' children are those of the address
     down-valid : (u : Topo) (n : ℕ) (a : Addr) → In u a → width (sub u a) ≡ 0 → pathFault u (stepsDown t d class n a) ≡ 0
     down-valid u n [] h e = end-fault u e

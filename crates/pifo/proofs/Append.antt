@@ -4,12 +4,11 @@ use Prim.Native.Nat.{ℕ, _+_, _≤_, _<_}
 use native.Mathlib.Omega.{arith}
 use mathlib.Core.List.{List, [], _∷_, _++_}
 use mathlib.Core.Bool.{Bool, true, false, _&&_}
-use lib.ListN.{length}
-use lib.Dec.{leb, ltb, eqb}
+use lib.Dec.{leb, ltb}
 use borrow.Author.Tests.{leb-true, lt-ltb, le-ltb}
 use Rattle.topology.specs.Reader.{pick}
 use Rattle.pifo.proofs.Order.{both}
-use Rattle.pifo.specs.Queue.{Entry, Item, child, packet, entry, rank, item, insert, risesFrom, every, isOf, occurs}
+use Rattle.pifo.specs.Queue.{Entry, Item, rank, item, insert, risesFrom, every, occurs}
 
 and-assoc : (a b c : Bool) → (a && b) && c ≡ a && (b && c)
 and-assoc true b c = refl
@@ -36,18 +35,6 @@ module _ {P : Type 0} where
   pub occurs-append : (i : ℕ) (q s : List (Entry P)) → occurs i (q ++ s) ≡ occurs i q + occurs i s
   occurs-append i [] s = omega arith
   occurs-append i (e ∷ q) s = omega (arith, occurs-append i q s)
-
-  is-one : (i : ℕ) (x : Item P) → isOf i x ≤ 1
-  is-one i (packet p) = omega arith
-  is-one i (child j) = by-test (eqb i j)
-    where
-      by-test : (b : Bool) → _≤_ (pick b 1 0) 1
-      by-test true = omega arith
-      by-test false = omega arith
-
-  pub occurs-length : (i : ℕ) (q : List (Entry P)) → occurs i q ≤ length q
-  occurs-length i [] = omega arith
-  occurs-length i (entry r x ∷ q) = omega (arith, occurs-length i q, is-one i x)
 
   -- an entry of no lower rank than all goes to the end; one that goes before the last entry is not concerned with it
   pub insert-last : (r : ℕ) (e : Entry P) (q : List (Entry P)) → risesFrom r q ≡ true → lastFrom r q ≤ rank e → insert e q ≡ q ++ (e ∷ [])

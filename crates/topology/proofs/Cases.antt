@@ -52,20 +52,21 @@ pub above-not : (bytes : List ℕ) (a b : ℕ) → b < a → false ≡ isAbove b
 unfolding isAbove
 above-not bytes a b h = rw (lt-leb a b h)
 
+-- a child comes after its parent
+start-after : (bytes : List ℕ) (n i : ℕ) → n < start bytes n i
+unfolding branchEnd
+start-after bytes n zero = omega arith
+start-after bytes n (suc i) = omega (arith, start-after bytes n i)
+
 -- The scan over the children of node n for the one toward y: it stands at child i + 1, of k in all, which starts no later than y.
 module _ (bytes : List ℕ) (n y : ℕ) where
   pub toward-out : length bytes ≤ n → Nowhere ≡ towardAt bytes n y
   unfolding towardAt
   toward-out h = rw (List·getD-eq-default bytes 0 h)
 
-  start-behind : (i : ℕ) → n < start bytes n i
-  unfolding branchEnd
-  start-behind zero = omega arith
-  start-behind (suc i) = omega (arith, start-behind i)
-
   toward-none : (i k : ℕ) → y ≤ n → towardFrom bytes n y i k ≡ Nowhere
   toward-none i zero h = refl
-  toward-none i (suc k) h = rw (sym (above-not bytes (start bytes n i) y (omega (arith, start-behind i)))) (toward-none (suc i) k h)
+  toward-none i (suc k) h = rw (sym (above-not bytes (start bytes n i) y (omega (arith, start-after bytes n i)))) (toward-none (suc i) k h)
 
   pub toward-before : y ≤ n → Nowhere ≡ towardAt bytes n y
   unfolding towardAt
@@ -95,11 +96,6 @@ module _ (bytes : List ℕ) (n y : ℕ) where
       rw e
 
 -- The child toward a node comes after its parent, and is that node or comes before it.
-start-after : (bytes : List ℕ) (n i : ℕ) → n < start bytes n i
-unfolding branchEnd
-start-after bytes n zero = omega arith
-start-after bytes n (suc i) = let h = start-after bytes n i in omega arith
-
 above-low : (bytes : List ℕ) (a b : ℕ) → isAbove bytes a b ≡ true → a ≤ b
 unfolding isAbove
 above-low bytes a b e = by-test (leb a b) refl e

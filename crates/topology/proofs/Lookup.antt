@@ -191,9 +191,6 @@ module _ (limit : ℕ) (bytes : List ℕ) (e : fault limit bytes ≡ 0) where
     pub start-lt : start bytes n i < length bytes
     start-lt = omega (arith, valid-start, childOf-lt (tree bytes) n (suc i) valid-has, valid-size)
 
-  pub valid-end : (n : ℕ) → n < size (tree bytes) → branchEnd bytes n ≡ n + size (subtree (tree bytes) n)
-  valid-end n h = ap (λ (bs : List ℕ). branchEnd bs n) (sym (drawn limit bytes e)) ∙ end-code (tree bytes) n h
-
   -- a child that the bytes show, and one that they do not
   pub valid-child : (n c next : ℕ) → childAt bytes n c ≡ Node next → HasChild (tree bytes) n c × (next ≡ childOf (tree bytes) n c)
   valid-child n c next f =
