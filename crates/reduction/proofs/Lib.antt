@@ -1,0 +1,5 @@
+pub mod Kept
+pub mod Reduced
+pub mod Next
+pub mod Limits
+pub mod Spread

@@ -1,0 +1,69 @@
+-- Lists over the kept nodes and lists over all nodes: where their numbers stand.
+use mathlib.Core.Path.{_≡_, refl, sym, ap, _∙_}
+use mathlib.Core.Logic.{_≢_}
+use Prim.Native.Nat.{ℕ, zero, suc, _+_, _≤_, _<_}
+use native.Mathlib.Nat.{not-suc-le-zero, le-of-suc-le-suc}
+use native.Mathlib.Omega.{arith}
+use mathlib.Core.List.{List, [], _∷_, _++_}
+use mathlib.Core.Bool.{Bool, true, false}
+use lib.ListN.{length, take, getD}
+use lib.Dec.{eqb}
+use borrow.Author.Tests.{eq-eqb, ne-eqb, eqb-true, eqb-false}
+use Rattle.topology.specs.Reader.{pick}
+use Rattle.reduction.specs.Reduced.{passedOver, keptBytes, place, spread, gathered}
+
+pub spread-length : (bs l : List ℕ) → length l ≡ length (keptBytes bs) → length (spread bs l) ≡ length bs
+spread-length [] l e = refl
+spread-length (b ∷ bs) l e = by-test l (eqb b 1) refl e (λ k. spread-length bs k)
+  where
+    by-test : (l : List ℕ) (t : Bool) → eqb b 1 ≡ t → length l ≡ length (pick t (keptBytes bs) (b ∷ keptBytes bs))
+        → ((k : List ℕ) → length k ≡ length (keptBytes bs) → length (spread bs k) ≡ length bs) → length (spread (b ∷ bs) l) ≡ suc (length bs)
+    by-test [] true q e r = rw q (ap suc (r [] e))
+    by-test [] false q e r = absurd (omega arith)
+    by-test (x ∷ l) true q e r = rw q (ap suc (r (x ∷ l) e))
+    by-test (x ∷ l) false q e r = rw q (ap suc (r l (omega (arith, e))))
+
+pub spread-kept : (bs l : List ℕ) (n : ℕ) → n < length bs → getD bs n 0 ≢ 1 → length l ≡ length (keptBytes bs) → getD (spread bs l) n 0 ≡ getD l (place bs n) 0
+spread-kept [] l n h k e = absurd (not-suc-le-zero h)
+spread-kept (b ∷ bs) l n h k e = by-test l n h k (eqb b 1) refl e (λ l n h. spread-kept bs l n h)
+  where
+    by-test : (l : List ℕ) (n : ℕ) → n < suc (length bs) → getD (b ∷ bs) n 0 ≢ 1 → (t : Bool) → eqb b 1 ≡ t → length l ≡ length (pick t (keptBytes bs) (b ∷ keptBytes bs))
+        → ((l : List ℕ) (n : ℕ) → n < length bs → getD bs n 0 ≢ 1 → length l ≡ length (keptBytes bs) → getD (spread bs l) n 0 ≡ getD l (place bs n) 0)
+        → getD (spread (b ∷ bs) l) n 0 ≡ getD l (place (b ∷ bs) n) 0
+    by-test [] zero h k true q e r = absurd (k (eqb-true b 1 q))
+    by-test [] zero h k false q e r = absurd (omega arith)
+    by-test [] (suc n) h k false q e r = absurd (omega arith)
+    by-test (x ∷ l) zero h k true q e r = absurd (k (eqb-true b 1 q))
+    by-test [] (suc n) h k true q e r = rw q (r [] n (le-of-suc-le-suc h) k e)
+    by-test (x ∷ l) (suc n) h k true q e r = rw q (r (x ∷ l) n (le-of-suc-le-suc h) k e)
+    by-test (x ∷ l) zero h k false q e r = rw q
+    by-test (x ∷ l) (suc n) h k false q e r = rw q (r l n (le-of-suc-le-suc h) k (omega (arith, e)))
+
+pub spread-passed : (bs l : List ℕ) (n : ℕ) → n < length bs → getD bs n 0 ≡ 1 → length l ≡ length (keptBytes bs) → getD (spread bs l) n 0 ≡ passedOver
+spread-passed [] l n h k e = absurd (not-suc-le-zero h)
+spread-passed (b ∷ bs) l n h k e = by-test l n h k (eqb b 1) refl e (λ l n h. spread-passed bs l n h)
+  where
+    by-test : (l : List ℕ) (n : ℕ) → n < suc (length bs) → getD (b ∷ bs) n 0 ≡ 1 → (t : Bool) → eqb b 1 ≡ t → length l ≡ length (pick t (keptBytes bs) (b ∷ keptBytes bs))
+        → ((l : List ℕ) (n : ℕ) → n < length bs → getD bs n 0 ≡ 1 → length l ≡ length (keptBytes bs) → getD (spread bs l) n 0 ≡ passedOver)
+        → getD (spread (b ∷ bs) l) n 0 ≡ passedOver
+    by-test [] zero h k true q e r = rw q
+    by-test [] zero h k false q e r = absurd (eqb-false b 1 q k)
+    by-test [] (suc n) h k false q e r = absurd (omega arith)
+    by-test [] (suc n) h k true q e r = rw q (r [] n (le-of-suc-le-suc h) k e)
+    by-test (x ∷ l) zero h k true q e r = rw q
+    by-test (x ∷ l) zero h k false q e r = absurd (eqb-false b 1 q k)
+    by-test (x ∷ l) (suc n) h k true q e r = rw q (r (x ∷ l) n (le-of-suc-le-suc h) k e)
+    by-test (x ∷ l) (suc n) h k false q e r = rw q (r l n (le-of-suc-le-suc h) k (omega (arith, e)))
+
+-- every number of the reduced drawing is some kept node's
+pub kept-of : (bs : List ℕ) (j : ℕ) → j < length (keptBytes bs) → (n : ℕ) × (n < length bs) × (getD bs n 0 ≢ 1) × (place bs n ≡ j)
+kept-of [] j h = absurd (not-suc-le-zero h)
+kept-of (b ∷ bs) j h = by-test j (eqb b 1) refl h (λ j h. kept-of bs j h)
+  where
+    by-test : (j : ℕ) (t : Bool) → eqb b 1 ≡ t → j < length (pick t (keptBytes bs) (b ∷ keptBytes bs))
+        → ((j : ℕ) → j < length (keptBytes bs) → (n : ℕ) × (n < length bs) × (getD bs n 0 ≢ 1) × (place bs n ≡ j))
+        → (n : ℕ) × (n < suc (length bs)) × (getD (b ∷ bs) n 0 ≢ 1) × (place (b ∷ bs) n ≡ j)
+    by-test j true q h r = let f = r j h in (suc (f .0), omega (arith, f .1), f .2, rw q (f .3))
+    by-test zero false q h r = (0, omega arith, eqb-false b 1 q, refl)
+    by-test (suc j) false q h r = let f = r j (le-of-suc-le-suc h) in (suc (f .0), omega (arith, f .1), f .2, rw q (ap suc (f .3)))
+

@@ -1,0 +1,1 @@
+// The kept nodes of a drawing (paper 02, 2.2).
