@@ -198,7 +198,7 @@ module _ (S T : Topo) (m : List ℕ) (l : Local S T m) where
         long = l .long;
         within = l .within;
         once = rule-1 S T m order;
-        root = l .root;
+        root = λ _. l .root;
         leaf = l .leaf;
         order = order;
       }

@@ -198,8 +198,8 @@ module _ (S T : Topo) where
       opens s = opens-from (size S) s (omega arith)
 
     -- Where the table is shut at the roots no list passes.
-    pub program-none : none ≤ best 0 0 → (l : List ℕ) → Passes S T l → ((s : ℕ) → s < size S → fits s (image l s)) → ⊥
-    program-none h l p a = omega (arith, subst (λ (x : ℕ). best 0 x < none) (p .root) (opens l p a 0 (size-pos S)))
+    pub program-none : width S ≢ 0 → none ≤ best 0 0 → (l : List ℕ) → Passes S T l → ((s : ℕ) → s < size S → fits s (image l s)) → ⊥
+    program-none w h l p a = omega (arith, subst (λ (x : ℕ). best 0 x < none) (p .root w) (opens l p a 0 (size-pos S)))
 
     pub record LeastAllowed (m : List ℕ) : Type 0 where
       pub passes : Passes S T m

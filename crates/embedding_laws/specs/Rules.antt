@@ -1,31 +1,46 @@
--- The four rules of a map between two trees, in the words of paper 01, and the order of lists.
+-- The four rules of a map between two trees, in the words of paper 01 as paper 02, 2.2 reads them, and the order of lists.
 use mathlib.Core.Path.{_≡_}
-use mathlib.Core.Logic.{_↔_, _⊎_}
+use mathlib.Core.Logic.{_↔_, _⊎_, _≢_}
 use Prim.Native.Nat.{ℕ, _<_}
 use mathlib.Core.List.{List, [], _∷_}
 use lib.ListN.{length, getD}
 use Rattle.topology.specs.Tree.{Topo, width, size}
 use Rattle.topology.specs.Address.{Above, addr, subtree}
+use Rattle.reduction.specs.Kept.{Kept, top}
+use Rattle.reduction.specs.Reduced.{passedOver}
 
 -- the image of source node a, listed by source number
 abbrev pub image : List ℕ → ℕ → ℕ
 image m a = getD m a 0
 
--- The list gives one target node for each source node and meets the four rules: it is an embedding of the source into the target.
+-- The list gives one target node for each kept node and 255 for each passed one, and breaks none of the rules: it is an embedding of what is left
+-- of the source into the target.
 pub record Passes (source target : Topo) (m : List ℕ) : Type 0 where
   pub long : length m ≡ size source
-  pub within : (a : ℕ) → a < size source → image m a < size target
-  -- 1: two source nodes never have one image
-  pub once : (a b : ℕ) → a < size source → b < size source → image m a ≡ image m b → a ≡ b
-  -- 2: the root goes to the root
-  pub root : image m 0 ≡ 0
+  pub passed : (a : ℕ) → a < size source → width (subtree source a) ≡ 1 → image m a ≡ passedOver
+  pub within : (a : ℕ) → a < size source → Kept source a → image m a < size target
+  -- 1: two kept nodes never have one image
+  pub once : (a b : ℕ) → a < size source → b < size source → Kept source a → Kept source b → image m a ≡ image m b → a ≡ b
+  -- 2: the top node goes to the root; the rule lapses where the top node is a leaf, which is then alone
+  pub root : width (subtree source (top source)) ≢ 0 → image m (top source) ≡ 0
   -- 3: a leaf goes to a leaf
   pub leaf : (a : ℕ) → a < size source → width (subtree source a) ≡ 0 → width (subtree target (image m a)) ≡ 0
   -- 4: the first is the second or lies above it if and only if the same holds of their images
+  pub order : (a b : ℕ) → a < size source → b < size source → Kept source a → Kept source b
+      → (Above (addr source a) (addr source b) ↔ Above (addr target (image m a)) (addr target (image m b)))
+
+-- The same for a drawing without passed nodes, such as a reduced one. The check and the search go by these; `embeds-passes` and `passes-reduced` in
+-- proofs/Maps lead from the one to the other.
+pub record Embeds (source target : Topo) (m : List ℕ) : Type 0 where
+  pub long : length m ≡ size source
+  pub within : (a : ℕ) → a < size source → image m a < size target
+  pub once : (a b : ℕ) → a < size source → b < size source → image m a ≡ image m b → a ≡ b
+  pub root : width source ≢ 0 → image m 0 ≡ 0
+  pub leaf : (a : ℕ) → a < size source → width (subtree source a) ≡ 0 → width (subtree target (image m a)) ≡ 0
   pub order : (a b : ℕ) → a < size source → b < size source
       → (Above (addr source a) (addr source b) ↔ Above (addr target (image m a)) (addr target (image m b)))
 
--- One list comes before another of the same length: it has the smaller number at the first difference.
+-- One list comes before another of the same length: it has the smaller number at the first difference. Lists that pass differ at kept nodes alone.
 abbrev pub Before : List ℕ → List ℕ → Type 0
 Before [] ys = ⊥
 Before (x ∷ xs) [] = ⊥
