@@ -1,6 +1,6 @@
 -- Disciplines of the nodes of a drawing (paper 02, 2.1): the ranks that they give a packet on the way to its leaf, and what they keep. Weighted is
 -- start-time fair queueing, Figure 1 of document 002, with the children of a node as its flows. All lists go by node number of the drawing; a
--- weight and a finish are those of a node under its parent.
+-- weight and a finish are those of a node under its parent. A node that is passed over (2.2) gives rank 0 and keeps nothing.
 use Prim.Native.Nat.{ℕ, zero, suc, _+_, _*_, _/_, max}
 use mathlib.Core.List.{List, [], _∷_}
 use mathlib.Core.Bool.{Bool, true, _&&_}
@@ -30,6 +30,10 @@ noRule = record { discipline = arrival; weight = 0 }
 
 abbrev pub kindAt : List Rule → ℕ → ℕ
 kindAt rules n = getD rules n noRule .discipline
+
+-- The discipline by which a node acts: an inner node with one child is passed over, whatever its discipline, and acts as by arrival.
+abbrev pub actsAt : Topo → List Rule → ℕ → ℕ
+actsAt t rules n = pick (eqb (width (subtree t n)) 1) arrival (kindAt rules n)
 
 abbrev pub weightAt : List Rule → ℕ → ℕ
 weightAt rules n = getD rules n noRule .weight
@@ -74,27 +78,27 @@ abbrev pub stepsDown : Topo → Disciplines → ℕ → ℕ → Addr → List St
 stepsDown t d class n [] = []
 stepsDown t d class n (i ∷ a) =
     let c = childOf t n i in
-    step i (rankBy (kindAt (d .rules) n) (start d n c) class) ∷ stepsDown t d class c a
+    step i (rankBy (actsAt t (d .rules) n) (start d n c) class) ∷ stepsDown t d class c a
 
 -- the finishes after it
 abbrev pub finishesDown : Topo → Disciplines → ℕ → ℕ → Addr → List Rank → List Rank
 finishesDown t d length n [] fs = fs
 finishesDown t d length n (i ∷ a) fs =
     let c = childOf t n i in
-    finishesDown t d length c a (finishBy (kindAt (d .rules) n) c (finish d n c length) fs)
+    finishesDown t d length c a (finishBy (actsAt t (d .rules) n) c (finish d n c length) fs)
 
 -- whether each finish that it gives fits
 abbrev pub fitsDown : Topo → Disciplines → ℕ → ℕ → Addr → Bool
 fitsDown t d length n [] = true
 fitsDown t d length n (i ∷ a) =
     let c = childOf t n i in
-    fitsBy (kindAt (d .rules) n) (finish d n c length) && fitsDown t d length c a
+    fitsBy (actsAt t (d .rules) n) (finish d n c length) && fitsDown t d length c a
 
 -- ---- after a pop
 
--- Only a weighted node of the drawing keeps a virtual time.
+-- Only a node of the drawing that acts as weighted keeps a virtual time.
 abbrev pub keepsTime : Topo → List Rule → ℕ → Bool
-keepsTime t rules n = ltb n (size t) && eqb (kindAt rules n) weighted
+keepsTime t rules n = ltb n (size t) && eqb (actsAt t rules n) weighted
 
 -- the rank that the pop took at the node, if it took one there, else the time before
 abbrev pub lastOf : Option Rank → Rank → Rank
