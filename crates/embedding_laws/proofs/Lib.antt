@@ -1,5 +1,6 @@
 pub mod All
 pub mod First
+pub mod Maps
 pub mod Rules
 pub mod Obeys
 pub mod Least
