@@ -4,6 +4,7 @@ pub mod Maps
 pub mod Rules
 pub mod Obeys
 pub mod Least
+pub mod Lone
 pub mod Sets
 pub mod Placing
 pub mod Local
