@@ -19,6 +19,10 @@ use Rattle.embedding_laws.specs.Least.{list, leastMap}
 use Rattle.embedding_laws.specs.Meaning.{firstLeaf}
 use Rattle.embedding_laws.proofs.Least.{least-is}
 
+pub leaf-code : (t : Topo) → width t ≡ 0 → code t ≡ 0 ∷ []
+leaf-code (node fnil) w = refl
+leaf-code (node (fcons t ts)) w = absurd (omega arith)
+
 -- ---- the first byte 0
 
 first-zero : (bs : List ℕ) → firstLeaf bs < length bs → getD bs (firstLeaf bs) 0 ≡ 0

@@ -51,11 +51,7 @@ module _ (source target : List ℕ) (d : Draws 32 source) (e : Draws 64 target) 
       sym (ap (λ (b : List ℕ). getD b 0 0) (d .is)) ∙ byte-width (tree source) 0 l ∙ ap (λ (a : Addr). width (sub (tree source) a)) (addr-root (tree source))
 
   pub lone : getD source 0 0 ≡ 0 → 0 ∷ [] ≡ source
-  lone z = leaf-code (tree source) (sym first-byte ∙ z) ∙ d .is
-    where
-      leaf-code : (t : Topo) → width t ≡ 0 → 0 ∷ [] ≡ code t
-      leaf-code (node fnil) w = refl
-      leaf-code (node (fcons t ts)) w = absurd (omega arith)
+  lone z = sym (leaf-code (tree source) (sym first-byte ∙ z)) ∙ d .is
 
   module _ (best : List ℕ) (truth : Truth (tree source) (tree target) (bestBy best) 0) (inner : getD source 0 0 ≢ 0) where
     branching : width (tree source) ≢ 0
