@@ -8,5 +8,6 @@ pub mod Mirrored
 pub mod Chip
 pub mod Keeping
 pub mod Simulation
+pub mod Reduced
 pub mod Nodes
 pub mod Examples

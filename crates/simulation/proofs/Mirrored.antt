@@ -145,15 +145,15 @@ module _ {S T : Topo} {F : Addr → Addr} (K : Keeps S T F) where
       mirrors-push ss l p h =
           record {
             queues = λ b a i j o.
-              pushed a
-              ∙ ap₂ put (path-along ss l p b a h i j o) (M .queues b a i j o)
-              ∙ sym (turned-put (turn F b a) (turn-rank F b a) (along ss l p b) (queueAt s b) (queue-rises s b w))
-              ∙ ap (turned (turn F b a)) (sym (push-queue s ss l p b (rw hs h)));
+                pushed a
+                ∙ ap₂ put (path-along ss l p b a h i j o) (M .queues b a i j o)
+                ∙ sym (turned-put (turn F b a) (turn-rank F b a) (along ss l p b) (queueAt s b) (queue-rises s b w))
+                ∙ ap (turned (turn F b a)) (sym (push-queue s ss l p b (rw hs h)));
             over = λ a j d e.
-              pushed a
-              ∙ ap₂ put (path-over ss l p a j d e) (M .over a j d e)
-              ∙ insert-same (entry 0 (child j)) (held s)
-              ∙ ap (λ (n : ℕ). replicate n (entry 0 (child j))) (sym (push-held s ss l p (rw hs h)));
+                pushed a
+                ∙ ap₂ put (path-over ss l p a j d e) (M .over a j d e)
+                ∙ insert-same (entry 0 (child j)) (held s)
+                ∙ ap (λ (n : ℕ). replicate n (entry 0 (child j))) (sym (push-held s ss l p (rw hs h)));
             off = λ c x y d e n q. pushed (c ++ (x ∷ d)) ∙ ap₂ put (path-off ss l p c x y d e n q) (M .off c x y d e n q);
           }
         where
