@@ -3,3 +3,4 @@ pub mod Reduced
 pub mod Next
 pub mod Limits
 pub mod Spread
+pub mod Scanning
