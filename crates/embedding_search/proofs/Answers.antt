@@ -1,28 +1,38 @@
--- The search's answers: a tree that was read is drawn by its bytes within the limits; whether there is a map, and the map, follow from what the
--- table says; a refusal of the reader comes first. One law for each answer.
+-- The search's answers: a tree that was read is drawn by its bytes within the limits; whether there are images, and which, follows from what the
+-- table says or, for a lone leaf, from the first leaf; a refusal of the reader comes first. One law for each answer.
 use mathlib.Core.Path.{_≡_, refl, sym, ap, _∙_, subst}
+use mathlib.Core.Logic.{_≢_}
 use Prim.Native.Nat.{ℕ, zero, suc, _≤_, _<_}
 use native.Mathlib.Decide.{decLt}
 use native.Mathlib.Omega.{arith}
-use mathlib.Core.List.{List}
-use lib.ListN.{length, getD, replicate, List·getD-eq-default}
-use Rattle.topology.specs.Tree.{size}
-use Rattle.topology.specs.Address.{addr}
+use mathlib.Core.List.{List, [], _∷_}
+use mathlib.Core.Bool.{Bool, true, false}
+use lib.ListN.{length, getD, take, replicate, List·getD-eq-default}
+use Rattle.topology.specs.Tree.{width, size}
+use Rattle.topology.specs.Address.{Addr, sub, addr}
 use Rattle.topology.specs.Reader.{orElse, fault, tree}
-use Rattle.topology.proofs.Numbering.{addr-in}
-use Rattle.topology.proofs.Ancestry.{in-breadth}
+use Rattle.topology.proofs.Numbering.{addr-in, addr-root}
+use Rattle.topology.proofs.Ancestry.{in-breadth, size-pos}
 use Rattle.topology.proofs.Decoding.{length-code, byte-width}
 use Rattle.topology.proofs.Reader.{drawn, within}
+use Rattle.topology.proofs.Cases.{clash}
+use Rattle.reduction.specs.Reduced.{gathered, spread, keptBytes, in32}
+use Rattle.reduction.specs.declared.Gathered.{Gathered}
+use Rattle.reduction.proofs.Limits.{kept-fault}
+use Rattle.reduction.proofs.Gathering.{gathered-front, spread-front}
 use Rattle.embedding_laws.specs.Sets.{none}
-use Rattle.embedding_laws.specs.Least.{Found, nothing, list, leastMap, noneFault, padded, searchFault, searchMap, unlessRefused}
+use Rattle.embedding_laws.specs.Least.{Found, nothing, list, leastMap, leastOf, noneFault, padded, searchFault, searchMap, unlessRefused}
 use Rattle.embedding_laws.specs.Tables.{bestBy, Draws}
-use Rattle.embedding_laws.specs.Meaning.{Truth, ReadTo}
+use Rattle.embedding_laws.specs.Meaning.{Truth, ReadTo, firstLeaf}
 use Rattle.embedding_laws.proofs.Images.{found-none, found-list}
+use Rattle.embedding_laws.proofs.Lone.{leaf-code, lone-least}
+use Rattle.embedding_laws.proofs.Searching.{found-long}
 use Rattle.two_trees.specs.Trees.{treesFault}
 use Rattle.two_trees.proofs.Trees.{orElse-both, tree-fits}
 use Rattle.embedding_search.specs.Outcomes.{outcomeBy, outcome}
+use Rattle.embedding_search.specs.Images.{isFound, FindsLeast}
 use Rattle.embedding_search.specs.Search.{Searches}
-use Rattle.embedding_search.specs.declared.Outcome.{Outcome}
+use Rattle.embedding_search.specs.declared.LeastImages.{LeastImages}
 use Rattle.embedding_search.specs.declared.Outcome.the-variants.{Map, NoMap, Refused}
 
 draws : (limit : ℕ) (bytes : List ℕ) → fault limit bytes ≡ 0 → Draws limit bytes
@@ -109,8 +119,20 @@ module _ (source target : List ℕ) (refusal : ℕ) (e : refusal ≡ treesFault 
         where
           by-found : (a : Found) → leastMap (keptBytes source) target ≡ a → Searches source target (record { outcome = NoMap; map = replicate 32 0 })
           by-found nothing q = record { outcome = rw (no-fault .0, no-fault .1, q); map = rw (no-fault .0, no-fault .1, q) }
-          by-found (list l) q = absurd (clash (sym f ∙ found .found ∙ ap isFound q))
+          by-found (list l) q = absurd (clash (cc (f, found .found, ap isFound q)))
 
       pub search-found : r .«is_found» ≡ true → (m : List ℕ) → m ≡ in32 (spread (take 32 source) (r .images))
           → Searches source target (record { outcome = Map; map = m })
-      search-found f m s = ?
+      unfolding outcome searchFault searchMap leastOf
+      search-found f m s = by-found (leastMap (keptBytes source) target) refl
+        where
+          by-found : (a : Found) → leastMap (keptBytes source) target ≡ a → Searches source target (record { outcome = Map; map = m })
+          by-found nothing q = absurd (clash (cc (f, found .found, ap isFound q)))
+          by-found (list l) q =
+              let long = found-long source target (no-fault .0) (no-fault .1) l q in
+              let is : r .images ≡ in32 l = found .images ∙ ap padded q in
+              let spreads = spread-front source l (tree-fits 32 source (no-fault .0) .1) long in
+              record {
+                outcome = rw (no-fault .0, no-fault .1, q);
+                map = rw (no-fault .0, no-fault .1, q) (s ∙ ap (λ (k : List ℕ). in32 (spread (take 32 source) k)) is ∙ spreads);
+              }
