@@ -150,9 +150,10 @@ passes-reduced S T m p =
 
 -- So a drawing has a map exactly where its reduced drawing has one.
 pub maps-reduced : (S T : Topo) → ((m : List ℕ) → Passes S T m → ⊥) ↔ ((m : List ℕ) → Passes (reduced S) T m → ⊥)
-maps-reduced S T =
-    (λ n m p. n (spread (code S) (gathered (code (reduced S)) m)) (up (gathered (code (reduced S)) m) (passes-reduced (reduced S) T m p .1)),
-     λ n m p. n (spread (code (reduced S)) (gathered (code S) m)) (down (gathered (code S) m) (passes-reduced S T m p .1)))
+maps-reduced S T = (
+  λ n m p. n (spread (code S) (gathered (code (reduced S)) m)) (up (gathered (code (reduced S)) m) (passes-reduced (reduced S) T m p .1)),
+  λ n m p. n (spread (code (reduced S)) (gathered (code S) m)) (down (gathered (code S) m) (passes-reduced S T m p .1)),
+)
   where
     up : (l : List ℕ) → Embeds (reduced (reduced S)) T l → Passes S T (spread (code S) l)
     up l e = let q = subst (λ (t : Topo). Embeds t T l) (reduced-again S) e in embeds-passes S T l (q .long) q
