@@ -1,8 +1,10 @@
 pub mod All
 pub mod First
+pub mod Maps
 pub mod Rules
 pub mod Obeys
 pub mod Least
+pub mod Lone
 pub mod Sets
 pub mod Placing
 pub mod Local

@@ -17,7 +17,7 @@ use Rattle.topology.specs.Tree.{Topo, width, size}
 use Rattle.topology.specs.Address.{Addr, Above, addr, subtree, childOf}
 use Rattle.topology.proofs.Ancestry.{above-from, above-to, size-pos, subtree-end, subtree-sum}
 use Rattle.topology.proofs.Children.{HasChild, addr-childOf, childOf-after, child-within, Parent, parent, above-parent}
-use Rattle.embedding_laws.specs.Rules.{image, Passes}
+use Rattle.embedding_laws.specs.Rules.{image, Embeds}
 use Rattle.embedding_laws.specs.Meaning.{end}
 
 -- the branches of two nodes have no node in common
@@ -192,8 +192,8 @@ module _ (S T : Topo) (m : List ℕ) (l : Local S T m) where
           by-order (yes k) d (yes e) = absurd (omega (arith, nested b a k h e .0))
           by-order (yes k) d (no n) = absurd (not-apart (turn (disjoint b a k h (omega arith))))
 
-  pub local-passes : Passes S T m
-  local-passes =
+  pub local-embeds : Embeds S T m
+  local-embeds =
       record {
         long = l .long;
         within = l .within;

@@ -19,14 +19,14 @@ use Rattle.topology.specs.Tree.{Topo, width, size}
 use Rattle.topology.specs.Address.{subtree, childOf}
 use Rattle.topology.proofs.Ancestry.{above-from, above-to, size-pos, subtree-end}
 use Rattle.topology.proofs.Children.{HasChild, childOf-lt, addr-childOf, childOf-after, childOf-next, parent}
-use Rattle.embedding_laws.specs.Rules.{image, Passes, Before}
+use Rattle.embedding_laws.specs.Rules.{image, Embeds, Before}
 use Rattle.embedding_laws.specs.Sets.{pack, digit, none}
 use Rattle.embedding_laws.specs.Placing.{Member}
 use Rattle.topology.proofs.Cases.{clash}
 use Rattle.embedding_laws.proofs.Sets.{weight-le, member-length, pack-bound, digit-pack, pack-less}
 use Rattle.embedding_laws.proofs.Placing.{placed-map}
 use Rattle.embedding_laws.specs.Meaning.{end, kid, full, Fits, PlacedAt, Entry, TruthFor, ReadOff}
-use Rattle.embedding_laws.proofs.Local.{Apart, siblings, Local, local-passes}
+use Rattle.embedding_laws.proofs.Local.{Apart, siblings, Local, local-embeds}
 
 pub has-kid : (t : Topo) (s j : ℕ) → s < size t → j < width (subtree t s) → HasChild t s (width (subtree t s) - j)
 has-kid t s j h g = (h, omega arith, omega arith)
@@ -102,13 +102,13 @@ module _ (S T : Topo) where
           (λ j x l g o. rw (same j x (omega (arith, length-replicate (width (subtree S s)) true)) (omega (arith, subtree-end T t h))) o) (λ x g. refl)
 
   -- Maps whose images are all allowed: rule 3 is among what `fits` asks for.
-  module _ (fits : ℕ → ℕ → Type 0) (leaves : (s t : ℕ) → fits s t → Fits S T s t) (small : size T ≤ 64)
+  module _ (inner : width S ≢ 0) (fits : ℕ → ℕ → Type 0) (leaves : (s t : ℕ) → fits s t → Fits S T s t) (small : size T ≤ 64)
       (few : (s : ℕ) → s < size S → width (subtree S s) ≤ 8) (best : ℕ → ℕ → ℕ) (truth : TruthFor S T fits best 0) where
     -- the images of a node's children, by place
     abbrev kidImages : List ℕ → ℕ → List ℕ
     kidImages m s = tabulate (width (subtree S s)) (λ j. image m (kid S s j))
 
-    module _ (m : List ℕ) (p : Passes S T m) (allowed : (s : ℕ) → s < size S → fits s (image m s)) where
+    module _ (m : List ℕ) (p : Embeds S T m) (allowed : (s : ℕ) → s < size S → fits s (image m s)) where
       child-image : (s i : ℕ) → HasChild S s i → (image m s < image m (childOf S s i)) × (image m (childOf S s i) < end T (image m s))
       child-image s i h =
           let c = childOf S s i in
@@ -188,7 +188,7 @@ module _ (S T : Topo) where
           omega (arith, pack-none (kidImages m s) (omega (arith, length-tabulate (width (subtree S s)) (λ j. image m (kid S s j)), few s h)) (images-small s h))
         where
           at-root : (s : ℕ) → s ≡ 0 → image m s ≡ 0
-          at-root s z = rw z (p .root)
+          at-root s z = rw z (p .root inner)
 
           later : (j : ℕ) → j < width (subtree S s) → size S ≤ kid S s j + fuel
           later j l = omega (arith, childOf-after S s (width (subtree S s) - j) (has-kid S s j h l))
@@ -198,13 +198,13 @@ module _ (S T : Topo) where
       opens s = opens-from (size S) s (omega arith)
 
     -- Where the table is shut at the roots no list passes.
-    pub program-none : width S ≢ 0 → none ≤ best 0 0 → (l : List ℕ) → Passes S T l → ((s : ℕ) → s < size S → fits s (image l s)) → ⊥
-    program-none w h l p a = omega (arith, subst (λ (x : ℕ). best 0 x < none) (p .root w) (opens l p a 0 (size-pos S)))
+    pub program-none : none ≤ best 0 0 → (l : List ℕ) → Embeds S T l → ((s : ℕ) → s < size S → fits s (image l s)) → ⊥
+    program-none h l p a = omega (arith, subst (λ (x : ℕ). best 0 x < none) (p .root inner) (opens l p a 0 (size-pos S)))
 
     pub record LeastAllowed (m : List ℕ) : Type 0 where
-      pub passes : Passes S T m
+      pub embeds : Embeds S T m
       pub allowed : (s : ℕ) → s < size S → fits s (image m s)
-      pub first : (l : List ℕ) → Passes S T l → ((s : ℕ) → s < size S → fits s (image l s)) → Before l m → ⊥
+      pub first : (l : List ℕ) → Embeds S T l → ((s : ℕ) → s < size S → fits s (image l s)) → Before l m → ⊥
 
     module _ (m : List ℕ) (r : ReadOff S best m) (top : best 0 0 < none) where
       record Opened (s : ℕ) : Type 0 where
@@ -296,11 +296,11 @@ module _ (S T : Topo) where
           differ : (a i j : ℕ) → HasChild S a i → HasChild S a j → i ≢ j → width (subtree S a) - i ≢ width (subtree S a) - j
           differ a i j h g d = omega arith
 
-      pub read-passes : Passes S T m
-      read-passes = local-passes S T m local
+      pub read-embeds : Embeds S T m
+      read-embeds = local-embeds S T m local
 
       -- at the child i of s the images differ first: the table would hold a smaller placing
-      earlier : (l : List ℕ) → Passes S T l → ((s : ℕ) → s < size S → fits s (image l s)) → (s i : ℕ) (h : HasChild S s i) → image l s ≡ image m s
+      earlier : (l : List ℕ) → Embeds S T l → ((s : ℕ) → s < size S → fits s (image l s)) → (s i : ℕ) (h : HasChild S s i) → image l s ≡ image m s
           → image l (childOf S s i) < image m (childOf S s i) → ((n : ℕ) → n < childOf S s i → image l n ≡ image m n) → ⊥
       earlier l p a s i h e less same =
           let w = width (subtree S s) in
@@ -321,7 +321,7 @@ module _ (S T : Topo) where
           λ j k g. at j (omega arith) ∙ same (kid S s j) (childOf-mono S s (w - j) i (h .0) (omega arith) (omega (arith, h)) (omega (arith, h))) ∙ c .kids j (omega arith) in
           omega (arith, pack-less zs (c .images) (omega arith) (images-small l p a s (h .0)) (w - i) (omega arith) here above, c .number)
 
-      first : (l : List ℕ) → Passes S T l → ((s : ℕ) → s < size S → fits s (image l s)) → Before l m → ⊥
+      first : (l : List ℕ) → Embeds S T l → ((s : ℕ) → s < size S → fits s (image l s)) → Before l m → ⊥
       first l p a b =
           let d = difference l m b in
           by-node (d .index) (omega (arith, d .there, r .long)) (d .less) (d .same)
@@ -337,4 +337,4 @@ module _ (S T : Topo) where
 
       -- The list read off an open table is the least of those that pass and are allowed.
       pub program-least : LeastAllowed m
-      program-least = record { passes = read-passes; allowed = all-allowed; first = first }
+      program-least = record { embeds = read-embeds; allowed = all-allowed; first = first }

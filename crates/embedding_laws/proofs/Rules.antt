@@ -1,9 +1,9 @@
 -- Each test of the map check says what its rule says, where the bytes are the codes of two trees and every source node is tested.
 -- Then the check's number is 0 exactly where the list passes.
-use mathlib.Core.Path.{_≡_, refl, sym, ap, _∙_}
-use mathlib.Core.Logic.{_↔_}
+use mathlib.Core.Path.{_≡_, refl, sym, ap, _∙_, subst}
+use mathlib.Core.Logic.{_↔_, _≢_}
 use Prim.Native.Nat.{ℕ, suc, _<_}
-use native.Mathlib.Decide.{decLt}
+use native.Mathlib.Decide.{decLt, ℕ-discrete}
 use native.Mathlib.Omega.{arith}
 use mathlib.Core.List.{List}
 use mathlib.Core.Bool.{Bool, true, false, not, _||_}
@@ -11,17 +11,23 @@ use lib.ListN.{length, getD}
 use lib.Dec.{ltb, eqb}
 use borrow.Author.Tests.{ltb-true, lt-ltb, eqb-true, eqb-false, eq-eqb, ne-eqb, not-true}
 use Rattle.topology.specs.Tree.{Topo, width, size, code}
-use Rattle.topology.specs.Address.{Above, addr, subtree}
+use Rattle.topology.specs.Address.{Addr, Above, addr, sub, subtree}
 use Rattle.topology.specs.Reader.{pick, orElse, fault, tree}
 use Rattle.topology.specs.Branch.{isAbove}
 use Rattle.topology.proofs.Decoding.{length-code, byte-width}
+use Rattle.topology.proofs.Numbering.{addr-root}
+use Rattle.topology.proofs.Ancestry.{size-pos}
 use Rattle.topology.proofs.Lookup.{above-code, code-above}
 use Rattle.topology.proofs.Reader.{drawn}
 use Rattle.topology.proofs.Refusals.{orElse-none}
-use Rattle.embedding_laws.specs.Rules.{image, Passes}
-use Rattle.embedding_laws.specs.Check.{all, same, areNodes, rule1, rule2, rule3, rule4, listFault, mapFault}
+use Rattle.reduction.specs.Reduced.{passedOver, reduced, gathered, keptBytes}
+use Rattle.reduction.proofs.Reduced.{code-reduced, size-reduced}
+use Rattle.reduction.proofs.Spread.{spread-gathered}
+use Rattle.embedding_laws.specs.Rules.{image, Passes, Embeds}
+use Rattle.embedding_laws.specs.Check.{all, same, areNodes, rule1, rule2, rule3, rule4, imagesFault, areMarked, listFault, mapFault}
 use Rattle.topology.proofs.Cases.{clash}
 use Rattle.embedding_laws.proofs.All.{all-below, below-all}
+use Rattle.embedding_laws.proofs.Maps.{embeds-passes, passes-reduced}
 
 same-true : (x y : Bool) → same x y ≡ true → x ≡ y
 same-true true y e = sym e
@@ -68,13 +74,28 @@ module _ (S T : Topo) (m : List ℕ) where
       differ : (a b : ℕ) → a < size S → b < a → b ≡ a → ⊥
       differ a b h l e = omega arith
 
-  pub root-from : rule2 m ≡ true → image m 0 ≡ 0
-  unfolding rule2
-  root-from e = eqb-true (image m 0) 0 e
+  first-byte : getD (code S) 0 0 ≡ width S
+  first-byte = byte-width S 0 (size-pos S) ∙ ap (λ (a : Addr). width (sub S a)) (addr-root S)
 
-  pub root-to : image m 0 ≡ 0 → rule2 m ≡ true
+  pub root-from : rule2 (code S) m ≡ true → width S ≢ 0 → image m 0 ≡ 0
   unfolding rule2
-  root-to e = eq-eqb (image m 0) 0 e
+  root-from e n = by-test (eqb (image m 0) 0) refl (rw (ne-eqb (getD (code S) 0 0) 0 (λ z. n (sym first-byte ∙ z))) at e)
+    where
+      by-test : (b : Bool) → eqb (image m 0) 0 ≡ b → b || false ≡ true → image m 0 ≡ 0
+      by-test true q e = eqb-true (image m 0) 0 q
+      by-test false q e = absurd (clash (cc e))
+
+  pub root-to : (width S ≢ 0 → image m 0 ≡ 0) → rule2 (code S) m ≡ true
+  unfolding rule2
+  root-to r = by-width (ℕ-discrete (getD (code S) 0 0) 0)
+    where
+      by-width : Dec (getD (code S) 0 0 ≡ 0) → eqb (image m 0) 0 || eqb (getD (code S) 0 0) 0 ≡ true
+      by-width (yes e) = rw (eq-eqb (getD (code S) 0 0) 0 e) (either (eqb (image m 0) 0))
+        where
+          either : (b : Bool) → b || true ≡ true
+          either true = refl
+          either false = refl
+      by-width (no n) = rw (eq-eqb (image m 0) 0 (r (λ z. n (first-byte ∙ z))))
 
   module _ (within : (a : ℕ) → a < size S → image m a < size T) where
     pub leaf-from : rule3 (code S) (code T) (size S) m ≡ true
@@ -126,28 +147,26 @@ pick-none true rest k e = (refl, e)
 pick-none false rest k e = absurd (omega arith)
 
 -- What the number 0 says: no test fails.
-pub list-none : (s t m : List ℕ) → listFault s t m ≡ 0
-    → (length m ≡ length s) × (areNodes t (length s) m ≡ true) × (rule1 (length s) m ≡ true) × (rule2 m ≡ true)
-    × (rule3 s t (length s) m ≡ true) × (rule4 s t (length s) m ≡ true)
-unfolding listFault
-list-none s t m e =
+pub images-none : (s t m : List ℕ) → imagesFault s t m ≡ 0
+    → (areNodes t (length s) m ≡ true) × (rule1 (length s) m ≡ true) × (rule2 s m ≡ true) × (rule3 s t (length s) m ≡ true)
+    × (rule4 s t (length s) m ≡ true)
+unfolding imagesFault
+images-none s t m e =
     let n = length s in
     let f11 : ℕ = pick (rule4 s t n m) 0 11 in
     let f10 : ℕ = pick (rule3 s t n m) f11 10 in
-    let f9 : ℕ = pick (rule2 m) f10 9 in
+    let f9 : ℕ = pick (rule2 s m) f10 9 in
     let f8 : ℕ = pick (rule1 n m) f9 8 in
-    let f7 : ℕ = pick (areNodes t n m) f8 7 in
-    let a = pick-none (eqb (length m) n) f7 5 e in
-    let b = pick-none (areNodes t n m) f8 6 (a .1) in
+    let b = pick-none (areNodes t n m) f8 6 e in
     let c = pick-none (rule1 n m) f9 7 (b .1) in
-    let d = pick-none (rule2 m) f10 8 (c .1) in
+    let d = pick-none (rule2 s m) f10 8 (c .1) in
     let g = pick-none (rule3 s t n m) f11 9 (d .1) in
     let h = pick-none (rule4 s t n m) 0 10 (g .1) in
-    (eqb-true (length m) n (a .0), b .0, c .0, d .0, g .0, h .0)
+    (b .0, c .0, d .0, g .0, h .0)
 
-pub passes-from : (S T : Topo) (m : List ℕ) → length m ≡ size S → areNodes (code T) (size S) m ≡ true → rule1 (size S) m ≡ true
-    → rule2 m ≡ true → rule3 (code S) (code T) (size S) m ≡ true → rule4 (code S) (code T) (size S) m ≡ true → Passes S T m
-passes-from S T m l n r1 r2 r3 r4 =
+pub embeds-from : (S T : Topo) (m : List ℕ) → length m ≡ size S → areNodes (code T) (size S) m ≡ true → rule1 (size S) m ≡ true
+    → rule2 (code S) m ≡ true → rule3 (code S) (code T) (size S) m ≡ true → rule4 (code S) (code T) (size S) m ≡ true → Embeds S T m
+embeds-from S T m l n r1 r2 r3 r4 =
     let within = nodes-from S T m n in
     record {
       long = l;
@@ -158,27 +177,61 @@ passes-from S T m l n r1 r2 r3 r4 =
       order = order-from S T m within r4;
     }
 
-pub list-passes : (S T : Topo) (m : List ℕ) → listFault (code S) (code T) m ≡ 0 → Passes S T m
-list-passes S T m e = with-size (size S) (length-code S) (list-none (code S) (code T) m e)
-  where
-    with-size : (n : ℕ) → length (code S) ≡ n
-        → (length m ≡ length (code S)) × (areNodes (code T) (length (code S)) m ≡ true) × (rule1 (length (code S)) m ≡ true) × (rule2 m ≡ true)
-        × (rule3 (code S) (code T) (length (code S)) m ≡ true) × (rule4 (code S) (code T) (length (code S)) m ≡ true) → Passes S T m
-    with-size n e r =
-        let q = rw (length-code S) at r in
-        passes-from S T m (q .0) (q .1) (q .2) (q .3) (q .4) (q .5)
+images-embeds : (S T : Topo) (m : List ℕ) → length m ≡ size S → imagesFault (code S) (code T) m ≡ 0 → Embeds S T m
+images-embeds S T m l e =
+    let q = rw (length-code S) at (images-none (code S) (code T) m e) in
+    embeds-from S T m l (q .0) (q .1) (q .2) (q .3) (q .4)
 
-pub passes-list : (S T : Topo) (m : List ℕ) → Passes S T m → listFault (code S) (code T) m ≡ 0
-unfolding listFault
-passes-list S T m p =
+embeds-images : (S T : Topo) (m : List ℕ) → Embeds S T m → imagesFault (code S) (code T) m ≡ 0
+unfolding imagesFault
+embeds-images S T m p =
     rw (
       length-code S,
-      eq-eqb (length m) (size S) (p .long),
       nodes-to S T m (p .within),
       once-to S T m (p .once),
       root-to S T m (p .root),
       leaf-to S T m (p .within) (p .leaf),
       order-to S T m (p .within) (p .order),
+    )
+
+-- every node that is passed over has its mark
+module _ (S : Topo) (m : List ℕ) where
+  marked-from : areMarked (code S) m ≡ true → (a : ℕ) → a < length (code S) → getD (code S) a 0 ≡ 1 → image m a ≡ passedOver
+  unfolding areMarked
+  marked-from e a h q =
+      eqb-true (image m a) passedOver
+      (rw (eq-eqb (getD (code S) a 0) 1 q) at (all-below (length (code S)) (λ a. not (eqb (getD (code S) a 0) 1) || eqb (image m a) passedOver) e a h))
+
+  marked-to : ((a : ℕ) → a < size S → width (subtree S a) ≡ 1 → image m a ≡ passedOver) → areMarked (code S) m ≡ true
+  unfolding areMarked
+  marked-to p =
+      below-all (length (code S)) (λ a. not (eqb (getD (code S) a 0) 1) || eqb (image m a) passedOver) (λ a h. by-test a h (eqb (getD (code S) a 0) 1) refl)
+    where
+      by-test : (a : ℕ) → a < length (code S) → (x : Bool) → eqb (getD (code S) a 0) 1 ≡ x → not x || eqb (image m a) passedOver ≡ true
+      by-test a h false e = refl
+      by-test a h true e =
+          let there : a < size S = omega (arith, h, length-code S) in
+          eq-eqb (image m a) passedOver (p a there (sym (byte-width S a there) ∙ eqb-true (getD (code S) a 0) 1 e))
+
+list-passes : (S T : Topo) (m : List ℕ) → listFault (code S) (code T) m ≡ 0 → Passes S T m
+unfolding listFault
+list-passes S T m e =
+    let f7 = imagesFault (keptBytes (code S)) (code T) (gathered (code S) m) in
+    let a = pick-none (eqb (length m) (length (code S))) (pick (areMarked (code S) m) f7 26) 5 e in
+    let b = pick-none (areMarked (code S) m) f7 25 (a .1) in
+    let g = spread-gathered (code S) m (eqb-true (length m) (length (code S)) (a .0)) (marked-from S m (b .0)) in
+    let long = g .1 ∙ sym (size-reduced S) in
+    subst (Passes S T) (g .0)
+    (embeds-passes S T (gathered (code S) m) long (images-embeds (reduced S) T (gathered (code S) m) long (rw (code-reduced S) (b .1))))
+
+pub passes-list : (S T : Topo) (m : List ℕ) → Passes S T m → listFault (code S) (code T) m ≡ 0
+unfolding listFault
+passes-list S T m p =
+    rw (
+      eq-eqb (length m) (length (code S)) (p .long ∙ sym (length-code S)),
+      marked-to S m (p .passed),
+      ← code-reduced S,
+      embeds-images (reduced S) T (gathered (code S) m) (passes-reduced S T m p .1),
     )
 
 -- The check finds nothing exactly where both trees have no fault and the list passes.

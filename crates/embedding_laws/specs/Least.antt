@@ -1,12 +1,12 @@
 -- The least map of paper 01, and the search as a definition: the first list in list order that meets the rules for the reduced drawing, found by
 -- plain backtracking, with 255 at the nodes that are passed over (paper 02, 2.2).
-use Prim.Native.Nat.{ℕ, zero, suc, _-_}
+use Prim.Native.Nat.{ℕ, zero, suc}
 use mathlib.Core.List.{List, [], _∷_, _++_}
 use mathlib.Core.Bool.{Bool, _&&_}
 use lib.ListN.{length, replicate}
 use Rattle.topology.specs.Tree.{Topo, code}
 use Rattle.topology.specs.Reader.{pick, orElse, fault}
-use Rattle.reduction.specs.Reduced.{keptBytes, spread}
+use Rattle.reduction.specs.Reduced.{keptBytes, spread, in32}
 use Rattle.embedding_laws.specs.Rules.{Passes, Embeds, Before}
 use Rattle.embedding_laws.specs.Check.{areNodes, rule1, rule2, rule3, rule4}
 
@@ -85,7 +85,7 @@ searchFault source target =
 -- The map that comes back: 32 numbers, those past the last source node 0; all of them 0 where the search is refused.
 abbrev pub padded : Found → List ℕ
 padded nothing = replicate 32 0
-padded (list m) = m ++ replicate (32 - length m) 0
+padded (list m) = in32 m
 
 abbrev pub unlessRefused : ℕ → List ℕ → List ℕ
 unlessRefused zero l = l

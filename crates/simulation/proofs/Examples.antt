@@ -1,4 +1,4 @@
--- A worked path, from the definitions alone.
+-- Worked paths, from the definitions alone.
 use mathlib.Core.Path.{_≡_, refl}
 use mathlib.Core.List.{[], _∷_}
 use Rattle.topology.specs.Tree.{Topo, node, fnil, fcons, leaf}
@@ -16,3 +16,39 @@ binary = node (fcons leaf (fcons (node (fcons leaf (fcons leaf fnil))) fnil))
 pub figure-path : carry ternary binary (0 ∷ 1 ∷ 3 ∷ 4 ∷ []) (step 2 5 ∷ []) ≡ step 2 5 ∷ step 1 5 ∷ []
 unfolding addr
 figure-path = refl
+
+-- Nodes that are passed over (paper 02, 2.2): the trees 1 0, 1 1 0, 2 0 0, 1 2 0 0 and 2 1 0 0.
+abbrev single : Topo
+single = node (fcons leaf fnil)
+
+abbrev chain : Topo
+chain = node (fcons single fnil)
+
+abbrev fork : Topo
+fork = node (fcons leaf (fcons leaf fnil))
+
+abbrev deepFork : Topo
+deepFork = node (fcons fork fnil)
+
+abbrev longArm : Topo
+longArm = node (fcons single (fcons leaf fnil))
+
+-- a lone leaf, 0 in 1 0, image 1: the chip node above it gets the child toward it with rank 0
+pub lone-leaf : carry leaf single (1 ∷ []) [] ≡ step 1 0 ∷ []
+unfolding addr
+lone-leaf = refl
+
+-- a chain that ends in one, 1 1 0 in 1 0, images 255 255 1: the ranks of its steps, 5 and 7, go nowhere
+pub chain-path : carry chain single (255 ∷ 255 ∷ 1 ∷ []) (step 1 5 ∷ step 1 7 ∷ []) ≡ step 1 0 ∷ []
+unfolding addr
+chain-path = refl
+
+-- a passed root, 1 2 0 0 in 2 0 0, images 255 0 1 2: its own step gives nothing
+pub passed-root : carry deepFork fork (255 ∷ 0 ∷ 1 ∷ 2 ∷ []) (step 1 5 ∷ step 2 7 ∷ []) ≡ step 2 7 ∷ []
+unfolding addr
+passed-root = refl
+
+-- a passed node below a kept one, 2 1 0 0 in 2 0 0, images 0 255 1 2: the step into it is carried as one to the leaf below it
+pub passed-below : carry longArm fork (0 ∷ 255 ∷ 1 ∷ 2 ∷ []) (step 1 5 ∷ step 1 7 ∷ []) ≡ step 1 5 ∷ []
+unfolding addr
+passed-below = refl

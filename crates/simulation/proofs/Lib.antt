@@ -3,8 +3,11 @@ pub mod Images
 pub mod Turning
 pub mod Owners
 pub mod Carried
+pub mod Chains
 pub mod Mirrored
 pub mod Chip
+pub mod Keeping
 pub mod Simulation
+pub mod Reduced
 pub mod Nodes
 pub mod Examples

@@ -1,68 +1,164 @@
 -- A chip tree that mirrors the source tree goes on doing so (Lemmas 5.6, 5.7 and 5.9 of document 001): both empty; a push here and the
--- carried push there; a pop on both, which gives the same packet. Push and pop are seen queue by queue: the carried path makes at each
--- target node the owner's entry, turned, and to put in or take away goes together with turning.
+-- carried push there; a pop on both, which gives the same packet. Push and pop are seen queue by queue. At each target node that has an owner the
+-- carried path makes the owner's entry, turned, and to put in or take away goes together with turning. At each node above the image of the
+-- source's root it makes an entry of rank 0, the only kind that stands there. At nodes unrelated to that image it makes none.
 use mathlib.Core.Path.{_≡_, refl, sym, ap, ap₂, _∙_, subst}
-use Prim.Native.Nat.{ℕ, suc}
+use Prim.Native.Nat.{ℕ, zero, suc, _≤_, _<_}
+use native.Mathlib.Decide.{ℕ-discrete}
 use native.Mathlib.Omega.{arith}
 use mathlib.Core.List.{List, [], _∷_, _++_}
 use mathlib.Core.Bool.{true}
 use mathlib.Core.Option.{Option, none, some}
-use lib.ListN.{length}
+use lib.ListN.{length, replicate, length-replicate}
+use borrow.Author.Tests.{le-ltb}
+use Rattle.lists.proofs.Permutation.{length-perm}
+use Rattle.lists.proofs.Prefix.{Meet, below, over, apart, meet}
 use Rattle.topology.specs.Tree.{Topo, width}
-use Rattle.topology.specs.Address.{Addr, In}
-use Rattle.pifo.specs.Queue.{Entry, child, packet, entry, allowed, every}
+use Rattle.topology.specs.Address.{Addr, In, sub, Above}
+use Rattle.topology.proofs.Ancestry.{in-front, in-below, in-join}
+use Rattle.pifo.specs.Queue.{Entry, child, packet, entry, rank, insert, allowed, every}
 use Rattle.pifo.specs.Tree.{Step, pathFault, PTree, shape, empty, push, pop, held, well}
 use Rattle.pifo.specs.Addressed.{queueAt, along, put, atop}
 use Rattle.pifo.specs.Way.{takes}
-use Rattle.pifo.proofs.Queues.{push-queue, Trail, Trails, pop-trail, Heads, trail-pop, queue-empty, queue-rises, root-held, root-own}
+use Rattle.pifo.proofs.Queues.{push-queue, Trail, Trails, pop-trail, Heads, trail-pop, queue-empty, queue-rises, root-held}
 use Rattle.pifo.proofs.Order.{both}
-use Rattle.pifo.proofs.Pop.{child-own}
-use Rattle.simulation.specs.Mirror.{Owns, turn, turned, Mirrors}
-use Rattle.simulation.specs.Carrying.{carryFrom}
+use Rattle.pifo.proofs.Wellness.{packets-empty}
+use Rattle.pifo.proofs.Push.{push-held}
+use Rattle.pifo.proofs.Pop.{child-own, pop-some}
+use Rattle.simulation.specs.Mirror.{toward, Owns, ranked, turn, turned, Mirrors}
+use Rattle.simulation.specs.Carrying.{steps, carryFrom, carryBy}
+use Rattle.simulation.proofs.Prefixes.{above-trans}
 use Rattle.simulation.proofs.Images.{Keeps}
 use Rattle.simulation.proofs.Turning.{turn-rank, after, turned-atop, turned-put}
-use Rattle.simulation.proofs.Owners.{lower, root-owns, owner}
-use Rattle.simulation.proofs.Carried.{carried-fault, carried-along}
+use Rattle.simulation.proofs.Owners.{owner}
+use Rattle.simulation.proofs.Carried.{fault-steps, along-behind, along-on, along-off, carried-fault, carried-along}
+use Rattle.simulation.proofs.Chains.{chain-held, queue-own}
+
+-- only the root lies above the root
+above-root : (a : Addr) → Above a [] → a ≡ []
+above-root [] u = refl
+above-root (x ∷ a) (d, e) = absurd (omega (arith, ap length e))
+
+module _ {P : Type 0} where
+  -- an entry among others like it
+  insert-same : (e : Entry P) (n : ℕ) → insert e (replicate n e) ≡ replicate (suc n) e
+  insert-same e zero = refl
+  insert-same e (suc n) = rw (le-ltb (rank e) (rank e) (omega arith)) (ap (λ (q : List (Entry P)). e ∷ q) (insert-same e n))
+
+  on-head : (x : Option (Entry P)) (q k : List (Entry P)) → q ≡ atop x k → Heads x q
+  on-head none q k h = tt
+  on-head (some y) q k h = (k, h)
+
+  under : (x : Option (Entry P)) (q k : List (Entry P)) → atop x q ≡ atop x k → q ≡ k
+  under none q k h = h
+  under (some y) q k h = cc
 
 module _ {S T : Topo} {F : Addr → Addr} (K : Keeps S T F) where
-  -- a path as drawn, carried from the root on
-  pub path-fault : (ss : List Step) → pathFault S ss ≡ 0 → pathFault T (carryFrom F [] ss) ≡ 0
-  path-fault ss h = rw (K .root) at (carried-fault K [] ss tt h)
+  pub path-fault : (ss : List Step) → pathFault S ss ≡ 0 → pathFault T (carryBy F ss) ≡ 0
+  path-fault ss h = fault-steps T 0 (F []) (carryFrom F [] ss) (K .there [] tt) (carried-fault K [] ss tt h)
 
-  path-along : {P : Type 0} (ss : List Step) (l : ℕ) (p : P) (b a : Addr) → pathFault S ss ≡ 0 → In S b → In T a → Owns S F b a
-      → along (carryFrom F [] ss) l p a ≡ after (turn F b a) (along ss l p b)
-  path-along ss l p b a h i j o = carried-along K ss l p [] b a b a tt h refl (rw (K .root)) i j o
+  -- What a carried path makes: at a node with an owner, above the image of the source's root, and unrelated to that image.
+  module _ {P : Type 0} (ss : List Step) (l : ℕ) (p : P) where
+    path-along : (b a : Addr) → pathFault S ss ≡ 0 → In S b → In T a → Owns S F b a
+        → along (carryBy F ss) l p a ≡ after (turn F b a) (along ss l p b)
+    path-along b a h i j o =
+        let u = above-trans (F []) (F b) a (K .down [] b tt i (b, refl)) (o .covers) in
+        ap (along (carryBy F ss) l p) (u .1)
+        ∙ along-behind 0 (carryFrom F [] ss) l p (F []) (u .0)
+        ∙ carried-along K ss l p [] b (u .0) b a tt h refl (u .1) i j o
+
+    path-over : (a : Addr) (j : ℕ) (d : Addr) → F [] ≡ a ++ (j ∷ d) → along (carryBy F ss) l p a ≡ some (entry 0 (child j))
+    path-over a j d e =
+        ap (λ (g : Addr). along (steps 0 g ++ carryFrom F [] ss) l p a) e ∙ along-on 0 (carryFrom F [] ss) l p a j d
+
+    path-off : (c : Addr) (x y : ℕ) (d e : Addr) → (x ≡ y → ⊥) → F [] ≡ c ++ (y ∷ e) → along (carryBy F ss) l p (c ++ (x ∷ d)) ≡ none
+    path-off c x y d e n q =
+        ap (λ (g : Addr). along (steps 0 g ++ carryFrom F [] ss) l p (c ++ (x ∷ d))) q ∙ along-off 0 (carryFrom F [] ss) l p c x y d e n
+
+  -- Where the image of a node below c is the target's root, c has one child: two children would have unrelated images, and no node is unrelated to
+  -- the root.
+  alone : (c : Addr) (x : ℕ) (d : Addr) → In S (c ++ (x ∷ d)) → F (c ++ (x ∷ d)) ≡ [] → width (sub S c) ≡ 1
+  alone c x d i e = by-width (ℕ-discrete (width (sub S c)) 1) (ℕ-discrete x 1)
+    where
+      below-c : In (sub S c) (x ∷ d)
+      below-c = in-below S c (x ∷ d) i
+
+      second : (y : ℕ) → (x ≡ y → ⊥) → 0 < y → y ≤ width (sub S c) → ⊥
+      second y n p l =
+          let j = in-join S c (y ∷ []) (in-front S c (x ∷ d) i) (p, l, tt) in
+          K .apart c x y d [] n i j (F (c ++ (y ∷ [])), ap (λ (g : Addr). g ++ F (c ++ (y ∷ []))) (sym e))
+
+      by-width : Dec (width (sub S c) ≡ 1) → Dec (x ≡ 1) → width (sub S c) ≡ 1
+      by-width (yes q) r = q
+      by-width (no q) (yes r) = absurd (second 2 (λ z. omega arith) (omega arith) (omega (arith, below-c .0, below-c .1)))
+      by-width (no q) (no r) = absurd (second 1 r (omega arith) (omega (arith, below-c .0, below-c .1)))
 
   module _ {P : Type 0} where
     pub mirrors-empty : Mirrors {P = P} S T F (empty S) (empty T)
-    mirrors-empty = record { queues = λ b a i j o. queue-empty T a ∙ ap (turned (turn F b a)) (sym (queue-empty S b)) }
+    mirrors-empty =
+        record {
+          queues = λ b a i j o. queue-empty T a ∙ ap (turned (turn F b a)) (sym (queue-empty S b));
+          over = λ a j d e. queue-empty T a ∙ ap (λ (n : ℕ). replicate n (entry 0 (child j))) (ap length (sym (packets-empty P S)));
+          off = λ c x y d e n q. queue-empty T (c ++ (x ∷ d));
+        }
 
-    -- Both hold as many packets: the roots' queues are as long, as every entry of the source's root has its image below the root.
-    turned-all : (q : List (Entry P)) → every (allowed (width S)) q ≡ true → length (turned (turn F [] []) q) ≡ length q
-    turned-all [] h = refl
-    turned-all (entry r (packet p) ∷ q) h = ap suc (turned-all q (both (allowed (width S) (packet p)) (every (allowed (width S)) q) h .1))
-    turned-all (entry r (child i) ∷ q) h =
-        let o = child-own (width S) r i q h in
-        let w = lower K [] i (o .0, o .1, tt) in
-        let down : F (i ∷ []) ≡ w .0 ∷ w .1 = w .2 ∙ ap (λ (a : Addr). a ++ (w .0 ∷ w .1)) (K .root) in
-        rw down (ap suc (turned-all q (both (allowed (width S) (child i)) (every (allowed (width S)) q) h .1)))
+    -- no entry of the owner of the target's root is left out there, for its children's images lie below the root
+    turned-all : (b : Addr) → In S b → Owns S F b [] → (q : List (Entry P)) → every (allowed (width (sub S b))) q ≡ true
+        → length (turned (turn F b []) q) ≡ length q
+    turned-all b i o [] h = refl
+    turned-all b i o (entry r (packet p) ∷ q) h =
+        ap suc (turned-all b i o q (both (allowed (width (sub S b)) (packet p)) (every (allowed (width (sub S b))) q) h .1))
+    turned-all b i o (entry r (child x) ∷ q) h =
+        let c = child-own (width (sub S b)) r x q h in
+        by-image (F (b ++ (x ∷ []))) refl (in-join S b (x ∷ []) i (c .0, c .1, tt))
+        (turned-all b i o q (both (allowed (width (sub S b)) (child x)) (every (allowed (width (sub S b))) q) h .1))
+      where
+        by-image : (g : Addr) → F (b ++ (x ∷ [])) ≡ g → In S (b ++ (x ∷ [])) → length (turned (turn F b []) q) ≡ length q
+            → length (atop (ranked r (toward [] g)) (turned (turn F b []) q)) ≡ suc (length q)
+        by-image [] e j k = absurd (o .lowest x j ([], rw e))
+        by-image (z ∷ g) e j k = ap suc k
 
+    -- Both hold as many packets, as the target's root has an entry for each packet of the source. Where the image of the source's root lies below it,
+    -- that is what is said of nodes above the image. Where it is that image, its owner lies below nodes with one child only.
     pub mirrors-held : (s t : PTree P) → well s ≡ true → well t ≡ true → shape s ≡ S → Mirrors S T F s t → held t ≡ held s
-    mirrors-held s t w v hs M =
-        let own : every (allowed (width S)) (queueAt s []) ≡ true = rw hs at (root-own s w) in
-        omega (arith, root-held t v, root-held s w, ap length (M .queues [] [] tt tt (root-owns K)), turned-all (queueAt s []) own)
+    mirrors-held s t w v hs M = sym (root-held t v) ∙ by-image (F []) refl
+      where
+        own : (b : Addr) → In S b → every (allowed (width (sub S b))) (queueAt s b) ≡ true
+        own b i =
+            subst (λ (u : Topo). every (allowed (width (sub u b))) (queueAt s b) ≡ true) hs
+            (queue-own s b w (subst (λ (u : Topo). In u b) (sym hs) i))
+
+        by-image : (f : Addr) → F [] ≡ f → length (queueAt t []) ≡ held s
+        by-image (j ∷ d) e = ap length (M .over [] j d e) ∙ length-replicate (held s) (entry 0 (child j))
+        by-image [] e =
+            let o = owner K [] ([], rw e) in
+            let b = o .node in
+            let i = o .there in
+            let root : F b ≡ [] = above-root (F b) (o .owns .covers) in
+            ap length (M .queues b [] i tt (o .owns))
+            ∙ turned-all b i (o .owns) (queueAt s b) (own b i)
+            ∙ chain-held s b w (subst (λ (u : Topo). In u b) (sym hs) i)
+            (λ c x d q. subst (λ (u : Topo). width (sub u c) ≡ 1) (sym hs) (alone c x d (subst (In S) q i) (ap F (sym q) ∙ root)))
 
     module _ (s t : PTree P) (w : well s ≡ true) (hs : shape s ≡ S) (ht : shape t ≡ T) (M : Mirrors S T F s t) where
-      pub mirrors-push : (ss : List Step) (l : ℕ) (p : P) → pathFault S ss ≡ 0 → Mirrors S T F (push s ss l p) (push t (carryFrom F [] ss) l p)
-      mirrors-push ss l p h = record { queues = same }
+      pub mirrors-push : (ss : List Step) (l : ℕ) (p : P) → pathFault S ss ≡ 0 → Mirrors S T F (push s ss l p) (push t (carryBy F ss) l p)
+      mirrors-push ss l p h =
+          record {
+            queues = λ b a i j o.
+                pushed a
+                ∙ ap₂ put (path-along ss l p b a h i j o) (M .queues b a i j o)
+                ∙ sym (turned-put (turn F b a) (turn-rank F b a) (along ss l p b) (queueAt s b) (queue-rises s b w))
+                ∙ ap (turned (turn F b a)) (sym (push-queue s ss l p b (rw hs h)));
+            over = λ a j d e.
+                pushed a
+                ∙ ap₂ put (path-over ss l p a j d e) (M .over a j d e)
+                ∙ insert-same (entry 0 (child j)) (held s)
+                ∙ ap (λ (n : ℕ). replicate n (entry 0 (child j))) (sym (push-held s ss l p (rw hs h)));
+            off = λ c x y d e n q. pushed (c ++ (x ∷ d)) ∙ ap₂ put (path-off ss l p c x y d e n q) (M .off c x y d e n q);
+          }
         where
-          same : (b a : Addr) → In S b → In T a → Owns S F b a
-              → queueAt (push t (carryFrom F [] ss) l p) a ≡ turned (turn F b a) (queueAt (push s ss l p) b)
-          same b a i j o =
-              push-queue t (carryFrom F [] ss) l p a (rw ht (path-fault ss h))
-              ∙ ap₂ put (path-along ss l p b a h i j o) (M .queues b a i j o)
-              ∙ sym (turned-put (turn F b a) (turn-rank F b a) (along ss l p b) (queueAt s b) (queue-rises s b w))
-              ∙ ap (turned (turn F b a)) (sym (push-queue s ss l p b (rw hs h)))
+          pushed : (a : Addr) → queueAt (push t (carryBy F ss) l p) a ≡ put (along (carryBy F ss) l p a) (queueAt t a)
+          pushed a = push-queue t (carryBy F ss) l p a (rw ht (path-fault ss h))
 
       pub record Followed (p : P) (u : PTree P) : Type 0 where
         pub tree : PTree P
@@ -71,52 +167,71 @@ module _ {S T : Topo} {F : Addr → Addr} (K : Keeps S T F) where
         pub entries : (b a : Addr) → In S b → In T a → Owns S F b a → takes t a ≡ after (turn F b a) (takes s b)
 
       -- The source's pop takes the entries of a path from the heads; so the carried path's entries stand at the chip's heads, and the chip's
-      -- pop takes these.
+      -- pop takes these. What is left under them mirrors what is left of the source.
       pub mirrors-pop : (p : P) (u : PTree P) → pop s ≡ some (p, u) → Followed p u
       mirrors-pop p u e =
           let z = trail-pop t path (trail .last) p (rw ht (path-fault (trail .steps) valid)) heads in
           let o = trail-pop s (trail .steps) (trail .last) p (trail .valid) source-heads in
-          let same : (b a : Addr) → In S b → In T a → Owns S F b a → queueAt (z .tree) a ≡ turned (turn F b a) (queueAt u b) =
-          λ b a i j o. under (along path (trail .last) p a) (queueAt (z .tree) a) (turned (turn F b a) (queueAt u b)) (sym (z .queues a) ∙ before b a i j o) in
-          let turns : (b a : Addr) → In S b → In T a → Owns S F b a → takes t a ≡ after (turn F b a) (takes s b) =
-          λ b a i j g. z .entries a ∙ along-turned b a i j g ∙ ap (after (turn F b a)) (sym (o .entries b)) in
-          record { tree = z .tree; is = z .is; mirrors = record { queues = same }; entries = turns }
+          let left : (a : Addr) (q : List (Entry P)) → Stands a q → queueAt (z .tree) a ≡ q =
+          λ a q g. under (along path (trail .last) p a) (queueAt (z .tree) a) q (sym (z .queues a) ∙ g) in
+          record {
+            tree = z .tree;
+            is = z .is;
+            mirrors =
+                record {
+                  queues = λ b a i j o. left a (turned (turn F b a) (queueAt u b)) (before b a i j o);
+                  over = λ a j d q. left a (replicate (held u) (entry 0 (child j))) (before-over a j d q);
+                  off = λ c x y d g n q. left (c ++ (x ∷ d)) [] (before-off c x y d g n q);
+                };
+            entries = λ b a i j g. z .entries a ∙ along-turned b a i j g ∙ ap (after (turn F b a)) (sym (o .entries b));
+          }
         where
           trail : Trail s p u
           trail = subst (Trails s) e (pop-trail s w)
 
           path : List Step
-          path = carryFrom F [] (trail .steps)
+          path = carryBy F (trail .steps)
 
           valid : pathFault S (trail .steps) ≡ 0
           valid = rw hs at (trail .valid)
+
+          -- the chip's queue at a has the carried path's entry at its head, and q behind it
+          Stands : Addr → List (Entry P) → Type 0
+          Stands a q = queueAt t a ≡ atop (along path (trail .last) p a) q
 
           along-turned : (b a : Addr) → In S b → In T a → Owns S F b a
               → along path (trail .last) p a ≡ after (turn F b a) (along (trail .steps) (trail .last) p b)
           along-turned b a i j o = path-along (trail .steps) (trail .last) p b a valid i j o
 
-          before : (b a : Addr) → In S b → In T a → Owns S F b a
-              → queueAt t a ≡ atop (along path (trail .last) p a) (turned (turn F b a) (queueAt u b))
+          before : (b a : Addr) → In S b → In T a → Owns S F b a → Stands a (turned (turn F b a) (queueAt u b))
           before b a i j o =
               M .queues b a i j o
               ∙ ap (turned (turn F b a)) (trail .queues b)
               ∙ turned-atop (turn F b a) (along (trail .steps) (trail .last) p b) (queueAt u b)
               ∙ ap (λ (x : Option (Entry P)). atop x (turned (turn F b a) (queueAt u b))) (sym (along-turned b a i j o))
 
-          on-head : (x : Option (Entry P)) (q k : List (Entry P)) → q ≡ atop x k → Heads x q
-          on-head none q k h = tt
-          on-head (some y) q k h = (k, h)
+          before-over : (a : Addr) (j : ℕ) (d : Addr) → F [] ≡ a ++ (j ∷ d) → Stands a (replicate (held u) (entry 0 (child j)))
+          before-over a j d q =
+              M .over a j d q
+              ∙ ap (λ (n : ℕ). replicate n (entry 0 (child j))) (length-perm (pop-some s p u w e .contents))
+              ∙ ap (λ (x : Option (Entry P)). atop x (replicate (held u) (entry 0 (child j)))) (sym (path-over (trail .steps) (trail .last) p a j d q))
 
-          under : (x : Option (Entry P)) (q k : List (Entry P)) → atop x q ≡ atop x k → q ≡ k
-          under none q k h = h
-          under (some y) q k h = cc
+          before-off : (c : Addr) (x y : ℕ) (d g : Addr) → (x ≡ y → ⊥) → F [] ≡ c ++ (y ∷ g) → Stands (c ++ (x ∷ d)) []
+          before-off c x y d g n q =
+              M .off c x y d g n q ∙ ap (λ (o : Option (Entry P)). atop o []) (sym (path-off (trail .steps) (trail .last) p c x y d g n q))
 
           heads : (a : Addr) → In (shape t) a → Heads (along path (trail .last) p a) (queueAt t a)
-          heads a j =
-              let o = owner K a in
-              let there : In T a = rw ht at j in
-              on-head (along path (trail .last) p a) (queueAt t a) (turned (turn F (o .node) a) (queueAt u (o .node)))
-              (before (o .node) a (o .there) there (o .owns))
+          heads a h = by-meet (meet a (F []))
+            where
+              at-head : (q : List (Entry P)) → Stands a q → Heads (along path (trail .last) p a) (queueAt t a)
+              at-head q g = on-head (along path (trail .last) p a) (queueAt t a) q g
+
+              by-meet : Meet a (F []) → Heads (along path (trail .last) p a) (queueAt t a)
+              by-meet (below d q) =
+                  let o = owner K a (d, q) in
+                  at-head (turned (turn F (o .node) a) (queueAt u (o .node))) (before (o .node) a (o .there) (rw ht at h) (o .owns))
+              by-meet (over j d q) = at-head (replicate (held u) (entry 0 (child j))) (before-over a j d q)
+              by-meet (apart c x y d g n q r) = at-head [] (subst (λ (z : Addr). Stands z []) (sym q) (before-off c x y d g n r))
 
           source-heads : (b : Addr) → In (shape s) b → Heads (along (trail .steps) (trail .last) p b) (queueAt s b)
           source-heads b i = on-head (along (trail .steps) (trail .last) p b) (queueAt s b) (queueAt u b) (trail .queues b)

@@ -1,55 +1,36 @@
--- Every target node has an owner. It is found from the root down: where the image of some child still is the target node or lies
--- above it, that child takes over. This ends because images of children lie strictly lower.
-use mathlib.Core.Path.{_≡_, refl, sym, ap, _∙_, subst}
+-- Every target node that is the image of the source's root or lies below it has an owner. It is found from the root down: where the image of some
+-- child still is the target node or lies above it, that child takes over. This ends because the source is only so high.
+use mathlib.Core.Path.{_≡_, refl, sym, _∙_, subst}
 use mathlib.Core.Logic.{_⊎_, inl, inr}
 use Prim.Native.Nat.{ℕ, zero, suc, _+_, _≤_, _<_}
 use native.Mathlib.Decide.{ℕ-discrete}
 use native.Mathlib.Omega.{arith}
 use mathlib.Core.List.{[], _∷_, _++_, append-nil, append-assoc}
 use lib.ListN.{length, length-append}
-use Rattle.lists.proofs.Prefix.{Meet, below, over, apart, meet, apart-prefix}
-use Rattle.topology.specs.Tree.{Topo, width}
+use Rattle.lists.proofs.Prefix.{Meet, below, over, apart, meet}
+use Rattle.topology.specs.Tree.{Topo, width, height}
 use Rattle.topology.specs.Address.{Addr, In, sub, Above}
-use Rattle.topology.proofs.Ancestry.{in-front, in-below, in-join}
+use Rattle.topology.proofs.Ancestry.{in-front, in-below, in-join, in-height}
 use Rattle.simulation.specs.Mirror.{Owns}
-use Rattle.simulation.proofs.Prefixes.{above-trans, above-strict, above-either, above-dec}
+use Rattle.simulation.proofs.Prefixes.{above-trans, above-either, above-dec}
 use Rattle.simulation.proofs.Images.{Keeps}
 
 module _ {S T : Topo} {F : Addr → Addr} (K : Keeps S T F) where
-  -- a child's image lies strictly below
-  pub lower : (b : Addr) (i : ℕ) → In S (b ++ (i ∷ [])) → (j : ℕ) × (g : Addr) × (F (b ++ (i ∷ [])) ≡ F b ++ (j ∷ g))
-  lower b i h =
-      let s = in-front S b (i ∷ []) h in
-      by-rest (K .down b (b ++ (i ∷ [])) s h (i ∷ [], refl))
+  -- where a node owns its image, a child's image lies strictly below
+  pub lower : (b : Addr) (i : ℕ) → In S (b ++ (i ∷ [])) → Owns S F b (F b) → (j : ℕ) × (g : Addr) × (F (b ++ (i ∷ [])) ≡ F b ++ (j ∷ g))
+  lower b i h o = by-rest (K .down b (b ++ (i ∷ [])) (in-front S b (i ∷ []) h) h (i ∷ [], refl))
     where
       by-rest : Above (F b) (F (b ++ (i ∷ []))) → (j : ℕ) × (g : Addr) × (F (b ++ (i ∷ [])) ≡ F b ++ (j ∷ g))
-      by-rest ([], e) =
-          absurd (above-strict b i [] (K .up (b ++ (i ∷ [])) b h (in-front S b (i ∷ []) h) ([], sym (append-nil (F (b ++ (i ∷ []))) ∙ e ∙ append-nil (F b)))))
+      by-rest ([], e) = absurd (o .lowest i h ([], sym (append-nil (F (b ++ (i ∷ []))) ∙ e ∙ append-nil (F b))))
       by-rest (j ∷ g, e) = (j, g, e)
-
-  -- so a node owns its image, and the root the root
-  pub image-owned : (b : Addr) → Owns S F b (F b)
-  image-owned b = record { covers = ([], sym (append-nil (F b))); lowest = too-low }
-    where
-      too-low : (i : ℕ) → In S (b ++ (i ∷ [])) → Above (F (b ++ (i ∷ []))) (F b) → ⊥
-      too-low i h u =
-          let w = lower b i h in
-          above-strict (F b) (w .0) (w .1) (subst (λ (z : Addr). Above z (F b)) (w .2) u)
-
-  pub root-owns : Owns S F [] []
-  root-owns = subst (Owns S F []) (K .root) (image-owned [])
 
   -- the owner is the lowest: a source node whose image is that node or lies above it is the owner or lies above it
   pub owner-low : (b c a : Addr) → In S b → In S c → Owns S F b a → Above (F c) a → Above c b
   owner-low b c a i j o u = by-meet (meet b c)
     where
-      by-order : Above (F b) (F c) ⊎ Above (F c) (F b) → Above b c ⊎ Above c b
-      by-order (inl v) = inl (K .up b c i j v)
-      by-order (inr v) = inr (K .up c b j i v)
-
-      parted : (k : Addr) (x y : ℕ) (d e : Addr) → (x ≡ y → ⊥) → b ≡ k ++ (x ∷ d) → c ≡ k ++ (y ∷ e) → Above b c ⊎ Above c b → ⊥
-      parted k x y d e n g h (inl (f, v)) = n (sym (apart-prefix k y x e d f (sym h ∙ v ∙ ap (λ (z : Addr). z ++ f) g)))
-      parted k x y d e n g h (inr (f, v)) = n (apart-prefix k x y d e f (sym g ∙ v ∙ ap (λ (z : Addr). z ++ f) h))
+      parted : (k : Addr) (x y : ℕ) (d e : Addr) → (x ≡ y → ⊥) → b ≡ k ++ (x ∷ d) → c ≡ k ++ (y ∷ e) → Above (F b) (F c) ⊎ Above (F c) (F b) → ⊥
+      parted k x y d e n g h (inl v) = K .apart k x y d e n (subst (In S) g i) (subst (In S) h j) (rw h at (rw g at v))
+      parted k x y d e n g h (inr v) = K .apart k y x e d (λ q. n (sym q)) (subst (In S) h j) (subst (In S) g i) (rw g at (rw h at v))
 
       by-meet : Meet b c → Above c b
       by-meet (below d e) = (d, e)
@@ -57,7 +38,7 @@ module _ {S T : Topo} {F : Addr → Addr} (K : Keeps S T F) where
           let way : c ≡ (b ++ (x ∷ [])) ++ d = e ∙ sym (append-assoc b (x ∷ []) d) in
           let mid = in-front S (b ++ (x ∷ [])) d (subst (In S) way j) in
           absurd (o .lowest x mid (above-trans (F (b ++ (x ∷ []))) (F c) a (K .down (b ++ (x ∷ [])) c mid j (d, way)) u))
-      by-meet (apart k x y d e n g h) = absurd (parted k x y d e n g h (by-order (above-either (F b) (F c) a (o .covers) u)))
+      by-meet (apart k x y d e n g h) = absurd (parted k x y d e n g h (above-either (F b) (F c) a (o .covers) u))
 
   pub record Owner (a : Addr) : Type 0 where
     pub node : Addr
@@ -85,21 +66,19 @@ module _ {S T : Topo} {F : Addr → Addr} (K : Keeps S T F) where
           last-or-before i p u (yes e) l = n (subst (λ (x : ℕ). Above (F (b ++ (x ∷ []))) a) e u)
           last-or-before i p u (no e) l = m i p (omega arith) u
 
-  search-from : (fuel : ℕ) (a b : Addr) → In S b → Above (F b) a → length a < length (F b) + fuel → Owner a
-  search-from zero a b i u h = absurd (omega (arith, ap length (u .1), length-append (F b) (u .0)))
+  search-from : (fuel : ℕ) (a b : Addr) → In S b → Above (F b) a → height S < length b + fuel → Owner a
+  search-from zero a b i u h = absurd (omega (arith, in-height S b i))
   search-from (suc fuel) a b i u h = by-child (find a b (width (sub S b))) (λ c. search-from fuel a c)
     where
       by-child : ((i : ℕ) × (0 < i) × (i ≤ width (sub S b)) × Above (F (b ++ (i ∷ []))) a)
           ⊎ ((i : ℕ) → 0 < i → i ≤ width (sub S b) → Above (F (b ++ (i ∷ []))) a → ⊥)
-          → ((c : Addr) → In S c → Above (F c) a → length a < length (F c) + fuel → Owner a) → Owner a
+          → ((c : Addr) → In S c → Above (F c) a → height S < length c + fuel → Owner a) → Owner a
       by-child (inl (x, p, l, v)) more =
-          let there = in-join S b (x ∷ []) i (p, l, tt) in
-          let w = lower b x there in
-          more (b ++ (x ∷ [])) there v (omega (arith, ap length (w .2), length-append (F b) (w .0 ∷ w .1)))
+          more (b ++ (x ∷ [])) (in-join S b (x ∷ []) i (p, l, tt)) v (omega (arith, length-append b (x ∷ [])))
       by-child (inr n) more =
           let none : (x : ℕ) → In S (b ++ (x ∷ [])) → Above (F (b ++ (x ∷ []))) a → ⊥ =
           λ x j v. let r = in-below S b (x ∷ []) j in n x (r .0) (r .1) v in
           record { node = b; there = i; owns = record { covers = u; lowest = none } }
 
-  pub owner : (a : Addr) → Owner a
-  owner a = search-from (suc (length a)) a [] tt (a, rw (K .root)) (omega arith)
+  pub owner : (a : Addr) → Above (F []) a → Owner a
+  owner a u = search-from (suc (height S)) a [] tt u (omega arith)

@@ -19,7 +19,7 @@ use Rattle.simulation.specs.Embedding.{imageAt}
 use Rattle.simulation.specs.Carrying.{carry}
 use Rattle.simulation.specs.Mirror.{Mirrors}
 use Rattle.simulation.specs.Sheet.{pushCarried, serveCarried, Paired, MachinesAlike}
-use Rattle.simulation.proofs.Images.{keeps}
+use Rattle.simulation.proofs.Keeping.{keeps}
 use Rattle.simulation.proofs.Carried.{fault-length}
 use Rattle.simulation.proofs.Chip.{serves-carried}
 use Rattle.simulation.proofs.Mirrored.{path-fault, mirrors-empty, mirrors-held, mirrors-push, mirrors-pop}
