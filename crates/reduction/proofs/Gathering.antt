@@ -111,7 +111,8 @@ gather-held bytes list numbers count h e f =
     let l = gathered bytes list in
     let is : numbers ≡ in32 (gathered bytes list) = e ∙ ap in32 whole in
     let many : count ≡ length (gathered bytes list) = f ∙ ap length whole in
-    let few = gathered-fewer bytes list in
-    (omega (arith, many, few),
+    let few = gathered-fewer bytes list in (
+      omega (arith, many, few),
       ap length is ∙ length-in32 l (omega (arith, few)),
-      ap (take count) is ∙ take-at l (replicate (32 - length l) 0) count (sym many))
+      ap (take count) is ∙ take-at l (replicate (32 - length l) 0) count (sym many),
+    )

@@ -16,6 +16,7 @@ use Rattle.topology.specs.Reader.{pick}
 use Rattle.reduction.specs.Reduced.{passedOver, keptBytes, place, spread, in32}
 use Rattle.reduction.proofs.Reduced.{place-next}
 use Rattle.reduction.proofs.Gathering.{in32-next}
+use Rattle.reduction.proofs.Spread.{spread-mark}
 
 -- Spreading goes on by one node, as long as there are images.
 spread-next : (bs l : List ℕ) (i : ℕ) → i < length bs → place bs i < length l
@@ -92,13 +93,9 @@ spread-more : (bs l m : List ℕ) → length l ≡ length (keptBytes bs) → spr
 spread-more [] l m e = refl
 spread-more (b ∷ bs) l m e = by-test l (eqb b 1) refl e (λ k. spread-more bs k m)
   where
-    passed : (k : List ℕ) → eqb b 1 ≡ true → spread (b ∷ bs) k ≡ passedOver ∷ spread bs k
-    passed [] q = rw q
-    passed (x ∷ k) q = rw q
-
     by-test : (l : List ℕ) (t : Bool) → eqb b 1 ≡ t → length l ≡ length (pick t (keptBytes bs) (b ∷ keptBytes bs))
         → ((k : List ℕ) → length k ≡ length (keptBytes bs) → spread bs (k ++ m) ≡ spread bs k) → spread (b ∷ bs) (l ++ m) ≡ spread (b ∷ bs) l
-    by-test l true q e r = passed (l ++ m) q ∙ ap (λ (k : List ℕ). passedOver ∷ k) (r l e) ∙ sym (passed l q)
+    by-test l true q e r = spread-mark b bs (l ++ m) q ∙ ap (λ (k : List ℕ). passedOver ∷ k) (r l e) ∙ sym (spread-mark b bs l q)
     by-test [] false q e r = absurd (omega arith)
     by-test (x ∷ l) false q e r = rw q (ap (λ (k : List ℕ). x ∷ k) (r l (omega (arith, e))))
 
