@@ -19,7 +19,8 @@ use Rattle.topology.proofs.Cases.{clash}
 use Rattle.reduction.specs.Reduced.{gathered, spread, keptBytes, in32}
 use Rattle.reduction.specs.declared.Gathered.{Gathered}
 use Rattle.reduction.proofs.Limits.{kept-fault}
-use Rattle.reduction.proofs.Gathering.{gathered-held, spread-held}
+use Rattle.reduction.proofs.Gathering.{gathered-held}
+use Rattle.reduction.proofs.Spreading.{spread-held}
 use Rattle.embedding_laws.specs.Sets.{none}
 use Rattle.embedding_laws.specs.Least.{Found, nothing, list, leastMap, leastOf, noneFault, padded, searchFault, searchMap, unlessRefused}
 use Rattle.embedding_laws.specs.Tables.{bestBy, Draws}
