@@ -98,7 +98,16 @@ pub fn plan_to(bytes: &[u8], disciplines: Disciplines, leaf: usize, class: u8, l
         let Toward::Child(index, child) = branches::toward(bytes, node, leaf) else {
             return plan;
         };
-        plan = step_down(plan, disciplines, bytes[node], node, child, index, class, length);
+        plan = step_down(
+            plan,
+            disciplines,
+            bytes[node],
+            node,
+            child,
+            index,
+            class,
+            length,
+        );
         node = child;
     }
     plan
