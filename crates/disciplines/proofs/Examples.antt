@@ -1,12 +1,15 @@
--- Weighted sharing worked out, from the definitions alone: Figure 1 of document 002 at a root with two leaves.
+-- Weighted sharing worked out, from the definitions alone: Figure 1 of document 002 at a root with two leaves, and the same below a root that is
+-- passed over.
 use mathlib.Core.Path.{_≡_, refl}
 use Prim.Native.Nat.{ℕ}
 use mathlib.Core.List.{List, [], _∷_, map}
+use lib.ListN.{take}
 use Rattle.topology.specs.Tree.{Topo, node, fnil, fcons, leaf}
 use Rattle.topology.specs.Address.{addr, childOf}
 use Rattle.pifo.specs.Queue.{Rank}
-use Rattle.pifo.specs.Machine.{popping, Answer, accepted, departed, opened}
-use Rattle.disciplines.specs.Figure.{arrival, weighted, virtualAt, finishAt, fresh}
+use Rattle.pifo.specs.Tree.{step}
+use Rattle.pifo.specs.Machine.{pushing, popping, Answer, accepted, departed, opened}
+use Rattle.disciplines.specs.Figure.{arrival, weighted, virtualAt, finishAt, stepsDown, mostFinish, fresh}
 use Rattle.disciplines.specs.Scheduler.{Request, calling, pushingTo, rankAt, with, serveOwn, seenOver}
 use Rattle.disciplines.specs.declared.Rule.{Rule}
 use Rattle.disciplines.specs.declared.Disciplines.{Disciplines}
@@ -77,3 +80,35 @@ pub starts-now : table (second 21 ∷ second 22 ∷ second 23 ∷ second 24 ∷ 
     ∷ []
 unfolding addr childOf rankAt
 starts-now = refl
+
+-- 1 2 0 0: the same drawing as node 1, below a weighted root, which is passed over
+abbrev hut : Topo
+hut = node (fcons shared fnil)
+
+abbrev hutShares : List Rule
+hutShares =
+    record { discipline = weighted; weight = 0 } ∷ record { discipline = weighted; weight = 1 } ∷ record { discipline = arrival; weight = 1 }
+    ∷ record { discipline = arrival; weight = 3 } ∷ []
+
+-- The passed root gives rank 0, whatever stands as its virtual time and as the finish of node 1. Node 1 gives the start, leaf 2's last finish.
+pub passed-steps : stepsDown hut record { rules = hutShares; «virtual_time» = 7 ∷ 0 ∷ []; finish = 0 ∷ 9 ∷ 76800 ∷ [] } 0 0 (addr hut 2)
+    ≡ step 1 0 ∷ step 1 76800 ∷ []
+unfolding addr childOf
+passed-steps = refl
+
+-- to each request the answer, and after it the virtual times and the last finishes of the four nodes
+abbrev hutLine : Answer ℕ × ((ℕ × ℕ) × Disciplines) → Answer ℕ × List Rank × List Rank
+hutLine (a, (counted, d)) = (a, take 4 (d .«virtual_time»), take 4 (d .finish))
+
+-- It keeps nothing: node 1 has no finish after the first push, and the root no virtual time after the pop of a packet that had the largest rank
+-- there. Else the last push would be 23.
+pub passed-root : map hutLine (seenOver serveOwn (with (opened hut 8) (fresh hutShares))
+    (pushingTo 2 0 300 11 ∷ pop ∷ calling (pushing (step 1 mostFinish ∷ step 2 5 ∷ []) 0 21) ∷ pop ∷ pushingTo 2 0 300 12 ∷ []))
+    ≡ (accepted 1, (0 ∷ 0 ∷ 0 ∷ 0 ∷ []), (0 ∷ 0 ∷ 76800 ∷ 0 ∷ []))
+    ∷ (departed 11, (0 ∷ 0 ∷ 0 ∷ 0 ∷ []), (0 ∷ 0 ∷ 76800 ∷ 0 ∷ []))
+    ∷ (accepted 1, (0 ∷ 0 ∷ 0 ∷ 0 ∷ []), (0 ∷ 0 ∷ 76800 ∷ 0 ∷ []))
+    ∷ (departed 21, (0 ∷ 5 ∷ 0 ∷ 0 ∷ []), (0 ∷ 0 ∷ 76800 ∷ 0 ∷ []))
+    ∷ (accepted 1, (0 ∷ 5 ∷ 0 ∷ 0 ∷ []), (0 ∷ 0 ∷ 153600 ∷ 0 ∷ []))
+    ∷ []
+unfolding addr childOf rankAt
+passed-root = refl

@@ -1,5 +1,6 @@
 pub mod Ways
 pub mod Rules
+pub mod Passed
 pub mod Steps
 pub mod Finishes
 pub mod Times

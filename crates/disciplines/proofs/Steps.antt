@@ -1,6 +1,6 @@
 -- The path that disciplines give to a leaf is the way to it and has no fault (`steps-valid`). The rank that it enters at a node on the way is the
--- node's: Figure 1's start where the node is weighted (`rank-start`), the packet's class where it is strict (`rank-class`), 0 where it goes by
--- arrival (`rank-arrival`).
+-- node's: Figure 1's start where the node acts as weighted (`rank-start`), the packet's class where it acts as strict (`rank-class`), 0 where it goes
+-- by arrival (`rank-arrival`). At a node that is passed over it is 0, whatever the rule (`passed-rank`).
 use mathlib.Core.Path.{_≡_, refl}
 use Prim.Native.Nat.{ℕ, _<_}
 use mathlib.Core.List.{[], _∷_, _++_}
@@ -16,9 +16,10 @@ use Rattle.pifo.specs.Tree.{pathFault}
 use Rattle.pifo.specs.Addressed.{along}
 use Rattle.pifo.proofs.Order.{both}
 use Rattle.pifo.proofs.Paths.{end-fault, step-fault}
-use Rattle.disciplines.specs.Figure.{arrival, strict, weighted, kindAt, rankBy, start, stepsDown}
+use Rattle.disciplines.specs.Figure.{arrival, strict, weighted, kindAt, actsAt, rankBy, start, stepsDown}
 use Rattle.disciplines.specs.Scheduler.{isLeaf}
 use Rattle.disciplines.specs.declared.Disciplines.{Disciplines}
+use Rattle.disciplines.proofs.Passed.{acts-passed}
 use Rattle.disciplines.proofs.Ways.{OnWay, way-on, way-ind}
 
 module _ (t : Topo) where
@@ -33,7 +34,7 @@ module _ (t : Topo) where
     down-valid u n [] h e = end-fault u e
     down-valid u n (i ∷ a) (p, q, h) e =
         let c = childOf t n i in
-        step-fault u i (rankBy (kindAt (d .rules) n) (start d n c) class) (stepsDown t d class c a)
+        step-fault u i (rankBy (actsAt t (d .rules) n) (start d n c) class) (stepsDown t d class c a)
         record { low = p; high = q; rest = down-valid (child u i) c a h e }
 
     pub steps-valid : (leaf : ℕ) → isLeaf t leaf ≡ true → pathFault t (stepsDown t d class 0 (addr t leaf)) ≡ 0
@@ -46,19 +47,22 @@ module _ (t : Topo) where
       abbrev Enters : Rank → Type 0
       Enters r = along (stepsDown t d class 0 (addr t leaf)) last p (addr t n) ≡ some (entry r (childItem i))
 
-      rank-entered : Enters (rankBy (kindAt (d .rules) n) (start d n (childOf t n i)) class)
+      rank-entered : Enters (rankBy (actsAt t (d .rules) n) (start d n (childOf t n i)) class)
       rank-entered =
           rw (way-on t leaf n i w)
           (way-ind t n (w .has .0)
           (λ (m : ℕ) (b : Addr). along (stepsDown t d class m (b ++ (i ∷ w .above .0))) last p b
-          ≡ some (entry (rankBy (kindAt (d .rules) n) (start d n (childOf t n i)) class) (childItem i)))
+          ≡ some (entry (rankBy (actsAt t (d .rules) n) (start d n (childOf t n i)) class) (childItem i)))
           refl (λ m j b on below. rw (eq-eqb j j refl) below))
 
-      pub rank-start : kindAt (d .rules) n ≡ weighted → Enters (start d n (childOf t n i))
+      pub rank-start : actsAt t (d .rules) n ≡ weighted → Enters (start d n (childOf t n i))
       rank-start k = rw k at rank-entered
 
-      pub rank-class : kindAt (d .rules) n ≡ strict → Enters class
+      pub rank-class : actsAt t (d .rules) n ≡ strict → Enters class
       rank-class k = rw k at rank-entered
 
-      pub rank-arrival : kindAt (d .rules) n ≡ arrival → Enters 0
+      pub rank-arrival : actsAt t (d .rules) n ≡ arrival → Enters 0
       rank-arrival k = rw k at rank-entered
+
+      pub passed-rank : width (subtree t n) ≡ 1 → Enters 0
+      passed-rank one = rank-arrival (acts-passed (width (subtree t n)) (kindAt (d .rules) n) one)

@@ -1,5 +1,6 @@
--- Virtual times after a pop. At a weighted node where the pop took a rank it is that rank (`time-taken`); it stays at a node where the pop took
--- none (`time-untaken`) and at a node that is not weighted (`time-unweighted`).
+-- Virtual times after a pop. At a node that acts as weighted and where the pop took a rank it is that rank (`time-taken`); it stays at a node where
+-- the pop took none (`time-untaken`), at a node that does not act as weighted (`time-unweighted`), and so at one that is passed over
+-- (`passed-time`). Only ranks at kept nodes of the drawing count (`times-same`).
 use mathlib.Core.Path.{_≡_, refl, ap, ap₂, _∙_}
 use mathlib.Core.Logic.{_≢_}
 use Prim.Native.Nat.{ℕ, zero, suc, _+_, _<_}
@@ -10,13 +11,16 @@ use mathlib.Core.Bool.{Bool, true, false, _&&_}
 use mathlib.Core.Option.{Option, none, some}
 use lib.ListN.{length, getD}
 use lib.Dec.{eqb, ltb}
-use borrow.Author.Tests.{ltb-true, lt-ltb, ne-eqb}
-use Rattle.topology.specs.Tree.{Topo, size}
+use borrow.Author.Tests.{eqb-true, ltb-true, lt-ltb, ne-eqb}
+use Rattle.topology.specs.Tree.{Topo, width, size}
+use Rattle.topology.specs.Address.{subtree}
 use Rattle.topology.specs.Reader.{pick}
 use Rattle.pifo.specs.Queue.{Rank}
-use Rattle.disciplines.specs.Figure.{weighted, kindAt, virtualAt, keepsTime, lastOf, timesAfter, afterPop}
+use Rattle.pifo.proofs.Order.{both}
+use Rattle.disciplines.specs.Figure.{weighted, kindAt, actsAt, virtualAt, keepsTime, lastOf, timesAfter, afterPop}
 use Rattle.disciplines.specs.declared.Rule.{Rule}
 use Rattle.disciplines.specs.declared.Disciplines.{Disciplines}
+use Rattle.disciplines.proofs.Passed.{acts-passed}
 
 -- the time at place i of the times from node n on
 time-from : (t : Topo) (rules : List Rule) (at : ℕ → Option Rank) (n i : ℕ) (vs : List Rank) → i < length vs
@@ -31,7 +35,7 @@ module _ (t : Topo) (d : Disciplines) (at : ℕ → Option Rank) (n : ℕ) (l : 
   time-at : virtualAt (afterPop t d at) n ≡ pick (keepsTime t (d .rules) n) (lastOf (at n) (virtualAt d n)) (virtualAt d n)
   time-at = rw (zero-add n) at (time-from t (d .rules) at 0 n (d .«virtual_time») l)
 
-  pub time-taken : n < size t → kindAt (d .rules) n ≡ weighted → (r : Rank) → at n ≡ some r → virtualAt (afterPop t d at) n ≡ r
+  pub time-taken : n < size t → actsAt t (d .rules) n ≡ weighted → (r : Rank) → at n ≡ some r → virtualAt (afterPop t d at) n ≡ r
   time-taken h w r e = time-at ∙ rw (lt-ltb n (size t) h, w, e)
 
   pub time-untaken : at n ≡ none → virtualAt (afterPop t d at) n ≡ virtualAt d n
@@ -41,22 +45,32 @@ module _ (t : Topo) (d : Disciplines) (at : ℕ → Option Rank) (n : ℕ) (l : 
       by-test true = refl
       by-test false = refl
 
-  pub time-unweighted : kindAt (d .rules) n ≢ weighted → virtualAt (afterPop t d at) n ≡ virtualAt d n
+  pub time-unweighted : actsAt t (d .rules) n ≢ weighted → virtualAt (afterPop t d at) n ≡ virtualAt d n
   time-unweighted w = time-at ∙ by-node (ltb n (size t))
     where
-      by-node : (b : Bool) → pick (b && eqb (kindAt (d .rules) n) weighted) (lastOf (at n) (virtualAt d n)) (virtualAt d n) ≡ virtualAt d n
-      by-node true = rw (ne-eqb (kindAt (d .rules) n) weighted w)
+      by-node : (b : Bool) → pick (b && eqb (actsAt t (d .rules) n) weighted) (lastOf (at n) (virtualAt d n)) (virtualAt d n) ≡ virtualAt d n
+      by-node true = rw (ne-eqb (actsAt t (d .rules) n) weighted w)
       by-node false = refl
 
--- only ranks at nodes of the drawing matter
-pub times-same : (t : Topo) (rules : List Rule) (f g : ℕ → Option Rank) → ((n : ℕ) → n < size t → f n ≡ g n) → (n : ℕ) (vs : List Rank)
-    → timesAfter t rules f n vs ≡ timesAfter t rules g n vs
-times-same t rules f g h n [] = refl
-times-same t rules f g h n (v ∷ vs) =
-    ap₂ (λ (x : Rank) (xs : List Rank). x ∷ xs) (by-node (ltb n (size t)) refl) (times-same t rules f g h (suc n) vs)
-  where
-    by-node : (b : Bool) → ltb n (size t) ≡ b
-        → pick (b && eqb (kindAt rules n) weighted) (lastOf (f n) v) v ≡ pick (b && eqb (kindAt rules n) weighted) (lastOf (g n) v) v
-    by-node true e =
-        ap (λ (r : Option Rank). pick (eqb (kindAt rules n) weighted) (lastOf r v) v) (h n (ltb-true n (size t) e))
-    by-node false e = refl
+  pub passed-time : width (subtree t n) ≡ 1 → virtualAt (afterPop t d at) n ≡ virtualAt d n
+  passed-time one =
+      let idle = acts-passed (width (subtree t n)) (kindAt (d .rules) n) one in
+      time-unweighted (λ w. omega (arith, w, idle))
+
+module _ (t : Topo) (rules : List Rule) where
+  -- a node that keeps a virtual time is a kept node of the drawing
+  pub keeps-kept : (n : ℕ) → keepsTime t rules n ≡ true → (n < size t) × (width (subtree t n) ≢ 1)
+  keeps-kept n e =
+      let b = both (ltb n (size t)) (eqb (actsAt t rules n) weighted) e in
+      let acts = eqb-true (actsAt t rules n) weighted (b .1) in
+      (ltb-true n (size t) (b .0), λ one. omega (arith, acts, acts-passed (width (subtree t n)) (kindAt rules n) one))
+
+  pub times-same : (f g : ℕ → Option Rank) → ((n : ℕ) → n < size t → width (subtree t n) ≢ 1 → f n ≡ g n) → (n : ℕ) (vs : List Rank)
+      → timesAfter t rules f n vs ≡ timesAfter t rules g n vs
+  times-same f g h n [] = refl
+  times-same f g h n (v ∷ vs) =
+      ap₂ (λ (x : Rank) (xs : List Rank). x ∷ xs) (by-node (keepsTime t rules n) refl) (times-same f g h (suc n) vs)
+    where
+      by-node : (b : Bool) → keepsTime t rules n ≡ b → pick b (lastOf (f n) v) v ≡ pick b (lastOf (g n) v) v
+      by-node true e = let k = keeps-kept n e in ap (λ (r : Option Rank). lastOf r v) (h n (k .0) (k .1))
+      by-node false e = refl

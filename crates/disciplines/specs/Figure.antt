@@ -31,9 +31,13 @@ noRule = record { discipline = arrival; weight = 0 }
 abbrev pub kindAt : List Rule → ℕ → ℕ
 kindAt rules n = getD rules n noRule .discipline
 
--- The discipline by which a node acts: an inner node with one child is passed over, whatever its discipline, and acts as by arrival.
+-- The discipline by which a node acts, with so many children and a discipline of its own: an inner node with one child is passed over, and
+-- acts as by arrival. Any other acts by its own.
+abbrev pub actsBy : ℕ → ℕ → ℕ
+actsBy children k = pick (eqb children 1) arrival k
+
 abbrev pub actsAt : Topo → List Rule → ℕ → ℕ
-actsAt t rules n = pick (eqb (width (subtree t n)) 1) arrival (kindAt rules n)
+actsAt t rules n = actsBy (width (subtree t n)) (kindAt rules n)
 
 abbrev pub weightAt : List Rule → ℕ → ℕ
 weightAt rules n = getD rules n noRule .weight

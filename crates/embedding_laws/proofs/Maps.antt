@@ -17,7 +17,7 @@ use Rattle.topology.proofs.Numbering.{addr-root}
 use Rattle.reduction.specs.Kept.{Kept, descent, descentIn, ifAlone, top}
 use Rattle.reduction.specs.Reduced.{joined, reduced, reducedAll, passedOver, keptBytes, place, spread, gathered}
 use Rattle.reduction.proofs.Kept.{top-in, top-kept}
-use Rattle.reduction.proofs.Reduced.{place-lt, place-subtree, place-less, place-order, size-reduced}
+use Rattle.reduction.proofs.Reduced.{place-lt, place-subtree, place-less, place-order, size-reduced, reduced-again}
 use Rattle.reduction.proofs.Spread.{spread-length, spread-kept, spread-passed, kept-of, spread-gathered}
 use Rattle.embedding_laws.specs.Rules.{image, Passes, Embeds, Before}
 use Rattle.embedding_laws.specs.Least.{LeastPassing, LeastEmbedding}
@@ -147,6 +147,19 @@ passes-reduced S T m p =
     let g = spread-gathered (code S) m (p .long ∙ sym (length-code S))
     (λ n h e. let there : n < size S = omega (arith, h, length-code S) in p .passed n there (sym (byte-width S n there) ∙ e)) in
     (g .0, passes-embeds S T (gathered (code S) m) (g .1 ∙ sym (size-reduced S)) (subst (Passes S T) (sym (g .0)) p))
+
+-- So a drawing has a map exactly where its reduced drawing has one.
+pub maps-reduced : (S T : Topo) → ((m : List ℕ) → Passes S T m → ⊥) ↔ ((m : List ℕ) → Passes (reduced S) T m → ⊥)
+maps-reduced S T = (
+  λ n m p. n (spread (code S) (gathered (code (reduced S)) m)) (up (gathered (code (reduced S)) m) (passes-reduced (reduced S) T m p .1)),
+  λ n m p. n (spread (code (reduced S)) (gathered (code S) m)) (down (gathered (code S) m) (passes-reduced S T m p .1)),
+)
+  where
+    up : (l : List ℕ) → Embeds (reduced (reduced S)) T l → Passes S T (spread (code S) l)
+    up l e = let q = subst (λ (t : Topo). Embeds t T l) (reduced-again S) e in embeds-passes S T l (q .long) q
+
+    down : (l : List ℕ) → Embeds (reduced S) T l → Passes (reduced S) T (spread (code (reduced S)) l)
+    down l e = let q = subst (λ (t : Topo). Embeds t T l) (sym (reduced-again S)) e in embeds-passes (reduced S) T l (q .long) q
 
 -- ---- the least
 

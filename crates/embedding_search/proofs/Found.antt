@@ -9,7 +9,7 @@ use Rattle.topology.specs.Reader.{orElse, fault, tree}
 use Rattle.topology.proofs.Lookup.{valid-size}
 use Rattle.topology.proofs.Refusals.{orElse-none}
 use Rattle.embedding_laws.specs.Rules.{Passes}
-use Rattle.embedding_laws.specs.Least.{Found, nothing, list, leastMap, noneFault, searchFault, searchMap}
+use Rattle.embedding_laws.specs.Least.{Found, nothing, list, leastOf, noneFault, searchFault, searchMap}
 use Rattle.embedding_laws.proofs.Searching.{search-map}
 use Rattle.pair_step.proofs.Alike.{both-numbers, both-alike}
 use Rattle.embedding_search.specs.Outcomes.{outcomeBy, outcome, numberOf}
@@ -19,7 +19,7 @@ use Rattle.embedding_search.specs.declared.Searched.{Searched}
 -- the number of the outcome
 pub outcome-number : (source target : List ℕ) → numberOf (outcome source target) ≡ searchFault source target
 unfolding outcome searchFault
-outcome-number source target = by-case (fault 32 source) (fault 64 target) (leastMap source target)
+outcome-number source target = by-case (fault 32 source) (fault 64 target) (leastOf source target)
   where
     by-case : (f g : ℕ) (a : Found) → numberOf (outcomeBy (orElse f g) a) ≡ orElse f (orElse g (noneFault a))
     by-case zero zero nothing = refl
@@ -35,7 +35,7 @@ module _ (source target : List ℕ) (e : searchFault source target ≡ 0) where
   pub faultless : (fault 32 source ≡ 0) × (fault 64 target ≡ 0)
   unfolding searchFault
   faultless =
-      let rest = noneFault (leastMap source target) in
+      let rest = noneFault (leastOf source target) in
       let a = orElse-none (fault 32 source) (orElse (fault 64 target) rest) e in
       (a .0, orElse-none (fault 64 target) rest (a .1) .0)
 

@@ -1,7 +1,7 @@
 -- How a search ends, and the number of paper 01 for it.
 use Prim.Native.Nat.{ℕ, zero, suc}
 use mathlib.Core.List.{List}
-use Rattle.embedding_laws.specs.Least.{Found, nothing, list, leastMap}
+use Rattle.embedding_laws.specs.Least.{Found, nothing, list, leastOf}
 use Rattle.two_trees.specs.Trees.{treesFault}
 use Rattle.embedding_search.specs.declared.Outcome.{Outcome}
 use Rattle.embedding_search.specs.declared.Outcome.the-variants.{Map, NoMap, Refused}
@@ -13,7 +13,7 @@ outcomeBy zero (list m) = Map
 outcomeBy (suc f) answer = Refused (suc f)
 
 unfoldable pub outcome : List ℕ → List ℕ → Outcome
-outcome source target = outcomeBy (treesFault source target) (leastMap source target)
+outcome source target = outcomeBy (treesFault source target) (leastOf source target)
 
 -- `searchFault` is the number of the outcome: `outcome-number` in proofs/Answers
 abbrev pub numberOf : Outcome → ℕ

@@ -1,6 +1,7 @@
 // The search for the least map between two trees.
 //
-// It fills a table from the last source node to the first. Its entry for a source node s and a target node t is the least list of images
+// It goes by the reduced drawing of the source (paper 02, 2.2). A lone leaf goes to the first leaf of the target. For any other drawing the search fills
+// a table from the last source node to the first. Its entry for a source node s and a target node t is the least list of images
 // of s's children below t, packed into one number with the first child in the highest place, so that the order of the numbers is the
 // order of the lists. The branches of unrelated nodes are stretches of node numbers without a common node. So a scan over the target
 // nodes p, from the end of t's branch down to t + 1, meets the children's images one after the other: for each set of children p is
@@ -16,14 +17,18 @@
 // the other definitions are for private functions.
 ghost use mathlib.Core.Path.{_≡_};
 ghost use Prim.Native.Nat.{_≤_, _<_, _*_, _+_, _-_, min};
-ghost use lib.ListN.{length};
+ghost use mathlib.Core.Logic.{_≢_};
+ghost use mathlib.Core.List.{[], _∷_};
+ghost use lib.ListN.{length, getD};
 ghost use Rattle.topology.specs.Reader.{tree};
 ghost use Rattle.embedding_laws.specs.Sets.{power, none};
 ghost use Rattle.embedding_laws.specs.Tables.{Ends, Frame, endBy, cell, Turns, RowTried, ChildTried, RowCopied, RowFilled, LastRow, Scanned, Started, BranchOf, PlacedBelow, Room, NodeFrame, Draws, Pair, bestBy};
-ghost use Rattle.embedding_laws.specs.Meaning.{KidsOf, EntryBy, reachBy, NodeTo, Truth, Different, Put, ReadTo};
-ghost use Rattle.embedding_laws.specs.Least.{leastMap, padded};
-ghost use Rattle.embedding_search.specs.Outcomes.{outcomeBy, numberOf};
+ghost use Rattle.embedding_laws.specs.Meaning.{KidsOf, EntryBy, reachBy, NodeTo, Truth, Different, Put, ReadTo, firstLeaf};
+ghost use Rattle.embedding_search.specs.Outcomes.{numberOf};
+ghost use Rattle.embedding_search.specs.Images.{FindsLeast};
 ghost use Rattle.embedding_search.specs.Search.{Searches};
+use reduction::gather;
+use reduction::spread_out;
 use two_trees::branch_ends;
 use two_trees::trees_fault;
 
@@ -38,6 +43,12 @@ pub enum Outcome {
 pub struct Searched {
     pub outcome: Outcome,
     pub map: [u8; 32],
+}
+
+// The least images of the nodes of a drawing without passed nodes, in 32 places, or that there are none, and zeros.
+struct LeastImages {
+    is_found: bool,
+    images: [u8; 32],
 }
 
 // What stands in the tables for no images; more than any list of 8 images, each below 64, packed into one number.
@@ -362,10 +373,37 @@ fn read_off(source: &[u8], ends: &[usize; 64], best: &[u64]) -> [u8; 32]
     map
 }
 
-// The search between two trees that were read.
-fn solve(source: &[u8], target: &[u8]) -> Searched
-    requires { ⌜ Draws 32 (now source) × Draws 64 (now target) ⌝ }
-    ensures { λ r. ⌜ (r .outcome ≡ outcomeBy 0 (leastMap (now (source .entry)) (now (target .entry)))) × (r .map ≡ padded (leastMap (now (source .entry)) (now (target .entry)))) ⌝ }
+// The first leaf of a tree in the order of the numbers; the number of bytes where none of them is 0.
+fn first_leaf(bytes: &[u8]) -> usize
+    ensures { λ r. ⌜ r ≡ firstLeaf (now (bytes .entry)) ⌝ }
+{
+    let mut n = 0;
+    while n < bytes.len() {
+        if bytes[n] == 0 {
+            return n;
+        }
+        n += 1;
+    }
+    n
+}
+
+// The least images of a lone leaf, for which rule 2 lapses: the first leaf of the target.
+fn place_leaf(target: &[u8]) -> LeastImages
+    requires { ⌜ Draws 64 (now target) ⌝ }
+    ensures { λ r. ⌜ FindsLeast (0 ∷ []) (now (target .entry)) r ⌝ }
+{
+    let mut images = [0u8; 32];
+    images[0] = first_leaf(target) as u8;
+    LeastImages {
+        is_found: true,
+        images,
+    }
+}
+
+// The least images of a tree that is no lone leaf, by the tables.
+fn solve(source: &[u8], target: &[u8]) -> LeastImages
+    requires { ⌜ Draws 32 (now source) × Draws 64 (now target) × (getD (now source) 0 0 ≢ 0) ⌝ }
+    ensures { λ r. ⌜ FindsLeast (now (source .entry)) (now (target .entry)) r ⌝ }
 {
     let source_ends = branch_ends(source);
     let target_ends = branch_ends(target);
@@ -380,18 +418,30 @@ fn solve(source: &[u8], target: &[u8]) -> Searched
         &mut go,
     );
     if NONE <= best[0] {
-        return Searched {
-            outcome: Outcome::NoMap,
-            map: [0u8; 32],
+        return LeastImages {
+            is_found: false,
+            images: [0u8; 32],
         };
     }
-    Searched {
-        outcome: Outcome::Map,
-        map: read_off(source, &source_ends, &best),
+    LeastImages {
+        is_found: true,
+        images: read_off(source, &source_ends, &best),
     }
 }
 
-// Searches the least map of a source into a target.
+// The least images between two trees that were read.
+fn least_images(source: &[u8], target: &[u8]) -> LeastImages
+    requires { ⌜ Draws 32 (now source) × Draws 64 (now target) ⌝ }
+    ensures { λ r. ⌜ FindsLeast (now (source .entry)) (now (target .entry)) r ⌝ }
+{
+    if source[0] == 0 {
+        place_leaf(target)
+    } else {
+        solve(source, target)
+    }
+}
+
+// Searches the least map of a source into a target: the least images of the reduced drawing, with 255 at the nodes that are passed over.
 pub fn search(source: &[u8], target: &[u8]) -> Searched
     ensures { λ r. ⌜ Searches (now (source .entry)) (now (target .entry)) r ⌝ }
 {
@@ -402,7 +452,20 @@ pub fn search(source: &[u8], target: &[u8]) -> Searched
             map: [0u8; 32],
         };
     }
-    solve(source, target)
+    let kept = gather(source, source);
+    let bytes = kept.numbers;
+    let least = least_images(&bytes[..kept.count], target);
+    if !least.is_found {
+        return Searched {
+            outcome: Outcome::NoMap,
+            map: [0u8; 32],
+        };
+    }
+    let images = least.images;
+    Searched {
+        outcome: Outcome::Map,
+        map: spread_out(source, images),
+    }
 }
 
 // The number of paper 01 for an outcome, 0 for a map.

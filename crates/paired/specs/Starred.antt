@@ -1,4 +1,5 @@
--- The cases that paper 01 gives under "Pairs and pushes to try", as one table: what is asked, and the answer that the paper gives.
+-- The cases that paper 01 gives under "Pairs and pushes to try", with the three that paper 02, 2.2 changes, as one table: what is asked, and the answer
+-- that the paper gives.
 -- `proofs/Starred.antt` proves the answers from the definitions. All pairs, the first three topologies and the two packets are the starred
 -- ones.
 use Prim.Native.Nat.{ℕ}
@@ -6,7 +7,7 @@ use mathlib.Core.List.{List, [], _∷_, map}
 use Rattle.topology.specs.Reader.{fault, tree}
 use Rattle.pifo.specs.Tree.{step}
 use Rattle.pifo.specs.Machine.{Call, pushing, popping, Answer, accepted, departed, opened, answers}
-use Rattle.embedding_laws.specs.Least.{Found, nothing, list, leastMap, searchFault}
+use Rattle.embedding_laws.specs.Least.{Found, nothing, list, leastOf, searchFault}
 use Rattle.queue_state.specs.State.{Packet}
 
 -- a source and a target; the search's number and its map
@@ -23,7 +24,7 @@ pairs =
     ∷ []
 
 abbrev pub search : List ℕ × List ℕ → ℕ × Found
-search (source, target) = (searchFault source target, leastMap source target)
+search (source, target) = (searchFault source target, leastOf source target)
 
 abbrev pub maps : List (ℕ × Found)
 maps =
@@ -32,9 +33,9 @@ maps =
     ∷ (0, list (0 ∷ 2 ∷ 4 ∷ 5 ∷ 6 ∷ []))
     ∷ (12, nothing)
     ∷ (0, list (0 ∷ []))
-    ∷ (12, nothing)
-    ∷ (0, list (0 ∷ 2 ∷ []))
-    ∷ (12, nothing)
+    ∷ (0, list (1 ∷ []))
+    ∷ (0, list (255 ∷ 2 ∷ []))
+    ∷ (0, list (255 ∷ 255 ∷ 1 ∷ []))
     ∷ []
 
 -- a topology; the reader's number

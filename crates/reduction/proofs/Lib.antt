@@ -4,3 +4,4 @@ pub mod Next
 pub mod Limits
 pub mod Spread
 pub mod Scanning
+pub mod Gathering

@@ -39,8 +39,7 @@ spread (b ∷ bs) (x ∷ l) = pick (eqb b 1) (passedOver ∷ spread bs (x ∷ l)
 
 -- the bytes of the reduced drawing (`code-reduced` in proofs/Reduced)
 abbrev pub keptBytes : List ℕ → List ℕ
-keptBytes [] = []
-keptBytes (b ∷ bs) = pick (eqb b 1) (keptBytes bs) (b ∷ keptBytes bs)
+keptBytes bytes = gathered bytes bytes
 
 -- the number of a kept node in the reduced drawing
 abbrev pub place : List ℕ → ℕ → ℕ

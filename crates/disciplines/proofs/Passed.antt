@@ -1,0 +1,13 @@
+-- By which discipline a node acts: one that is passed over as by arrival (`acts-passed`), a kept one by its own (`acts-kept`).
+use mathlib.Core.Path.{_≡_, refl}
+use mathlib.Core.Logic.{_≢_}
+use Prim.Native.Nat.{ℕ}
+use borrow.Author.Tests.{eq-eqb, ne-eqb}
+use Rattle.disciplines.specs.Figure.{arrival, actsBy}
+
+module _ (children k : ℕ) where
+  pub acts-passed : children ≡ 1 → actsBy children k ≡ arrival
+  acts-passed e = rw (eq-eqb children 1 e)
+
+  pub acts-kept : children ≢ 1 → actsBy children k ≡ k
+  acts-kept e = rw (ne-eqb children 1 e)
