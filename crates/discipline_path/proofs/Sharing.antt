@@ -1,5 +1,5 @@
 -- What each discipline gives, case by case, as `share_of` returns it.
-use mathlib.Core.Path.{_≡_, refl, sym, ap, _∙_}
+use mathlib.Core.Path.{_≡_, refl, sym, ap, _∙_, subst}
 use mathlib.Core.Logic.{_≢_}
 use Prim.Native.Nat.{ℕ, _+_, _-_, _*_, _/_, _≤_, _<_, div·zero}
 use native.Mathlib.Decide.{ℕ-discrete}
@@ -59,10 +59,11 @@ pub finish-stays : (k c f : ℕ) (fs : List Rank) → k ≢ 2 → fs ≡ finishB
 finish-stays k c f fs n = rw (ne-eqb k 2 n) refl
 
 -- what `step_down` returns, by what the functions under it do
-pub stepped : (d : Disciplines) (k n c i class len : ℕ) (p r : Plan) (s : Share)
+pub stepped : (d : Disciplines) (acts k n c i class len : ℕ) (p r : Plan) (s : Share) → k ≡ acts
     → Shares k (start d n c) ((len * 256) / weightAt (d .rules) c) class s → r .path ≡ extendedBy (p .path) i (s .rank)
-    → r .finish ≡ finishBy k c (s .finish) (p .finish) → r .fits ≡ (p .fits && s .fits) → StepsDown d k n c i class len p r
-stepped d k n c i class len p r s h path finishes fits =
+    → r .finish ≡ finishBy k c (s .finish) (p .finish) → r .fits ≡ (p .fits && s .fits) → StepsDown d acts n c i class len p r
+stepped d acts k n c i class len p r s e h path finishes fits =
+    subst (λ (x : ℕ). StepsDown d x n c i class len p r) e
     record {
       path = path ∙ ap (extendedBy (p .path) i) (h .rank);
       fits = fits ∙ ap (λ (b : Bool). p .fits && b) (h .fits);

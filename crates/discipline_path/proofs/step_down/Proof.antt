@@ -46,8 +46,8 @@ both-requires c κs = search needs
 returns : tie.Need-returns
 returns c =
     let share = c .before .before .before .before .before .share-of in
-    let acts = c .before .before .before .before .before .before .before .before .acting .ensures in
-    rw (← acts) (stepped _ _ _ _ _ _ _ _ _ _ (share .ensures) (c .before .before .extended .ensures) (c .before .finished .ensures) (c .both .ensures))
+    let acts = c .before .before .before .before .before .before .before .before .acting in
+    stepped _ _ _ _ _ _ _ _ _ _ _ (acts .ensures) (share .ensures) (c .before .before .extended .ensures) (c .before .finished .ensures) (c .both .ensures)
 
 pub step-down-spec : {M : Type 1} → statement M
 step-down-spec =

@@ -1,8 +1,7 @@
 -- `pop` meets its contract.
 use borrow.Author.Needs.{needs}
 use native.Mathlib.Omega.{arith}
-use mathlib.Core.Path.{sym}
-use lib.Seq.{length-take-le}
+use lib.ListN.{length-take}
 use borrow.Author.Tests.{not-true, not-false}
 use Rattle.queue_state.specs.State.{bytes}
 use Rattle.tree_state.proofs.Arrays.{the-topology}
@@ -27,7 +26,8 @@ array-share-prefix-topology c =
 slice-aggregate-after-pop : tie.Need-slice-aggregate-after-pop
 slice-aggregate-after-pop c =
     let few = c .before .before .before .before .before .before .are-sound .ensures .within (not-false _ (c .before .before .before .before .before .if1 .left)) in
-    sym (length-take-le _ _ (omega (arith, few, the-topology (c .before .before .before .before .before .before .before .before .before .before .before .before .args .tree) _ (c .before .before .before .before .before .before .before .before .before .before .before .before .good .0))))
+    let frame = c .before .before .before .before .before .before .before .before .before .before .before .before .args .tree .state .frame in
+    omega (arith, few, the-topology (c .before .before .before .before .before .before .before .before .before .before .before .before .args .tree) _ (c .before .before .before .before .before .before .before .before .before .before .before .before .good .0), length-take (frame .nodes) (frame .topology))
 
 own-images-requires : tie.Need-own-images-requires
 own-images-requires c κs = search needs
