@@ -21,17 +21,34 @@ pub fn tree(random: &mut Random, most: usize) -> Vec<u8> {
     generate::tree(random, shape, nodes, depth, children)
 }
 
-/// A source with 1 to `most` nodes: a tree of any shape, or a smaller one with
-/// nodes put in that are passed over, which may be one leaf below them.
+/// A source with 1 to `most` nodes: a tree of any shape, one with few nodes that
+/// are passed over, or one with many, which may have one leaf below them.
 pub fn drawing(random: &mut Random, most: usize) -> Vec<u8> {
-    let smaller = match random.below(8) {
+    let smaller = match random.below(12) {
         0 => vec![0],
         1 => tree(random, most.div_ceil(4)),
         2 | 3 => tree(random, most.div_ceil(2)),
+        4..8 => return bushy(&tree(random, (2 * most).div_ceil(3)), most),
         _ => return tree(random, most),
     };
     let nodes = size(random, smaller.len(), most);
     stretched(random, smaller, nodes)
+}
+
+/// A tree with a leaf put beside each only child, as long as there are not `most`
+/// nodes.
+fn bushy(bytes: &[u8], most: usize) -> Vec<u8> {
+    let mut room = most - bytes.len();
+    let mut bushy = Vec::new();
+    for &children in bytes {
+        if children == 1 && room > 0 {
+            bushy.extend([2, 0]);
+            room -= 1;
+        } else {
+            bushy.push(children);
+        }
+    }
+    bushy
 }
 
 /// A tree with nodes of one child put in, up to `nodes` in all where there is
@@ -226,7 +243,7 @@ pub fn damaged_map(right: &[u8], pair: &Pair, random: &mut Random) -> Vec<u8> {
         .filter(|&place| !target.is_leaf(usize::from(place)))
         .collect();
     let anything = random.below(256) as u8;
-    match random.below(10) {
+    match random.below(12) {
         0 => map.truncate(node),
         1 => {
             for _ in 0..random.within(1..=3) {
@@ -263,7 +280,8 @@ pub fn damaged_map(right: &[u8], pair: &Pair, random: &mut Random) -> Vec<u8> {
             let places = places as u8;
             map[random.pick(&passed)] = random.pick(&[0, below, places - 1, places, 254, anything]);
         }
-        _ => map.swap(random.below(nodes), random.below(nodes)),
+        9 => map.swap(random.below(nodes), random.below(nodes)),
+        _ => map.swap(random.pick(&kept), random.pick(&kept)),
     }
     map
 }

@@ -24,7 +24,7 @@ const OPENINGS: usize = 8_000;
 const LISTS: usize = 900;
 const CALLS_A_LIST: usize = 50;
 const LONG_LISTS: usize = 12;
-const DAMAGED_TREES: usize = 1_000;
+const DAMAGED_TREES: usize = 2_000;
 const DAMAGES_A_TREE: usize = 20;
 
 /// Each answer of each call and each occasion must be met this often, and each

@@ -31,10 +31,10 @@ const CALLS_A_HISTORY: usize = 120;
 const REDUCED: usize = 1_000;
 const SHARINGS: usize = 40;
 const OPENINGS: usize = 10_000;
-const SHORT_LISTS: usize = 1_200;
+const SHORT_LISTS: usize = 2_000;
 const LONG_LISTS: usize = 20;
 const STATES: usize = 3_000;
-const ENDS: usize = 8_000;
+const ENDS: usize = 16_000;
 const DAMAGED_TREES: usize = 8_000;
 const CHURNS: usize = 1_000;
 
