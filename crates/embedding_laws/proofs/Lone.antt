@@ -59,16 +59,15 @@ module _ (T : Topo) where
   first : ℕ
   first = firstLeaf (code T)
 
-  there : first < size T
-  unfolding first
-  there = subst (λ (l : List ℕ). firstLeaf l < size T) (append-nil (code T)) (first-in T [])
+  pub first-leaf-in : firstLeaf (code T) < size T
+  first-leaf-in = subst (λ (l : List ℕ). firstLeaf l < size T) (append-nil (code T)) (first-in T [])
 
   lone-embeds : Embeds leaf T (first ∷ [])
   unfolding first
   lone-embeds =
       record {
         long = refl;
-        within = λ a h. rw (only a h) there;
+        within = λ a h. rw (only a h) first-leaf-in;
         once = λ a b h g e. omega arith;
         root = λ w. absurd (w refl);
         leaf = λ a h e. rw (only a h) is-leaf;
@@ -85,7 +84,7 @@ module _ (T : Topo) where
       self x = ([], sym (append-nil x))
 
       is-leaf : width (subtree T first) ≡ 0
-      is-leaf = sym (byte-width T first there) ∙ first-zero (code T) (omega (arith, there, length-code T))
+      is-leaf = sym (byte-width T first first-leaf-in) ∙ first-zero (code T) (omega (arith, first-leaf-in, length-code T))
 
   -- A lone leaf goes to the first leaf of the target.
   pub lone-least : leastMap (0 ∷ []) (code T) ≡ list (firstLeaf (code T) ∷ [])

@@ -19,13 +19,14 @@ use Rattle.topology.proofs.Cases.{clash}
 use Rattle.reduction.specs.Reduced.{gathered, spread, keptBytes, in32}
 use Rattle.reduction.specs.declared.Gathered.{Gathered}
 use Rattle.reduction.proofs.Limits.{kept-fault}
-use Rattle.reduction.proofs.Gathering.{gathered-front, spread-front}
+use Rattle.reduction.proofs.Gathering.{gather-held}
+use Rattle.reduction.proofs.Spreading.{spread-out-held}
 use Rattle.embedding_laws.specs.Sets.{none}
 use Rattle.embedding_laws.specs.Least.{Found, nothing, list, leastMap, leastOf, noneFault, padded, searchFault, searchMap, unlessRefused}
 use Rattle.embedding_laws.specs.Tables.{bestBy, Draws}
 use Rattle.embedding_laws.specs.Meaning.{Truth, ReadTo, firstLeaf}
 use Rattle.embedding_laws.proofs.Images.{found-none, found-list}
-use Rattle.embedding_laws.proofs.Lone.{leaf-code, lone-least}
+use Rattle.embedding_laws.proofs.Lone.{leaf-code, first-leaf-in, lone-least}
 use Rattle.embedding_laws.proofs.Searching.{found-long}
 use Rattle.two_trees.specs.Trees.{treesFault}
 use Rattle.two_trees.proofs.Trees.{orElse-both, tree-fits}
@@ -78,7 +79,12 @@ module _ (source target : List ℕ) (d : Draws 32 source) (e : Draws 64 target) 
         let f = found-list source target d e best truth branching h m r in
         record { found = sym (ap isFound (f .0)); images = f .1 }
 
--- a lone leaf goes to the first leaf of the target
+-- A lone leaf goes to the first leaf of the target, whose number fits a byte.
+pub leaf-small : (target : List ℕ) → Draws 64 target → firstLeaf target < 64
+leaf-small target e =
+    let l : firstLeaf target < size (tree target) = subst (λ (b : List ℕ). firstLeaf b < size (tree target)) (e .is) (first-leaf-in (tree target)) in
+    omega (arith, l, length-code (tree target), ap length (e .is), e .fits)
+
 pub leaf-placed : (target : List ℕ) → Draws 64 target → (images : List ℕ) → images ≡ in32 (firstLeaf target ∷ [])
     → FindsLeast (0 ∷ []) target (record { «is_found» = true; images = images })
 leaf-placed target e images q =
@@ -98,20 +104,21 @@ module _ (source target : List ℕ) (refusal : ℕ) (e : refusal ≡ treesFault 
       by-fault zero (suc g) q = (cc, refl)
       by-fault (suc f) g q = (cc, refl)
 
-  module _ (z : refusal ≡ 0) (kept : Gathered) (g : (kept .numbers ≡ in32 (gathered (take 32 source) source)) × (kept .count ≡ length (gathered (take 32 source) source))) where
+  module _ (z : refusal ≡ 0) (kept : Gathered)
+      (g : (kept .numbers ≡ in32 (gathered (take 32 source) source)) × (kept .count ≡ length (gathered (take 32 source) source))) where
     no-fault : (fault 32 source ≡ 0) × (fault 64 target ≡ 0)
     no-fault = orElse-both (fault 32 source) (fault 64 target) (sym e ∙ z)
 
     -- the bytes that are lent to the search are those of the reduced drawing
-    pub lent : take (kept .count) (kept .numbers) ≡ keptBytes source
-    lent = gathered-front 32 source source kept g (tree-fits 32 source (no-fault .0) .1)
+    pub lent : (kept .count ≤ 32) × (length (kept .numbers) ≡ 32) × (take (kept .count) (kept .numbers) ≡ keptBytes source)
+    lent = gather-held source source (kept .numbers) (kept .count) (tree-fits 32 source (no-fault .0) .1) (g .0) (g .1)
 
     pub both-draw : Draws 32 (take (kept .count) (kept .numbers)) × Draws 64 target
-    both-draw = (rw lent (draws 32 (keptBytes source) (kept-fault 32 source (no-fault .0))), draws 64 target (no-fault .1))
+    both-draw = (rw (lent .2) (draws 32 (keptBytes source) (kept-fault 32 source (no-fault .0))), draws 64 target (no-fault .1))
 
     module _ (r : LeastImages) (least : FindsLeast (take (kept .count) (kept .numbers)) target r) where
       found : FindsLeast (keptBytes source) target r
-      found = subst (λ (b : List ℕ). FindsLeast b target r) lent least
+      found = subst (λ (b : List ℕ). FindsLeast b target r) (lent .2) least
 
       pub search-none : r .«is_found» ≡ false → Searches source target (record { outcome = NoMap; map = replicate 32 0 })
       unfolding outcome searchFault searchMap leastOf
@@ -131,7 +138,7 @@ module _ (source target : List ℕ) (refusal : ℕ) (e : refusal ≡ treesFault 
           by-found (list l) q =
               let long = found-long source target (no-fault .0) (no-fault .1) l q in
               let is : r .images ≡ in32 l = found .images ∙ ap padded q in
-              let spreads = spread-front source l (tree-fits 32 source (no-fault .0) .1) long in
+              let spreads = spread-out-held source l (tree-fits 32 source (no-fault .0) .1) long in
               record {
                 outcome = rw (no-fault .0, no-fault .1, q);
                 map = rw (no-fault .0, no-fault .1, q) (s ∙ ap (λ (k : List ℕ). in32 (spread (take 32 source) k)) is ∙ spreads);

@@ -1,3 +1,4 @@
 pub mod Found
 pub mod Steps
+pub mod Leaf
 pub mod Answers

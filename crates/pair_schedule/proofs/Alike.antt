@@ -1,7 +1,7 @@
 -- Source and chip with disciplines (demand 3 for lists that mix both kinds of push): for every map that meets the rules the drawing's own tree and
 -- the chip's answer every request alike. What holds between the two is `PairedSchedulers`: machines paired, the same kept for disciplines. A push
 -- to a leaf then gets one path, one rank at the leaf and the same finishes on both sides, and goes to both machines as a push by path; a pop
--- that departs takes one rank at a node and at its image, so that virtual times stay the same. `alike` is one request, and by
+-- that departs takes one rank at a kept node and at its image, and no other node keeps a virtual time, so that these stay the same. `alike` is one request, and by
 -- induction over the list of requests the same is seen of both (`schedulers-alike`).
 use mathlib.Core.Path.{_≡_, refl, sym, ap, subst}
 use Prim.Native.Nat.{ℕ, _<_}
@@ -14,15 +14,19 @@ use Rattle.topology.specs.Reader.{pick}
 use Rattle.pifo.specs.Queue.{Rank}
 use Rattle.pifo.specs.Machine.{Machine, Call, pushing, Answer, accepted, departed, refused, full, opened, serve}
 use Rattle.pifo.proofs.Answers.{departed-pop}
+use Rattle.reduction.specs.Kept.{Kept}
+use Rattle.reduction.specs.Reduced.{reduced}
 use Rattle.embedding_laws.specs.Rules.{Passes}
 use Rattle.simulation.specs.Sheet.{serveCarried, Paired}
+use Rattle.simulation.specs.Reduced.{placesOf}
 use Rattle.simulation.proofs.Simulation.{paired-opened, paired-next, answers-alike, counts-alike}
+use Rattle.simulation.proofs.Reduced.{places-pass}
 use Rattle.disciplines.specs.Figure.{kindAt, rankBy, stepsDown, finishesDown, fitsDown, withFinishes, afterPop, fresh}
 use Rattle.disciplines.specs.Scheduler.{Scheduler, Request, calling, pushingTo, isLeaf, rankAt, with, pushedBy, calledBy, serveBy, serveOwn, seenOf, seenOver}
 use Rattle.disciplines.specs.declared.Rule.{Rule}
 use Rattle.disciplines.specs.declared.Disciplines.{Disciplines}
 use Rattle.disciplines.proofs.Times.{times-same}
-use Rattle.pair_schedule.specs.Chip.{imageRank, serveChip, PairedSchedulers, SchedulersAlike}
+use Rattle.pair_schedule.specs.Chip.{imageRank, serveChip, PairedSchedulers, SchedulersAlike, ReducedSchedulersAlike}
 use Rattle.pair_schedule.proofs.Ranks.{rank-alike}
 
 module _ (S T : Topo) (m : List ℕ) (E : Passes S T m) {P : Type 0} where
@@ -50,7 +54,7 @@ module _ (S T : Topo) (m : List ℕ) (E : Passes S T m) {P : Type 0} where
     pushed-alike after fits (full n c) a b q = (refl, same d a b q)
 
     called-alike : (f g : ℕ → Option Rank) (o : Answer P) (a b : Machine P) → Paired S T m a b
-        → ((p : P) → o ≡ departed p → (n : ℕ) → n < size S → g n ≡ f n) → Alike (calledBy S x f (o, a)) (calledBy S y g (o, b))
+        → ((p : P) → o ≡ departed p → (n : ℕ) → n < size S → Kept S n → g n ≡ f n) → Alike (calledBy S x f (o, a)) (calledBy S y g (o, b))
     called-alike f g (accepted n) a b q ranks = (refl, same d a b q)
     called-alike f g (departed p) a b q ranks =
         let times = times-same S (d .rules) g f (ranks p refl) 0 (d .«virtual_time») in
@@ -130,3 +134,6 @@ schedulers-alike P S T m E limit rules requests =
     let y = with {P = P} (opened T limit) (fresh rules) in
     let start = paired-fresh S T m E limit rules in
     record { before = seen-of S T m E x y start; every = seen-alike S T m E x y start requests }
+
+pub reduced-schedulers-alike : ReducedSchedulersAlike
+reduced-schedulers-alike P S limit rules requests = schedulers-alike P S (reduced S) (placesOf S) (places-pass S) limit rules requests

@@ -1,49 +1,54 @@
--- A pop that departs takes one rank at a source node and at its image.
+-- A pop that departs takes one rank at a kept source node and at its image.
 use mathlib.Core.Path.{_≡_, refl, ap, _∙_}
 use Prim.Native.Nat.{ℕ, _<_}
 use mathlib.Core.List.{List, [], _∷_, _++_}
 use mathlib.Core.Option.{Option, none, some}
 use Rattle.topology.specs.Tree.{Topo, size}
-use Rattle.topology.specs.Address.{Addr, In, addr}
+use Rattle.topology.specs.Address.{Addr, In, addr, num}
 use Rattle.topology.proofs.Numbering.{addr-in, num-addr}
 use Rattle.pifo.specs.Queue.{Entry, child, packet, entry}
 use Rattle.pifo.specs.Tree.{PTree, pop}
 use Rattle.pifo.specs.Way.{takes}
 use Rattle.pifo.specs.Machine.{Machine}
 use Rattle.pifo.proofs.Ways.{Named, takes-named}
+use Rattle.reduction.specs.Kept.{Kept, keptNode}
+use Rattle.reduction.proofs.Kept.{kept-self}
 use Rattle.embedding_laws.specs.Rules.{Passes}
 use Rattle.simulation.specs.Embedding.{imageAt}
-use Rattle.simulation.specs.Mirror.{toward, ranked, turn}
+use Rattle.simulation.specs.Mirror.{toward, Owns, ranked, turn}
 use Rattle.simulation.specs.Sheet.{Paired}
-use Rattle.simulation.proofs.Images.{Keeps, keeps}
+use Rattle.simulation.proofs.Images.{Keeps}
+use Rattle.simulation.proofs.Keeping.{keeps, kept-owns}
 use Rattle.simulation.proofs.Prefixes.{toward-over}
 use Rattle.simulation.proofs.Turning.{after}
-use Rattle.simulation.proofs.Owners.{lower, image-owned}
+use Rattle.simulation.proofs.Owners.{lower}
 use Rattle.simulation.proofs.Mirrored.{mirrors-pop}
 use Rattle.disciplines.specs.Scheduler.{rankOf, rankAt}
 use Rattle.pair_schedule.specs.Chip.{imageRank}
 
 module _ {P : Type 0} where
-  -- An entry of a node is turned into one of the same rank at the node's image: the image of the child that it names lies below.
-  rank-turned : {S T : Topo} {F : Addr → Addr} → Keeps S T F → (b : Addr) (o : Option (Entry P)) → Named S b o
+  -- An entry of a node that owns its image is turned into one of the same rank there: the image of the child that it names lies below.
+  rank-turned : {S T : Topo} {F : Addr → Addr} → Keeps S T F → (b : Addr) → Owns S F b (F b) → (o : Option (Entry P)) → Named S b o
       → rankOf (after (turn F b (F b)) o) ≡ rankOf o
-  rank-turned K b none h = refl
-  rank-turned K b (some (entry r (packet p))) h = refl
-  rank-turned {F = F} K b (some (entry r (child k))) h =
-      let g = lower K b k h in
+  rank-turned K b own none h = refl
+  rank-turned K b own (some (entry r (packet p))) h = refl
+  rank-turned {F = F} K b own (some (entry r (child k))) h =
+      let g = lower K b k h own in
       let e : toward (F b) (F (b ++ (k ∷ []))) ≡ some (g .0) = ap (toward (F b)) (g .2) ∙ toward-over (F b) (g .0) (g .1) in
       ap (λ (j : Option ℕ). rankOf {P = P} (ranked r j)) e
 
   module _ (S T : Topo) (m : List ℕ) (E : Passes S T m) (x y : Machine P) (h : Paired S T m x y) where
-    pub rank-alike : (p : P) (u : PTree P) → pop (x .tree) ≡ some (p, u) → (n : ℕ) → n < size S → imageRank m y n ≡ rankAt x n
+    pub rank-alike : (p : P) (u : PTree P) → pop (x .tree) ≡ some (p, u) → (n : ℕ) → n < size S → Kept S n → imageRank m y n ≡ rankAt x n
     unfolding rankAt
-    rank-alike p u e n l =
+    rank-alike p u e n l kept =
         let K = keeps S T m E in
         let b : Addr = addr S n in
         let there : In S b = addr-in S n l in
+        let own = kept-owns S T m E b there kept in
         let source-shape = h .source .topology ∙ h .source-topology in
         let z = mirrors-pop K (x .tree) (y .tree) (h .source .tree) source-shape (h .chip .topology ∙ h .chip-topology) (h .trees) p u e in
         let named : Named S b (takes (x .tree) b) = rw source-shape at (takes-named (x .tree) b (h .source .tree)) in
         let same : rankOf (takes (y .tree) (imageAt S T m b)) ≡ rankOf (takes (x .tree) b) =
-        ap rankOf (z .entries b (imageAt S T m b) there (K .there b there) (image-owned K b)) ∙ rank-turned K b (takes (x .tree) b) named in
-        rw (h .chip-topology, h .source-topology) (rw (num-addr S n l) at same)
+        ap rankOf (z .entries b (imageAt S T m b) there (K .there b there) own) ∙ rank-turned K b own (takes (x .tree) b) named in
+        let itself : keptNode S n ≡ n = ap (num S) (kept-self S b kept) ∙ num-addr S n l in
+        rw (h .chip-topology, h .source-topology) (rw itself at same)

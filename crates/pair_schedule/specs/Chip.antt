@@ -1,4 +1,5 @@
--- The chip's tree with disciplines (paper 02, 2.1), and the promise that it is seen as the drawing's own tree is (`SchedulersAlike`).
+-- The chip's tree with disciplines (paper 02, 2.1), and the promise that it is seen as the drawing's own tree is (`SchedulersAlike`);
+-- the same for a drawing and its reduced drawing (`ReducedSchedulersAlike`).
 use mathlib.Core.Path.{_≡_}
 use Prim.Native.Nat.{ℕ}
 use mathlib.Core.List.{List}
@@ -6,14 +7,17 @@ use mathlib.Core.Option.{Option}
 use Rattle.topology.specs.Tree.{Topo}
 use Rattle.pifo.specs.Queue.{Rank}
 use Rattle.pifo.specs.Machine.{Machine, Answer, opened}
+use Rattle.reduction.specs.Reduced.{reduced}
 use Rattle.embedding_laws.specs.Rules.{image, Passes}
 use Rattle.simulation.specs.Sheet.{serveCarried, Paired}
+use Rattle.simulation.specs.Reduced.{placesOf}
 use Rattle.disciplines.specs.Figure.{fresh}
 use Rattle.disciplines.specs.Scheduler.{Scheduler, Request, rankAt, with, serveBy, serveOwn, seenOf, seenOver}
 use Rattle.disciplines.specs.declared.Rule.{Rule}
 
 module _ {P : Type 0} where
-  -- the rank that a pop of the chip's machine takes for source node n: the one at its image
+  -- the rank that a pop of the chip's machine takes for source node n: the one at its image; a node that is passed over has none, and keeps no
+  -- virtual time, so that what is read for it makes no difference
   abbrev pub imageRank : List ℕ → Machine P → ℕ → Option Rank
   imageRank images m n = rankAt m (image images n)
 
@@ -40,3 +44,9 @@ abbrev pub SchedulersAlike : Type 1
 SchedulersAlike =
     (P : Type 0) (S T : Topo) (m : List ℕ) → Passes S T m → (limit : ℕ) (rules : List Rule) (requests : List (Request P))
     → SchedulesAlike P S T m limit rules requests
+
+-- The same for a drawing and its reduced drawing, the disciplines by node of the drawing. `reduced-schedulers-alike` in proofs/Alike proves it.
+abbrev pub ReducedSchedulersAlike : Type 1
+ReducedSchedulersAlike =
+    (P : Type 0) (S : Topo) (limit : ℕ) (rules : List Rule) (requests : List (Request P))
+    → SchedulesAlike P S (reduced S) (placesOf S) limit rules requests

@@ -1,61 +1,83 @@
--- The walk down the source along a path: after i steps without fault it stands at a node, and the carried path has come to that node's
--- image.
+-- The carrying of a path: after i of its steps the walk stands at a source node, and the carried path has come to that node's image or, where the
+-- node is passed over, to the image of the next kept node below it.
 use mathlib.Core.Path.{_≡_, refl, sym, ap, ap₂, _∙_}
-use mathlib.Core.Logic.{_≢_}
 use Prim.Native.Nat.{ℕ, suc, _+_, _≤_, _<_}
 use native.Mathlib.Numerals.{add-one}
 use native.Mathlib.Omega.{arith}
-use mathlib.Core.List.{List, [], _∷_, _++_, append-nil, append-assoc}
-use lib.ListN.{length, drop, getD, length-append, length-drop, drop-of-length-le}
+use mathlib.Core.List.{List, [], _++_, append-nil, append-assoc}
+use lib.ListN.{length, drop, getD, length-append, length-drop}
 use Rattle.lists.proofs.Map.{length-map}
-use Rattle.topology.specs.Tree.{Topo, width, size}
-use Rattle.topology.specs.Address.{child, addr, sub, subtree, childOf, depth, route}
+use Rattle.topology.specs.Tree.{Topo, size}
+use Rattle.topology.specs.Address.{Above, addr, childOf, depth, route}
 use Rattle.topology.specs.Reader.{fault, tree}
 use Rattle.topology.specs.Branch.{childAt}
 use Rattle.topology.specs.declared.Found.{Found}
 use Rattle.topology.specs.declared.Found.the-variants.{Node, Missing}
-use Rattle.topology.proofs.Numbering.{addr-root, addr-in}
-use Rattle.topology.proofs.Ancestry.{size-pos, in-height}
-use Rattle.topology.proofs.Children.{HasChild, childOf-lt, subtree-childOf, depth-childOf}
-use Rattle.topology.proofs.Lookup.{valid-size, valid-width, valid-child, valid-missing}
-use Rattle.topology.proofs.Reader.{within}
+use Rattle.topology.proofs.Numbering.{addr-root, addr-in, num-lt}
+use Rattle.topology.proofs.Ancestry.{size-pos}
+use Rattle.topology.proofs.Lookup.{valid-size}
+use Rattle.topology.proofs.Reader.{drawn}
 use Rattle.pifo.specs.Tree.{Step, step, pathFault}
-use Rattle.pifo.proofs.Paths.{end-fault, fault-above, fault-on, fault-off}
+use Rattle.reduction.specs.Kept.{keptAt, keptNode}
+use Rattle.reduction.specs.Reduced.{nextKept}
+use Rattle.reduction.proofs.Kept.{kept-in, kept-is}
+use Rattle.reduction.proofs.Next.{next-kept}
 use Rattle.embedding_laws.specs.Rules.{image, Passes}
 use Rattle.embedding_laws.specs.Check.{mapFault}
 use Rattle.embedding_laws.proofs.Rules.{mapFault-none}
-use Rattle.simulation.specs.Carrying.{steps, carry, carryNodes}
+use Rattle.simulation.specs.Carrying.{steps, carry, carryNodes, carryRoot}
 use Rattle.simulation.proofs.Nodes.{image-below, carry-nodes}
-use Rattle.queue_push.specs.Calls.{stepOf, stepsOf, noStep, pathOf, Plain}
+use Rattle.queue_push.specs.Calls.{stepsOf, noStep, pathOf, Plain}
 use Rattle.queue_push.specs.declared.Step.{Step as CodeStep}
 use Rattle.queue_push.specs.declared.Path.{Path}
-use Rattle.queue_push.proofs.Paths.{step-at, steps-end, steps-path, path-plain}
-use Rattle.translator.specs.Carry.{Carries}
+use Rattle.queue_push.proofs.Paths.{steps-path, path-plain}
 use Rattle.translator.specs.Ways.{Over}
-use Rattle.translator.proofs.Faults.{carry-path}
+use Rattle.translator.proofs.Standing.{Standing, standing-start, standing-few, standing-first, standing-lost, standing-child, standing-next, standing-ended}
 
 -- What is carried so far, with what carrying the steps left gives, is all (`rest`).
-pub record Walking (source target m : List ℕ) (path carried : Path) (node i : ℕ) : Type 0 where
-  pub there : node < size (tree source)
-  pub deep : depth (tree source) node ≡ i
-  pub same : pathFault (tree source) (stepsOf path) ≡ pathFault (subtree (tree source) node) (drop i (stepsOf path))
+pub record Walking (source target m : List ℕ) (path carried : Path) (from node i : ℕ) : Type 0 where
+  pub standing : Standing source path node i
+  pub image : from ≡ image m (keptNode (tree source) node)
   pub plain : Plain carried
   pub leaf : carried .«leaf_rank» ≡ path .«leaf_rank»
-  pub below : carried .count ≡ depth (tree target) (image m node)
-  pub rest : stepsOf carried ++ carryNodes (tree source) (tree target) m node (drop i (stepsOf path))
-      ≡ carryNodes (tree source) (tree target) m 0 (stepsOf path)
+  pub below : carried .count ≡ depth (tree target) from
+  pub rest : stepsOf carried ++ carryNodes (tree source) (tree target) m node (drop i (stepsOf path)) ≡ carryRoot (tree source) (tree target) m (stepsOf path)
 
-module _ (source target m : List ℕ) (z : mapFault source target m ≡ 0) (path : Path) where
+-- A path carried to node x of the target and then along the way down to y has come to y.
+module _ (target : List ℕ) (carried : Path) (rank x y : ℕ) (plain : Plain carried) (below : carried .count ≡ depth (tree target) x)
+    (o : Above (addr (tree target) x) (addr (tree target) y)) (more : Path)
+    (is : more ≡ pathOf (stepsOf carried ++ steps rank (route (tree target) x y)) (carried .«leaf_rank»)) where
+  abbrev way : List Step
+  way = steps rank (route (tree target) x y)
+
+  more-steps : stepsOf more ≡ stepsOf carried ++ way
+  more-steps = ap stepsOf is ∙ steps-path (stepsOf carried ++ way) (carried .«leaf_rank»)
+
+  more-plain : Plain more
+  more-plain = rw is (path-plain (stepsOf carried ++ way) (carried .«leaf_rank»))
+
+  more-below : more .count ≡ depth (tree target) y
+  more-below =
+      omega (
+        arith,
+        ap (λ (p : Path). p .count) is,
+        length-append (stepsOf carried) way,
+        ap (λ (p : Path). p .count) plain,
+        below,
+        length-map (λ (k : ℕ). step k rank) (route (tree target) x y),
+        length-drop (depth (tree target) x) (addr (tree target) y),
+        ap length (o .1),
+        length-append (addr (tree target) x) (o .0),
+      )
+
+module _ (source target m : List ℕ) (z : mapFault source target m ≡ 0) where
   abbrev S : Topo
   S = tree source
 
   abbrev T : Topo
   T = tree target
 
-  abbrev ss : List Step
-  ss = stepsOf path
-
-  valid-source : fault 32 source ≡ 0
+  pub valid-source : fault 32 source ≡ 0
   valid-source = mapFault-none source target m .0 z .0
 
   valid-target : fault 64 target ≡ 0
@@ -64,139 +86,129 @@ module _ (source target m : List ℕ) (z : mapFault source target m ≡ 0) (path
   passes : Passes S T m
   passes = mapFault-none source target m .0 z .2
 
-  refused : (f : ℕ) → f ≢ 0 → pathFault S ss ≡ f → Carries source target m path (record { path = path; refusal = f })
-  refused f n e = record { refusal = sym (carry-path source target m ss z ∙ e); carried = λ y. absurd (n y); kept = λ _. refl }
+  -- the next kept node, as code finds it
+  module _ (n k : ℕ) (l : n < size S) (e : k ≡ nextKept source n) where
+    kept-found : k ≡ keptNode S n
+    kept-found = e ∙ ap (λ (bs : List ℕ). nextKept bs n) (sym (drawn 32 source valid-source)) ∙ next-kept S n l
 
-  pub walking-start : Walking source target m path (pathOf [] (path .«leaf_rank»)) 0 0
-  walking-start =
-      record {
-        there = size-pos S;
-        deep = ap length (addr-root S);
-        same = ap (λ (u : Topo). pathFault u ss) (sym (ap (sub S) (addr-root S)));
-        plain = refl;
-        leaf = refl;
-        below = sym (ap (depth T) (passes .root) ∙ ap length (addr-root T));
-        rest = refl;
-      }
+    kept-lt : keptNode S n < size S
+    kept-lt = num-lt S (keptAt S (addr S n)) (kept-in S (addr S n) (addr-in S n l))
 
-  module _ (carried : Path) (node i : ℕ) (w : Walking source target m path carried node i) where
-    pub walking-few : i ≤ 8
-    walking-few = omega (arith, w .deep, in-height S (addr S node) (addr-in S node (w .there)), within 32 source valid-source .steps)
+    pub kept-listed : k < length m
+    kept-listed = omega (arith, kept-found, kept-lt, passes .long)
 
-    pub walking-source : node < length source
-    walking-source = omega (arith, w .there, valid-size 32 source valid-source)
+    kept-image : image m (keptNode S n) < length target
+    kept-image =
+        omega (arith, passes .within (keptNode S n) kept-lt (kept-is S (addr S n) (addr-in S n l)), valid-size 64 target valid-target)
 
-    pub walking-map : node < length m
-    walking-map = omega (arith, w .there, passes .long)
+  module _ (path : Path) where
+    abbrev ss : List Step
+    ss = stepsOf path
 
-    -- ---- one step more
+    -- ---- down to the first kept node's image
 
-    module _ (r : Found) (e : r ≡ childAt source node (getD (path .steps) i noStep .child)) where
-      abbrev s : CodeStep
-      s = getD (path .steps) i noStep
+    module _ (k : ℕ) (e : k ≡ nextKept source 0) where
+      pub walking-listed : k < length m
+      walking-listed = kept-listed 0 k (size-pos S) e
 
-      module _ (next : ℕ) (q : r ≡ Node next) where
-        is-child : HasChild S node (s .child) × (next ≡ childOf S node (s .child))
-        is-child = valid-child 32 source valid-source node (s .child) next (sym e ∙ q)
+      first-above : Above (addr T 0) (addr T (image m k))
+      first-above = rw (addr-root T) (addr T (image m k), refl)
 
-        next-lt : next < size S
-        next-lt = omega (arith, is-child .1, childOf-lt S node (s .child) (is-child .0))
+      pub walking-first : Over target 0 (image m k)
+      walking-first =
+          record {
+            valid = valid-target;
+            upper = omega (arith, size-pos T, valid-size 64 target valid-target);
+            lower = omega (arith, ap (image m) (kept-found 0 k (size-pos S) e), kept-image 0 k (size-pos S) e);
+            above = first-above;
+          }
 
-        pub walking-child : next < length m
-        walking-child = omega (arith, next-lt, passes .long)
+      -- a path without steps has come to the root
+      pub walking-none : pathOf [] (path .«leaf_rank») .count ≡ depth T 0
+      walking-none = sym (ap length (addr-root T))
 
-        pub walking-over : Over target (image m node) (image m next)
-        walking-over =
-            record {
-              valid = valid-target;
-              upper = omega (arith, passes .within node (w .there), valid-size 64 target valid-target);
-              lower = omega (arith, passes .within next next-lt, valid-size 64 target valid-target);
-              above = rw (is-child .1) (image-below S T m passes node (s .child) (is-child .0) .0);
-            }
+      pub walking-start : (carried : Path) → carried ≡ pathOf (steps 0 (route T 0 (image m k))) (path .«leaf_rank»)
+          → Walking source target m path carried (image m k) 0 0
+      walking-start carried is =
+          let none : Path = pathOf [] (path .«leaf_rank») in
+          record {
+            standing = standing-start source valid-source path;
+            image = ap (image m) (kept-found 0 k (size-pos S) e);
+            plain = more-plain target none 0 0 (image m k) refl walking-none first-above carried is;
+            leaf = ap (λ (p : Path). p .«leaf_rank») is;
+            below = more-below target none 0 0 (image m k) refl walking-none first-above carried is;
+            rest =
+                ap (λ (l : List Step). l ++ carryNodes S T m 0 ss) (more-steps target none 0 0 (image m k) refl walking-none first-above carried is)
+                ∙ ap (λ (n : ℕ). steps 0 (route T 0 (image m n)) ++ carryNodes S T m 0 ss) (kept-found 0 k (size-pos S) e);
+          }
 
-      module _ (h : i < path .count) (g : length (path .steps) ≡ 9) where
-        abbrev others : List Step
-        others = drop (suc i) ss
+    module _ (carried : Path) (from node i : ℕ) (w : Walking source target m path carried from node i) where
+      pub walking-few : i ≤ 8
+      walking-few = standing-few source valid-source path node i (w .standing)
 
-        first : drop i ss ≡ stepOf s ∷ others
-        first = step-at path i noStep h (omega (arith, walking-few))
+      -- ---- one step more
 
-        pub walking-lost : r ≡ Missing → Carries source target m path (record { path = path; refusal = 13 })
-        walking-lost q =
-            let none = valid-missing 32 source valid-source node (s .child) (sym e ∙ q) in
-            refused 13 (omega arith)
-            (w .same ∙ ap (pathFault (subtree S node)) first ∙ fault-off (subtree S node) (s .child) (s .rank) others (λ x. none (w .there, x .0, x .1)))
+      module _ (h : i < path .count) (g : length (path .steps) ≡ 9) (r : Found) (e : r ≡ childAt source node (getD (path .steps) i noStep .child)) where
+        abbrev s : CodeStep
+        s = getD (path .steps) i noStep
 
-        -- The steps carried so far and the way to the child's image are the carried steps at the child.
-        pub walking-next : (next : ℕ) → r ≡ Node next → (more : Path)
-            → more ≡ pathOf (stepsOf carried ++ steps (s .rank) (route T (image m node) (image m next))) (carried .«leaf_rank»)
-            → Walking source target m path more next (i + 1)
-        walking-next next q more is =
-            let x : ℕ = image m node in
-            let y : ℕ = image m next in
-            let way : List Step = steps (s .rank) (route T x y) in
-            let has = is-child next q .0 in
-            let at = is-child next q .1 in
-            let now : stepsOf more ≡ stepsOf carried ++ way = ap stepsOf is ∙ steps-path (stepsOf carried ++ way) (carried .«leaf_rank») in
-            let rank-kept : more .«leaf_rank» ≡ carried .«leaf_rank» = ap (λ (p : Path). p .«leaf_rank») is in
-            let kid : subtree S next ≡ child (subtree S node) (s .child) = ap (subtree S) at ∙ subtree-childOf S node (s .child) has in
-            let under = walking-over next q .above in
-            rw (add-one i)
-            record {
-              there = next-lt next q;
-              deep = ap (depth S) at ∙ depth-childOf S node (s .child) has ∙ ap suc (w .deep);
-              same =
-                  w .same
-                  ∙ ap (pathFault (subtree S node)) first
-                  ∙ fault-on (subtree S node) (s .child) (s .rank) others (has .1) (has .2)
-                  ∙ ap (λ (u : Topo). pathFault u others) (sym kid);
-              plain = rw is (path-plain (stepsOf carried ++ way) (carried .«leaf_rank»));
-              leaf = rank-kept ∙ w .leaf;
-              below =
-                  omega (
-                    arith,
-                    ap (λ (p : Path). p .count) is,
-                    length-append (stepsOf carried) way,
-                    ap (λ (p : Path). p .count) (w .plain),
-                    w .below,
-                    length-map (λ (k : ℕ). step k (s .rank)) (route T x y),
-                    length-drop (depth T x) (addr T y),
-                    ap length (under .1),
-                    length-append (addr T x) (under .0),
-                  );
-              rest =
-                  ap (λ (l : List Step). l ++ carryNodes S T m next others) now
-                  ∙ append-assoc (stepsOf carried) way (carryNodes S T m next others)
-                  ∙ ap (λ (c : ℕ). stepsOf carried ++ (steps (s .rank) (route T x (image m c)) ++ carryNodes S T m c others)) at
-                  ∙ ap (λ (l : List Step). stepsOf carried ++ carryNodes S T m node l) (sym first)
-                  ∙ w .rest;
-            }
+        pub walking-lost : pathFault S ss ≡ 0 → r ≡ Missing → ⊥
+        walking-lost none q = omega (arith, none, standing-lost source valid-source path node i (w .standing) h g r e q)
 
-    -- ---- the end of the path
+        module _ (next : ℕ) (q : r ≡ Node next) where
+          stands : Standing source path next (i + 1)
+          stands = standing-next source valid-source path node i (w .standing) h g r e next q
 
-    module _ (h : path .count ≤ i) where
-      ended : drop i ss ≡ []
-      ended = drop-of-length-le ss (steps-end path i h)
+          module _ (k : ℕ) (f : k ≡ nextKept source next) where
+            pub walking-child : k < length m
+            walking-child = kept-listed next k (stands .there) f
 
-      done : pathFault S ss ≡ pathFault (subtree S node) []
-      done = w .same ∙ ap (pathFault (subtree S node)) ended
+            found : image m k ≡ image m (keptNode S next)
+            found = ap (image m) (kept-found next k (stands .there) f)
 
-      width-at : width (subtree S node) ≡ getD source node 0
-      width-at = valid-width 32 source valid-source node walking-source
+            pub walking-over : Over target from (image m k)
+            walking-over =
+                let c = standing-child source valid-source path node i (w .standing) h g r e next q in
+                record {
+                  valid = valid-target;
+                  upper = omega (arith, w .image, kept-image node (nextKept source node) (w .standing .there) refl);
+                  lower = omega (arith, found, kept-image next k (stands .there) f);
+                  above = rw (w .image, found, c .1) (image-below S T m passes node (s .child) (c .0));
+                }
 
-      pub walking-above : getD source node 0 ≢ 0 → Carries source target m path (record { path = path; refusal = 14 })
-      walking-above n = refused 14 (omega arith) (done ∙ fault-above (subtree S node) (λ y. n (sym width-at ∙ y)))
+            -- The steps carried so far and the way to the child's image are the carried steps at the child.
+            pub walking-next : (more : Path)
+                → more ≡ pathOf (stepsOf carried ++ steps (s .rank) (route T from (image m k))) (carried .«leaf_rank»)
+                → Walking source target m path more (image m k) next (i + 1)
+            walking-next more is =
+                let at = standing-child source valid-source path node i (w .standing) h g r e next q .1 in
+                let first = standing-first source valid-source path node i (w .standing) h g in
+                let others : List Step = drop (suc i) ss in
+                let under = walking-over .above in
+                record {
+                  standing = stands;
+                  image = found;
+                  plain = more-plain target carried (s .rank) from (image m k) (w .plain) (w .below) under more is;
+                  leaf = ap (λ (p : Path). p .«leaf_rank») is ∙ w .leaf;
+                  below = more-below target carried (s .rank) from (image m k) (w .plain) (w .below) under more is;
+                  rest =
+                      rw (add-one i)
+                      (ap (λ (l : List Step). l ++ carryNodes S T m next others)
+                      (more-steps target carried (s .rank) from (image m k) (w .plain) (w .below) under more is)
+                      ∙ append-assoc (stepsOf carried) (steps (s .rank) (route T from (image m k))) (carryNodes S T m next others)
+                      ∙ ap₂ (λ (x y : ℕ). stepsOf carried ++ (steps (s .rank) (route T x y) ++ carryNodes S T m next others)) (w .image) found
+                      ∙ ap (λ (c : ℕ). stepsOf carried ++ (steps (s .rank) (route T (image m (keptNode S node)) (image m (keptNode S c))) ++ carryNodes S T m c others)) at
+                      ∙ ap (λ (l : List Step). stepsOf carried ++ carryNodes S T m node l) (sym first)
+                      ∙ w .rest);
+                }
 
-      pub walking-leaf : getD source node 0 ≡ 0 → Carries source target m path (record { path = carried; refusal = 0 })
-      walking-leaf y =
-          let none : pathFault S ss ≡ 0 = done ∙ end-fault (subtree S node) (width-at ∙ y) in
+      -- ---- the end of the path
+
+      pub walking-end : path .count ≤ i → pathFault S ss ≡ 0 → carried ≡ pathOf (carry S T m ss) (path .«leaf_rank»)
+      walking-end h none =
           let all : stepsOf carried ≡ carry S T m ss =
           sym (append-nil (stepsOf carried))
-          ∙ ap (λ (l : List Step). stepsOf carried ++ carryNodes S T m node l) (sym ended)
+          ∙ ap (λ (l : List Step). stepsOf carried ++ carryNodes S T m node l) (sym (standing-ended source valid-source path node i (w .standing) h))
           ∙ w .rest
           ∙ carry-nodes S T m ss none in
-          record {
-            refusal = sym (carry-path source target m ss z ∙ none);
-            carried = λ _. w .plain ∙ ap₂ pathOf all (w .leaf);
-            kept = λ n. absurd (n refl);
-          }
+          w .plain ∙ ap₂ pathOf all (w .leaf)

@@ -1,13 +1,16 @@
 // The translator: a path in a source's tree carried over to a target's tree along a map.
 //
 // A step of the source goes from a node to one of its children. In the target it becomes one step at each node from the image of the one
-// down to, but without, the image of the other, toward the latter and with the step's rank.
+// down to, but without, the image of the other, toward the latter and with the step's rank. For a node that is passed over, the image of the
+// next kept node below it stands: so the step into it goes to that image, and its own step gives none. Above the image of a lone leaf the
+// target's nodes get a step of rank 0 toward it.
 ghost use mathlib.Core.Path.{_≡_};
 ghost use mathlib.Core.List.{_++_};
-ghost use Rattle.topology.specs.Reader.{tree};
+ghost use Rattle.topology.specs.Reader.{fault, tree};
 ghost use Rattle.topology.specs.Address.{depth, route};
+ghost use Rattle.pifo.specs.Tree.{pathFault};
 ghost use Rattle.embedding_laws.specs.Check.{mapFault};
-ghost use Rattle.simulation.specs.Carrying.{steps};
+ghost use Rattle.simulation.specs.Carrying.{steps, carry as Carrying·carry};
 ghost use Rattle.queue_push.specs.Calls.{stepsOf, pathOf, Plain};
 ghost use Rattle.translator.specs.Carry.{Carries};
 ghost use Rattle.translator.specs.Ways.{Over};
@@ -42,47 +45,78 @@ fn descend(bytes: &[u8], path: Path, from: usize, to: usize, rank: Rank) -> Path
     extending
 }
 
-// Walks down the source along the path, and down the target from image to image.
-fn walk(source: &[u8], target: &[u8], map: &[u8], path: Path) -> Carried
-    requires { ⌜ mapFault (now source) (now target) (now map) ≡ 0 ⌝ }
-    ensures { λ r. ⌜ Carries (now (source .entry)) (now (target .entry)) (now (map .entry)) path r ⌝ }
+// The number by which the path is refused in the source's tree, whatever the map: 13, 14, or 0 for none.
+fn path_fault(source: &[u8], path: Path) -> u8
+    requires { ⌜ fault 32 (now source) ≡ 0 ⌝ }
+    ensures { λ r. ⌜ r ≡ pathFault (tree (now (source .entry))) (stepsOf path) ⌝ }
 {
     let steps = path.steps;
     let count = path.count;
-    let leaf_rank = path.leaf_rank;
-    let mut carried = Path {
-        steps: [Step { child: 0, rank: 0 }; 9],
-        count: 0,
-        leaf_rank,
-    };
     let mut node = 0;
     let mut i = 0;
     while i < count {
         let step = steps[i];
         let Found::Node(child) = branches::child(source, node, step.child as usize) else {
-            return Carried { path, refusal: 13 };
+            return 13;
         };
-        let from = map[node] as usize;
-        let to = map[child] as usize;
-        carried = descend(target, carried, from, to, step.rank);
         node = child;
         i += 1;
     }
     if source[node] != 0 {
-        return Carried { path, refusal: 14 };
+        return 14;
     }
-    Carried {
-        path: carried,
-        refusal: 0,
-    }
+    0
 }
 
-// Carries a path over: both trees and the map are tested (1 to 11), then the path in the source's tree (13, 14).
+// Walks down the source along the path, and down the target from image to image: first to the image of the first kept node, with rank 0.
+fn walk(source: &[u8], target: &[u8], map: &[u8], path: Path) -> Path
+    requires { ⌜ (mapFault (now source) (now target) (now map) ≡ 0) × (pathFault (tree (now source)) (stepsOf path) ≡ 0) ⌝ }
+    ensures { λ r. ⌜ r ≡ pathOf (Carrying·carry (tree (now (source .entry))) (tree (now (target .entry))) (now (map .entry)) (stepsOf path)) (path .«leaf_rank») ⌝ }
+{
+    let steps = path.steps;
+    let count = path.count;
+    let leaf_rank = path.leaf_rank;
+    let mut from = map[reduction::next_kept(source, 0)] as usize;
+    let mut carried = descend(
+        target,
+        Path {
+            steps: [Step { child: 0, rank: 0 }; 9],
+            count: 0,
+            leaf_rank,
+        },
+        0,
+        from,
+        0,
+    );
+    let mut node = 0;
+    let mut i = 0;
+    while i < count {
+        let step = steps[i];
+        let Found::Node(child) = branches::child(source, node, step.child as usize) else {
+            return carried;
+        };
+        let to = map[reduction::next_kept(source, child)] as usize;
+        carried = descend(target, carried, from, to, step.rank);
+        from = to;
+        node = child;
+        i += 1;
+    }
+    carried
+}
+
+// Carries a path over: both trees and the map are tested (1 to 11 and 26), then the path as drawn in the source's tree (13, 14).
 pub fn carry(source: &[u8], target: &[u8], map: &[u8], path: Path) -> Carried
     ensures { λ r. ⌜ Carries (now (source .entry)) (now (target .entry)) (now (map .entry)) path r ⌝ }
 {
-    match embedding::check(source, target, map) {
-        Checked::Refused(refusal) => Carried { path, refusal },
-        Checked::Passes => walk(source, target, map, path),
+    if let Checked::Refused(refusal) = embedding::check(source, target, map) {
+        return Carried { path, refusal };
+    }
+    let refusal = path_fault(source, path);
+    if refusal != 0 {
+        return Carried { path, refusal };
+    }
+    Carried {
+        path: walk(source, target, map, path),
+        refusal: 0,
     }
 }

@@ -1,4 +1,4 @@
--- `solve` meets its contract: the table is shut at the roots, or the map is read off it.
+-- `solve` meets its contract: the table is shut at the roots, or the images are read off it.
 use borrow.Author.Needs.{needs}
 use mathlib.Core.Path.{refl}
 use native.Mathlib.Omega.{arith}
@@ -46,7 +46,7 @@ returns c =
     let args = c .before .before .before .before .before .before .before .before .before .before .before .before .args in
     let pre = c .before .before .before .before .before .before .before .before .before .before .before .before .pre in
     solve-none (now (args .source)) (now (args .target)) (pre .0) (pre .1) (fill-table .last .1 .1 .1 .1 .0)
-    (fill-table .ensures .0) (c .if1 .taken)
+    (fill-table .ensures .0) (pre .2) (c .if1 .taken)
 
 slice-aggregate-read-off : tie.Need-slice-aggregate-read-off
 slice-aggregate-read-off c = search needs
@@ -70,7 +70,7 @@ returns-2 c =
     let pre = c .before .before .before .before .before .before .before .before .before .before .before .before .before .before
     .before .pre in
     solve-found (now (args .source)) (now (args .target)) (pre .0) (pre .1) (fill-table .last .1 .1 .1 .1 .0)
-    (fill-table .ensures .0) (if1 .left) _ (c .read-off .ensures)
+    (fill-table .ensures .0) (pre .2) (if1 .left) _ (c .read-off .ensures)
 
 pub solve-spec : {M : Type 1} → statement M
 solve-spec =
