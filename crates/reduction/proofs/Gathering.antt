@@ -26,7 +26,7 @@ in32-next l n x e h =
 length-in32 : (l : List ℕ) → length l ≤ 32 → length (in32 l) ≡ 32
 length-in32 l h = length-append l (replicate (32 - length l) 0) ∙ omega (arith, length-replicate {A = ℕ} (32 - length l) 0)
 
--- Gathering goes on by one node, and ends with the shorter of the two lists.
+-- at most as many numbers as bytes
 pub gathered-fewer : (bs l : List ℕ) → length (gathered bs l) ≤ length bs
 gathered-fewer [] l = omega arith
 gathered-fewer (b ∷ bs) [] = omega arith
@@ -36,6 +36,20 @@ gathered-fewer (b ∷ bs) (x ∷ l) = by-test (eqb b 1) (gathered-fewer bs l)
     by-test true r = omega (arith, r)
     by-test false r = omega (arith, r)
 
+-- as many for one list as for another as long
+pub gathered-alike : (bs l m : List ℕ) → length l ≡ length m → length (gathered bs l) ≡ length (gathered bs m)
+gathered-alike [] l m e = refl
+gathered-alike (b ∷ bs) [] [] e = refl
+gathered-alike (b ∷ bs) [] (y ∷ m) e = absurd (omega arith)
+gathered-alike (b ∷ bs) (x ∷ l) [] e = absurd (omega arith)
+gathered-alike (b ∷ bs) (x ∷ l) (y ∷ m) e = by-test (eqb b 1) (gathered-alike bs l m (omega (arith, e)))
+  where
+    by-test : (t : Bool) → length (gathered bs l) ≡ length (gathered bs m)
+        → length (pick t (gathered bs l) (x ∷ gathered bs l)) ≡ length (pick t (gathered bs m) (y ∷ gathered bs m))
+    by-test true r = r
+    by-test false r = ap suc r
+
+-- Gathering goes on by one node, and ends with the shorter of the two lists.
 gathered-next : (bs l : List ℕ) (i : ℕ) → i < length bs → i < length l
     → gathered (take (suc i) bs) l ≡ gathered (take i bs) l ++ pick (eqb (getD bs i 0) 1) [] (getD l i 0 ∷ [])
 gathered-next [] l i h g = absurd (not-suc-le-zero h)
