@@ -1,5 +1,7 @@
--- The answers of a carrying: one law for a list that is refused as a map, and what an answer without refusal says of its path.
+-- The answers of a carrying: one law for a list that is refused as a map, one for a path that is refused as drawn, one for a path that is carried;
+-- and what an answer without refusal says of its path.
 use mathlib.Core.Path.{_≡_, refl, sym, ap, _∙_}
+use mathlib.Core.Logic.{_≢_}
 use Prim.Native.Nat.{ℕ, zero, suc}
 use native.Mathlib.Omega.{arith}
 use mathlib.Core.List.{List}
@@ -15,12 +17,12 @@ use Rattle.embedding.specs.declared.Checked.{Checked}
 use Rattle.embedding.specs.declared.Checked.the-variants.{Passes, Refused}
 use Rattle.simulation.specs.Carrying.{carry}
 use Rattle.simulation.proofs.Simulation.{carry-fault, carry-length}
-use Rattle.queue_push.specs.Calls.{stepsOf}
+use Rattle.queue_push.specs.Calls.{stepsOf, pathOf}
 use Rattle.queue_push.specs.declared.Path.{Path}
 use Rattle.queue_push.proofs.Paths.{steps-path}
 use Rattle.translator.specs.Carry.{carryFault, Carries, Arrives}
 use Rattle.translator.specs.declared.Carried.{Carried}
-use Rattle.translator.proofs.Faults.{carry-map}
+use Rattle.translator.proofs.Faults.{carry-map, carry-path}
 
 module _ (source target m : List ℕ) (a : Checked) (e : a ≡ checked (mapFault source target m)) where
   pub map-passes : a ≡ Passes → mapFault source target m ≡ 0
@@ -43,6 +45,18 @@ module _ (source target m : List ℕ) (a : Checked) (e : a ≡ checked (mapFault
             carried = λ y. absurd (omega arith);
             kept = λ _. refl;
           }
+
+module _ (source target m : List ℕ) (z : mapFault source target m ≡ 0) (path : Path) where
+  pub path-refused : (number : ℕ) → number ≡ pathFault (tree source) (stepsOf path) → number ≢ 0
+      → Carries source target m path (record { path = path; refusal = number })
+  path-refused number e n =
+      record { refusal = e ∙ sym (carry-path source target m (stepsOf path) z); carried = λ y. absurd (n y); kept = λ _. refl }
+
+  pub path-carried : pathFault (tree source) (stepsOf path) ≡ 0
+      → (r : Path) → r ≡ pathOf (carry (tree source) (tree target) m (stepsOf path)) (path .«leaf_rank»)
+      → Carries source target m path (record { path = r; refusal = 0 })
+  path-carried none r e =
+      record { refusal = sym (carry-path source target m (stepsOf path) z ∙ none); carried = λ _. e; kept = λ n. absurd (n refl) }
 
 -- a carrying without refusal: the map passes, and the path has no fault in the source
 pub carry-none : (source target m : List ℕ) (ss : List Step) → carryFault source target m ss ≡ 0

@@ -8,7 +8,7 @@ use mathlib.Core.List.{List, [], _++_, append-nil, append-assoc}
 use lib.ListN.{length, drop, getD, length-append, length-drop}
 use Rattle.lists.proofs.Map.{length-map}
 use Rattle.topology.specs.Tree.{Topo, size}
-use Rattle.topology.specs.Address.{Above, addr, childOf, depth, route}
+use Rattle.topology.specs.Address.{Above, addr, depth, route}
 use Rattle.topology.specs.Reader.{fault, tree}
 use Rattle.topology.specs.Branch.{childAt}
 use Rattle.topology.specs.declared.Found.{Found}

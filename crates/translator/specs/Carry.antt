@@ -11,8 +11,8 @@ use Rattle.queue_push.specs.Calls.{stepsOf, pathOf}
 use Rattle.queue_push.specs.declared.Path.{Path}
 use Rattle.translator.specs.declared.Carried.{Carried}
 
--- The number by which a carrying is refused: both trees, the map, then the path in the source's tree (1 to 5 twice, 6 to 11, 13, 14);
--- 0: none.
+-- The number by which a carrying is refused: both trees, the map, then the path as drawn in the source's tree (1 to 5 twice, 6 to 11 with 26, 13,
+-- 14); 0: none.
 unfoldable pub carryFault : List ℕ → List ℕ → List ℕ → List Step → ℕ
 carryFault source target m ss =
     let rest = pathFault (tree source) ss in orElse (mapFault source target m) rest

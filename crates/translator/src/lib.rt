@@ -76,18 +76,13 @@ fn walk(source: &[u8], target: &[u8], map: &[u8], path: Path) -> Path
     let steps = path.steps;
     let count = path.count;
     let leaf_rank = path.leaf_rank;
+    let empty = Path {
+        steps: [Step { child: 0, rank: 0 }; 9],
+        count: 0,
+        leaf_rank,
+    };
     let mut from = map[reduction::next_kept(source, 0)] as usize;
-    let mut carried = descend(
-        target,
-        Path {
-            steps: [Step { child: 0, rank: 0 }; 9],
-            count: 0,
-            leaf_rank,
-        },
-        0,
-        from,
-        0,
-    );
+    let mut carried = descend(target, empty, 0, from, 0);
     let mut node = 0;
     let mut i = 0;
     while i < count {
