@@ -9,6 +9,9 @@ use std::fmt::Write;
 const SOURCE_LEFT: usize = 40;
 const CHIP_LEFT: usize = 480;
 
+/// What a map has for a source node that is passed over.
+const PASSED_OVER: usize = 255;
+
 /// What drawtrees prints for a script.
 pub fn draw(script: &[u8]) -> String {
     let (mut source, mut target) = (Vec::new(), Vec::new());
@@ -46,7 +49,7 @@ fn head(height: usize) -> String {
     let style = [
         "svg{background:white}text{font:10px sans-serif;text-anchor:middle}path{fill:none;stroke:black}circle{fill:white;stroke:black}",
         ".title,.note{font-size:14px;text-anchor:start}.child{font-size:9px}.joins path{stroke:skyblue}",
-        ".image{fill:skyblue}.between{stroke-dasharray:3}.unused{fill:lightgrey}",
+        ".passed{stroke:lightgrey}.image{fill:skyblue}.between{stroke-dasharray:3}.unused{fill:lightgrey}",
     ];
     format!(
         "<svg xmlns=\"http://www.w3.org/2000/svg\" width=\"800\" height=\"{height}\"><style>\n{}</style>\n",
@@ -65,13 +68,18 @@ fn pair(source: &[u8], target: &[u8], images: &[u8]) -> String {
     text += "<text class=\"title\" x=\"480\" y=\"20\">chip</text>\n";
     text += "<g class=\"joins\">\n";
     for (node, &image) in images.iter().enumerate() {
+        if image == PASSED_OVER {
+            continue;
+        }
         let (x, y) = (column(SOURCE_LEFT, &source, node), row(node));
         let (over, down) = (column(CHIP_LEFT, &target, image), row(image));
         writeln!(text, "<path d=\"M{x},{y}H320L456,{down}H{over}\"/>").expect("a string");
     }
     text += "</g>\n";
-    text += &tree(SOURCE_LEFT, &source, &[]);
-    text + &tree(CHIP_LEFT, &target, &images)
+    text += &tree(SOURCE_LEFT, &source, |node| source_class(&source, node));
+    text + &tree(CHIP_LEFT, &target, |node| {
+        chip_class(&target, &images, node)
+    })
 }
 
 fn column(left: usize, tree: &Topology, node: usize) -> usize {
@@ -82,19 +90,26 @@ fn row(node: usize) -> usize {
     40 + 24 * node
 }
 
-fn tree(left: usize, tree: &Topology, images: &[usize]) -> String {
+/// A tree; `class` gives each node its look.
+fn tree(left: usize, tree: &Topology, class: impl Fn(usize) -> &'static str) -> String {
     let mut text = "<g>\n".to_string();
-    branch(left, tree, images, 0, &mut text);
+    branch(left, tree, &class, 0, &mut text);
     text + "</g>\n"
 }
 
 /// A node, then its children's branches, each with the line to it before it.
-fn branch(left: usize, tree: &Topology, images: &[usize], node: usize, text: &mut String) {
+fn branch(
+    left: usize,
+    tree: &Topology,
+    class: &impl Fn(usize) -> &'static str,
+    node: usize,
+    text: &mut String,
+) {
     let (x, y) = (column(left, tree, node), row(node));
-    let class = class(tree, images, node);
+    let look = class(node);
     write!(
         text,
-        "<circle class=\"{class}\" cx=\"{x}\" cy=\"{y}\" r=\"9\"/>"
+        "<circle class=\"{look}\" cx=\"{x}\" cy=\"{y}\" r=\"9\"/>"
     )
     .expect("a string");
     writeln!(text, "<text x=\"{x}\" y=\"{y}\" dy=\"4\">{node}</text>").expect("a string");
@@ -104,16 +119,26 @@ fn branch(left: usize, tree: &Topology, images: &[usize], node: usize, text: &mu
         write!(text, "<path d=\"M{x},{y}m0,9V{down}h32\"/>").expect("a string");
         let place = format!("x=\"{x}\" y=\"{down}\" dx=\"15\" dy=\"-3\"");
         writeln!(text, "<text class=\"child\" {place}>{number}</text>").expect("a string");
-        branch(left, tree, images, child, text);
+        branch(left, tree, class, child, text);
     }
 }
 
-fn class(tree: &Topology, images: &[usize], node: usize) -> &'static str {
+/// An inner source node with one child is passed over.
+fn source_class(tree: &Topology, node: usize) -> &'static str {
+    if tree.child_count(node) == 1 {
+        "passed"
+    } else {
+        "plain"
+    }
+}
+
+fn chip_class(tree: &Topology, images: &[usize], node: usize) -> &'static str {
+    let mut kept = images.iter().filter(|&&image| image != PASSED_OVER);
     if images.is_empty() {
         "plain"
     } else if images.contains(&node) {
         "image"
-    } else if images.iter().any(|&image| tree.is_above(node, image)) {
+    } else if kept.any(|&image| tree.is_above(node, image)) {
         "between"
     } else {
         "unused"
