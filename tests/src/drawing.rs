@@ -9,8 +9,8 @@ use std::fmt::Write;
 const SOURCE_LEFT: usize = 40;
 const CHIP_LEFT: usize = 480;
 
-/// What a map has for a source node that is passed over.
-const PASSED_OVER: usize = 255;
+/// What a map has in place of an image for a node that is passed over.
+const PASSED_OVER: u8 = 255;
 
 /// What drawtrees prints for a script.
 pub fn draw(script: &[u8]) -> String {
@@ -61,22 +61,25 @@ fn pair(source: &[u8], target: &[u8], images: &[u8]) -> String {
     let Ok(Pair { source, target }) = read_pair(source, target) else {
         panic!("the search reads both trees first");
     };
-    let images: Vec<usize> = images.iter().map(|&image| image.into()).collect();
+    let joined: Vec<(usize, usize)> = images
+        .iter()
+        .enumerate()
+        .filter(|(_, &image)| image != PASSED_OVER)
+        .map(|(node, &image)| (node, image.into()))
+        .collect();
     let rows = source.node_count().max(target.node_count());
     let mut text = head(row(rows));
     text += "<text class=\"title\" x=\"40\" y=\"20\">source</text>";
     text += "<text class=\"title\" x=\"480\" y=\"20\">chip</text>\n";
     text += "<g class=\"joins\">\n";
-    for (node, &image) in images.iter().enumerate() {
-        if image == PASSED_OVER {
-            continue;
-        }
+    for &(node, image) in &joined {
         let (x, y) = (column(SOURCE_LEFT, &source, node), row(node));
         let (over, down) = (column(CHIP_LEFT, &target, image), row(image));
         writeln!(text, "<path d=\"M{x},{y}H320L456,{down}H{over}\"/>").expect("a string");
     }
     text += "</g>\n";
     text += &tree(SOURCE_LEFT, &source, |node| source_class(&source, node));
+    let images: Vec<usize> = joined.iter().map(|&(_, image)| image).collect();
     text + &tree(CHIP_LEFT, &target, |node| {
         chip_class(&target, &images, node)
     })
@@ -133,12 +136,11 @@ fn source_class(tree: &Topology, node: usize) -> &'static str {
 }
 
 fn chip_class(tree: &Topology, images: &[usize], node: usize) -> &'static str {
-    let mut kept = images.iter().filter(|&&image| image != PASSED_OVER);
     if images.is_empty() {
         "plain"
     } else if images.contains(&node) {
         "image"
-    } else if kept.any(|&image| tree.is_above(node, image)) {
+    } else if images.iter().any(|&image| tree.is_above(node, image)) {
         "between"
     } else {
         "unused"
