@@ -43,7 +43,7 @@ imagesAt images k = counted (λ a. eqb (getD images a 0) k) (length images)
 unfoldable pub imagesUnder : List ℕ → List ℕ → ℕ → ℕ
 imagesUnder bytes images k = counted (λ a. isAbove bytes k (getD images a 0)) (length images)
 
--- What node k of a target is to the images: there are none; it is one; it lies above one; or it is of no use.
+-- What node k of a chip is to the images: there are none; it is one; it lies above one; or it is of no use.
 unfoldable pub roleOf : List ℕ → List ℕ → ℕ → Role
 roleOf bytes images k =
     let used = pick (eqb (imagesUnder bytes images k) 0) Unused Between in
