@@ -2,15 +2,13 @@
 //! writes their elements.
 
 use crate::embedding::{read_pair, Pair};
+use crate::reduced::PASSED_OVER;
 use crate::script::{outcomes, Done};
 use crate::topology::Topology;
 use std::fmt::Write;
 
 const SOURCE_LEFT: usize = 40;
 const CHIP_LEFT: usize = 480;
-
-/// What a map has in place of an image for a node that is passed over.
-const PASSED_OVER: u8 = 255;
 
 /// What drawtrees prints for a script.
 pub fn draw(script: &[u8]) -> String {

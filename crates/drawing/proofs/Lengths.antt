@@ -15,8 +15,10 @@ use borrow.Author.Tests.{eqb-false}
 use Rattle.text.specs.Text.{decimalLast, decimal}
 use Rattle.templates.specs.Template.{bytes, filled}
 use Rattle.templates.proofs.Lengths.{filled-most}
-use Rattle.topology.specs.Reader.{pick, fault}
+use Rattle.topology.specs.Tree.{size}
+use Rattle.topology.specs.Reader.{pick, fault, tree}
 use Rattle.topology.proofs.Lookup.{valid-length, valid-size}
+use Rattle.reduction.specs.Reduced.{passedOver}
 use Rattle.places.specs.Places.{parent, childNumber, sourceRole, roleOf}
 use Rattle.places.specs.declared.Role.{Role}
 use Rattle.places.specs.declared.Role.the-variants.{Plain, Passed, Image, Between, Unused}
@@ -35,7 +37,7 @@ use Rattle.gathering.proofs.Endings.{Inside, ends-inside}
 use Rattle.gathering.specs.declared.Ending.{Ending}
 use Rattle.gathering.specs.declared.Ending.the-variants.{End, Refused, Compile}
 use Rattle.drawing.specs.Elements.{opening, head, limb, numbered, mark, join, note}
-use Rattle.drawing.specs.Sheet.{column, row, each, limbOf, className, nodeOf, treeOf, sourceOf, chipOf, passedOver, joinOf, joinsOf, titles, pairOf}
+use Rattle.drawing.specs.Sheet.{column, row, each, limbOf, className, nodeOf, treeOf, sourceOf, chipOf, joinOf, joinsOf, titles, pairOf}
 use Rattle.drawing.specs.Sheet.{foot, refusedEnd, refusal, refusedSheet, nothing, sheet, limitIn, sheetBy, scriptSheet}
 use Rattle.drawing.proofs.Sheets.{unmapped-trees, sheet-mapped, sheet-refused}
 
@@ -233,7 +235,8 @@ module _ (source target : List ℕ) (limit offset : ℕ) (h : offset < 65536) wh
       let images = take (length source) (searchMap source target) in
       let few : length images ≡ length source = E .long ∙ valid-size 32 source (fine .0) in
       let nodes : (a : ℕ) → a < length images → getD images a 0 ≢ passedOver → getD images a 0 < length target =
-      λ a l n. omega (arith, E .within a (omega (arith, E .long)), valid-size 64 target (fine .1)) in
+      λ a l n. let node : a < size (tree source) = omega (arith, E .long) in
+      omega (arith, E .within a node (λ w. n (E .passed a node w)), valid-size 64 target (fine .1)) in
       omega (
         arith,
         length-append (pairOf source target images) foot,

@@ -7,10 +7,11 @@ use mathlib.Core.List.{List, []}
 use borrow.Author.Tests.{eq-eqb, ne-eqb}
 use Rattle.text.specs.Text.{Puts}
 use Rattle.text.proofs.Writing.{puts-as, puts-then}
+use Rattle.reduction.specs.Reduced.{passedOver}
 use Rattle.places.specs.Places.{parent, childNumber}
 use Rattle.places.specs.declared.Role.{Role}
 use Rattle.drawing.specs.Elements.{limb, mark, join}
-use Rattle.drawing.specs.Sheet.{column, row, each, limbOf, className, nodeOf, passedOver, joinOf}
+use Rattle.drawing.specs.Sheet.{column, row, each, limbOf, className, nodeOf, joinOf}
 
 pub each-next : {before middle after : List ℕ} {at place end : ℕ} (text : ℕ → List ℕ) (k : ℕ) → Puts before at (each text k) middle place
     → Puts middle place (text k) after end → Puts before at (each text (k + 1)) after end

@@ -6,6 +6,7 @@ use mathlib.Core.Option.{Option, none, some}
 use lib.ListN.{length, getD, take}
 use lib.Dec.{eqb}
 use Rattle.topology.specs.Reader.{pick}
+use Rattle.reduction.specs.Reduced.{passedOver}
 use Rattle.embedding_laws.specs.Least.{searchMap}
 use Rattle.embedding_search.specs.Outcomes.{outcome}
 use Rattle.embedding_search.specs.declared.Outcome.{Outcome}
@@ -58,10 +59,6 @@ sourceOf source = treeOf 40 source (λ k. sourceRole (getD source k 0))
 
 unfoldable pub chipOf : List ℕ → List ℕ → List ℕ
 chipOf target images = treeOf 480 target (roleOf target images)
-
--- what a map writes for a node that is passed over; it is the number of no target node
-abbrev pub passedOver : ℕ
-passedOver = 255
 
 -- the line from a source node to its image; none from a node that is passed over
 unfoldable pub joinOf : List ℕ → List ℕ → ℕ → ℕ → List ℕ

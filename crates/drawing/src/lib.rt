@@ -16,6 +16,7 @@ use places::depth;
 use places::parent;
 use places::role_of;
 use places::source_role;
+use reduction::PASSED_OVER;
 use text::put_word;
 use topology::wide;
 ghost use mathlib.Core.Path.{_≡_};
@@ -28,9 +29,6 @@ ghost use Rattle.drawing.specs.Sheet.{className, column, row, limbOf, no
 const SOURCE_LEFT: usize = 40;
 
 const CHIP_LEFT: usize = 480;
-
-// What a map has for a node that is passed over.
-const PASSED_OVER: u8 = 255;
 
 // Where a node's column is in the tree whose root is at `left`.
 fn column_of(left: usize, bytes: &[u8], node: usize) -> usize
