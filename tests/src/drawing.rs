@@ -2,6 +2,7 @@
 //! writes their elements.
 
 use crate::embedding::{read_pair, Pair};
+use crate::reduced::PASSED_OVER;
 use crate::script::{outcomes, Done};
 use crate::topology::Topology;
 use std::fmt::Write;
@@ -58,19 +59,25 @@ fn pair(source: &[u8], target: &[u8], images: &[u8]) -> String {
     let Ok(Pair { source, target }) = read_pair(source, target) else {
         panic!("the search reads both trees first");
     };
-    let images: Vec<usize> = images.iter().map(|&image| image.into()).collect();
+    let joined: Vec<(usize, usize)> = images
+        .iter()
+        .enumerate()
+        .filter(|(_, &image)| image != PASSED_OVER)
+        .map(|(node, &image)| (node, image.into()))
+        .collect();
     let rows = source.node_count().max(target.node_count());
     let mut text = head(row(rows));
     text += "<text class=\"title\" x=\"40\" y=\"20\">source</text>";
     text += "<text class=\"title\" x=\"480\" y=\"20\">chip</text>\n";
     text += "<g class=\"joins\">\n";
-    for (node, &image) in images.iter().enumerate() {
+    for &(node, image) in &joined {
         let (x, y) = (column(SOURCE_LEFT, &source, node), row(node));
         let (over, down) = (column(CHIP_LEFT, &target, image), row(image));
         writeln!(text, "<path d=\"M{x},{y}H320L456,{down}H{over}\"/>").expect("a string");
     }
     text += "</g>\n";
     text += &tree(SOURCE_LEFT, &source, &[]);
+    let images: Vec<usize> = joined.iter().map(|&(_, image)| image).collect();
     text + &tree(CHIP_LEFT, &target, &images)
 }
 

@@ -1,9 +1,11 @@
 //! The second implementation of the map check and of the search.
 //!
-//! The check holds the four rules against every pair of nodes. There are two
-//! searches: one tries every list that the rules leave open, and is slow on
-//! large trees; the other weighs sets of children, and never is.
+//! The check holds the four rules against every pair of kept nodes, as they are
+//! drawn. There are two searches: one tries every list that the rules leave
+//! open, and is slow on large trees; the other contracts the drawing and weighs
+//! sets of children, and never is.
 
+use crate::reduced::{Reduced, PASSED_OVER};
 use crate::topology::{Topology, SOURCE_NODES, TARGET_NODES};
 
 /// The refusals of maps, with the paper's numbers.
@@ -17,6 +19,8 @@ pub enum Refusal {
     Rule3 = 10,
     Rule4 = 11,
     NoMap = 12,
+    /// Another number than 255 at a node that is passed over.
+    NotPassedOver = 26,
 }
 
 /// Reads both topologies; the number of the refusal if one is at fault.
@@ -58,28 +62,35 @@ pub struct Pair {
 }
 
 impl Pair {
-    /// The four rules as they are written, after the two tests that make the
-    /// list one target node for each source node.
+    /// The four rules as they are written, after the tests that make the list
+    /// one target node for each kept node and 255 for each passed one.
     pub fn check(&self, map: &[u8]) -> Result<(), Refusal> {
         let Pair { source, target } = self;
         let nodes = source.node_count();
         if map.len() != nodes {
             return Err(Refusal::MapLength);
         }
+        let (passed, kept): (Vec<usize>, Vec<usize>) =
+            (0..nodes).partition(|&node| source.is_passed_over(node));
+        if passed.iter().any(|&node| map[node] != PASSED_OVER) {
+            return Err(Refusal::NotPassedOver);
+        }
         let image = |node: usize| usize::from(map[node]);
-        if (0..nodes).any(|node| image(node) >= target.node_count()) {
+        if kept.iter().any(|&node| image(node) >= target.node_count()) {
             return Err(Refusal::ImagePastTheEnd);
         }
         let any_two = |fault: &dyn Fn(usize, usize) -> bool| {
-            (0..nodes).any(|first| (0..nodes).any(|second| fault(first, second)))
+            let mut firsts = kept.iter();
+            firsts.any(|&first| kept.iter().any(|&second| fault(first, second)))
         };
         if any_two(&|first, second| first != second && image(first) == image(second)) {
             return Err(Refusal::Rule1);
         }
-        if image(0) != 0 {
+        if !self.may_be_top(image(kept[0])) {
             return Err(Refusal::Rule2);
         }
-        if (0..nodes).any(|node| is_leaf(source, node) && !is_leaf(target, image(node))) {
+        let mut leaves = kept.iter().filter(|&&node| source.is_leaf(node));
+        if leaves.any(|&leaf| !target.is_leaf(image(leaf))) {
             return Err(Refusal::Rule3);
         }
         if any_two(&|first, second| {
@@ -88,6 +99,13 @@ impl Pair {
             return Err(Refusal::Rule4);
         }
         Ok(())
+    }
+
+    /// Rule 2 for the top node of what is left. It lapses for a lone leaf: then
+    /// every node but that leaf has one child.
+    fn may_be_top(&self, image: usize) -> bool {
+        let leaf = self.source.node_count() - 1;
+        image == 0 || (0..leaf).all(|node| self.source.is_passed_over(node))
     }
 
     /// Tries the lists in rising order, and gives up on a list at the first
@@ -105,9 +123,13 @@ impl Pair {
         if map.len() == self.source.node_count() {
             return self.check(map).is_ok();
         }
-        for image in 0..self.target.node_count() {
+        let images = match self.source.is_passed_over(map.len()) {
+            true => PASSED_OVER..=PASSED_OVER,
+            false => 0..=self.target.node_count() as u8 - 1,
+        };
+        for image in images {
             if self.can_follow(map, image) {
-                map.push(image as u8);
+                map.push(image);
                 if self.try_the_rest(map) {
                     return true;
                 }
@@ -119,85 +141,95 @@ impl Pair {
 
     /// Whether the next source node may go to `image`, as far as the rules
     /// speak of it and the nodes before it.
-    fn can_follow(&self, map: &[u8], image: usize) -> bool {
+    fn can_follow(&self, map: &[u8], image: u8) -> bool {
         let Pair { source, target } = self;
-        let node = map.len();
-        if node == 0 && image != 0 || is_leaf(source, node) && !is_leaf(target, image) {
+        let (node, image) = (map.len(), usize::from(image));
+        if source.is_passed_over(node) {
+            return true;
+        }
+        let mut kept = (0..node).filter(|&node| !source.is_passed_over(node));
+        let is_top = kept.clone().next().is_none();
+        if is_top && !self.may_be_top(image) || source.is_leaf(node) && !target.is_leaf(image) {
             return false;
         }
-        map.iter().enumerate().all(|(before, &its_image)| {
-            let its_image = usize::from(its_image);
+        kept.all(|before| {
+            let its_image = usize::from(map[before]);
             its_image != image
                 && source.is_above(before, node) == target.is_above(its_image, image)
                 && source.is_above(node, before) == target.is_above(image, its_image)
         })
     }
 
-    /// The least map, found without going back.
-    ///
-    /// The rules come down to this: the images of a node's children lie below
-    /// its own, none above another, and leaves go to leaves. So the branches
-    /// under siblings are placed independently once the siblings are, and in
-    /// list order each node takes the first image that leaves its later
-    /// siblings enough room.
+    /// The least map: that of the reduced drawing, and 255 for each node that
+    /// is passed over.
     pub fn least_map(&self) -> Result<Vec<u8>, Refusal> {
-        let fits = self.fits();
-        if !fits[0][0] {
-            return Err(Refusal::NoMap);
+        let reduced = Reduced::new(&self.source);
+        let placing = Placing::new(&reduced.tree, &self.target);
+        let images = placing.least_images().ok_or(Refusal::NoMap)?;
+        Ok(reduced.spread(&self.source, &images))
+    }
+}
+
+/// A reduced drawing to be placed in a target.
+///
+/// The rules come down to this: the images of a node's children lie below its
+/// own, none above another, and leaves go to leaves. So the branches under
+/// siblings are placed independently once the siblings are, and in list order
+/// each node takes the first image that leaves its later siblings enough room.
+struct Placing<'a> {
+    source: &'a Topology,
+    target: &'a Topology,
+    /// For each source node and each target node, whether the branch under the
+    /// first has a map into the branch under the second, root to root.
+    fits: Vec<Vec<bool>>,
+}
+
+impl<'a> Placing<'a> {
+    fn new(source: &'a Topology, target: &'a Topology) -> Placing<'a> {
+        let fits = fits(source, target);
+        Placing {
+            source,
+            target,
+            fits,
         }
-        let mut map = vec![0; self.source.node_count()];
-        for node in 0..self.source.node_count() {
-            self.place_children(&fits, node, &mut map);
-        }
-        Ok(map)
     }
 
-    /// For each source node and each target node, whether the branch under
-    /// the first has a map into the branch under the second, root to root.
-    fn fits(&self) -> Vec<Vec<bool>> {
-        let Pair { source, target } = self;
-        let mut fits = vec![vec![false; target.node_count()]; source.node_count()];
-        // What lies below a node has higher numbers.
-        for node in (0..source.node_count()).rev() {
-            let children = source.children(node);
-            if children.is_empty() {
-                fits[node] = (0..target.node_count())
-                    .map(|place| is_leaf(target, place))
-                    .collect();
-                continue;
-            }
-            let mut rooms = vec![Room::none(); target.node_count()];
-            for place in (0..target.node_count()).rev() {
-                let mut room = Room::none();
-                for &below in target.children(place) {
-                    room = room.beside(&rooms[below]);
-                }
-                fits[node][place] = room.takes_all(children.len());
-                room.add_singles(children, |child| fits[child][place]);
-                rooms[place] = room;
-            }
+    /// The images of the least map, found without going back; None where there
+    /// is no map.
+    fn least_images(&self) -> Option<Vec<u8>> {
+        // A lone leaf may go to any leaf, and else the root goes to the root.
+        let tops = match self.source.is_leaf(0) {
+            true => self.target.node_count(),
+            false => 1,
+        };
+        let top = (0..tops).find(|&image| self.fits[0][image])?;
+        let mut images = vec![0; self.source.node_count()];
+        images[0] = top as u8;
+        for node in 0..self.source.node_count() {
+            self.place_children(node, &mut images);
         }
-        fits
+        Some(images)
     }
 
     /// Gives each child of `node`, which has its image, the least image that
     /// leaves room for those after it.
-    fn place_children(&self, fits: &[Vec<bool>], node: usize, map: &mut [u8]) {
-        let top = usize::from(map[node]);
+    fn place_children(&self, node: usize, images: &mut [u8]) {
+        let top = usize::from(images[node]);
         let mut rest = self.source.children(node);
         let mut taken = Vec::new();
         while let [child, later @ ..] = rest {
+            let fits = &self.fits[*child];
             let image = (top + 1..self.target.branch_end(top)).find(|&image| {
-                if !fits[*child][image] || taken.iter().any(|&other| self.related(image, other)) {
+                if !fits[image] || taken.iter().any(|&other| self.related(image, other)) {
                     return false;
                 }
                 taken.push(image);
-                let room = self.room_below(fits, later, top, &taken);
+                let room = self.room_below(later, top, &taken);
                 taken.pop();
                 room.takes_all(later.len())
             });
             let image = image.expect("a branch that fits has room for every child");
-            map[*child] = image as u8;
+            images[*child] = image as u8;
             taken.push(image);
             rest = later;
         }
@@ -205,24 +237,18 @@ impl Pair {
 
     /// What sets of `children` find room below `top` if none of them may lie
     /// at a node of `taken`, or above or below it.
-    fn room_below(
-        &self,
-        fits: &[Vec<bool>],
-        children: &[usize],
-        top: usize,
-        taken: &[usize],
-    ) -> Room {
+    fn room_below(&self, children: &[usize], top: usize, taken: &[usize]) -> Room {
         let mut room = Room::none();
         for &place in self.target.children(top) {
             if taken.contains(&place) {
                 continue;
             }
-            let mut here = self.room_below(fits, children, place, taken);
+            let mut here = self.room_below(children, place, taken);
             if !taken
                 .iter()
                 .any(|&other| self.target.is_above(place, other))
             {
-                here.add_singles(children, |child| fits[child][place]);
+                here.add_singles(children, |child| self.fits[child][place]);
             }
             room = room.beside(&here);
         }
@@ -235,8 +261,30 @@ impl Pair {
     }
 }
 
-fn is_leaf(topology: &Topology, node: usize) -> bool {
-    topology.child_count(node) == 0
+/// The table of `Placing`.
+fn fits(source: &Topology, target: &Topology) -> Vec<Vec<bool>> {
+    let mut fits = vec![vec![false; target.node_count()]; source.node_count()];
+    // What lies below a node has higher numbers.
+    for node in (0..source.node_count()).rev() {
+        let children = source.children(node);
+        if children.is_empty() {
+            fits[node] = (0..target.node_count())
+                .map(|place| target.is_leaf(place))
+                .collect();
+            continue;
+        }
+        let mut rooms = vec![Room::none(); target.node_count()];
+        for place in (0..target.node_count()).rev() {
+            let mut room = Room::none();
+            for &below in target.children(place) {
+                room = room.beside(&rooms[below]);
+            }
+            fits[node][place] = room.takes_all(children.len());
+            room.add_singles(children, |child| fits[child][place]);
+            rooms[place] = room;
+        }
+    }
+    fits
 }
 
 /// A part of the target, by what it has room for: those sets of a source

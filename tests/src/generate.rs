@@ -82,6 +82,39 @@ fn noise(random: &mut Random, highest: usize) -> Vec<u8> {
         .collect()
 }
 
+/// A tree of that many nodes, one below the other.
+pub fn chain(nodes: usize) -> Vec<u8> {
+    [vec![1; nodes - 1], vec![0]].concat()
+}
+
+/// All trees of that many nodes.
+pub fn all_trees(nodes: usize) -> Vec<Vec<u8>> {
+    (1..nodes)
+        .flat_map(|children| {
+            let rows = rows(children, nodes - 1);
+            rows.into_iter()
+                .map(move |row| [vec![children as u8], row].concat())
+        })
+        .chain((nodes == 1).then(|| vec![0]))
+        .collect()
+}
+
+/// All rows of that many trees with that many nodes in all.
+fn rows(trees_in_row: usize, nodes: usize) -> Vec<Vec<u8>> {
+    if trees_in_row == 0 {
+        return if nodes == 0 { vec![vec![]] } else { vec![] };
+    }
+    let mut all = Vec::new();
+    for first in 1..=nodes {
+        for tree in all_trees(first) {
+            for row in rows(trees_in_row - 1, nodes - first) {
+                all.push([tree.clone(), row].concat());
+            }
+        }
+    }
+    all
+}
+
 /// A tree of exactly `nodes` nodes, at most `depth` deep, with at most
 /// `children` children a node. The two must leave room for that many nodes.
 pub fn tree(

@@ -3,7 +3,7 @@
 //! packets that came and have not left. It is slow, and has the paper's words.
 
 use crate::queue_tree::{Item, Step};
-use crate::scheduler::{Rules, ARRIVAL, STRICT};
+use crate::scheduler::{Rules, ARRIVAL, STRICT, WEIGHTED};
 use crate::topology::Topology;
 use crate::translator::Path;
 
@@ -53,8 +53,12 @@ impl History {
         self.turned_away
     }
 
+    /// 0 where the node keeps none.
     pub fn virtual_time(&self, node: usize) -> u64 {
-        last(&self.popped, node)
+        match self.discipline(node) {
+            WEIGHTED => last(&self.popped, node),
+            _ => 0,
+        }
     }
 
     pub fn finish(&self, node: usize) -> u64 {
@@ -102,7 +106,7 @@ impl History {
             let number = children.find(|(&other, _)| other == child);
             let number = number.expect("a child of its parent").1;
             way.push((node, rank, Item::Child(number)));
-            if self.is_weighted(node) {
+            if self.discipline(node) == WEIGHTED {
                 let finish = rank + u64::from(length) * 256 / u64::from(self.rules[child].weight);
                 finishes.push((child, finish));
             }
@@ -136,13 +140,17 @@ impl History {
         }
     }
 
-    fn is_weighted(&self, node: usize) -> bool {
-        ![ARRIVAL, STRICT].contains(&self.rules[node].discipline)
+    /// A node with one child is passed over, whatever its rule.
+    fn discipline(&self, node: usize) -> u8 {
+        match self.drawing.child_count(node) {
+            1 => ARRIVAL,
+            _ => self.rules[node].discipline,
+        }
     }
 
     /// The rank at a node of a packet to its child, or of one that stays there.
     fn rank(&self, node: usize, child: usize, class: u8) -> u64 {
-        match self.rules[node].discipline {
+        match self.discipline(node) {
             ARRIVAL => 0,
             STRICT => u64::from(class),
             _ => self.virtual_time(node).max(self.finish(child)),

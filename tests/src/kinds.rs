@@ -23,9 +23,13 @@ impl Kinds {
         }
     }
 
+    pub fn times(&self, kind: &str) -> usize {
+        self.met.get(kind).copied().unwrap_or(0)
+    }
+
     /// Fails if something was met less often.
     pub fn require(&self, kind: &str, often_enough: usize) {
-        let met = self.met.get(kind).copied().unwrap_or(0);
+        let met = self.times(kind);
         assert!(met >= often_enough, "{kind}: only {met} times");
     }
 }

@@ -1,15 +1,17 @@
 //! The longest scripts with the most work in them, to be timed.
 
 use crate::commands::{opening, push_along, Command, POP};
+use crate::generate::chain;
 use crate::queue_tree::{Step, MOST_PACKETS};
 use crate::script::SCRIPT_BYTES;
 
 /// The scripts with their names.
 pub fn scripts() -> Vec<(&'static str, Vec<u8>)> {
     let alone = opening(&[0], &[0], MOST_PACKETS);
-    let lane = opening(&[1, 0], &chain(), MOST_PACKETS);
-    let deep = opening(&chain(), &chain(), MOST_PACKETS);
-    let lanes = opening(&[1, 0], &chains(), MOST_PACKETS);
+    let lane = opening(&[2, 0, 0], &long_and_short(), MOST_PACKETS);
+    let deep = opening(&comb(), &comb(), MOST_PACKETS);
+    let hut = opening(&chain(9), &chain(9), MOST_PACKETS);
+    let lanes = opening(&[2, 0, 0], &chains(), MOST_PACKETS);
     let chip = opening(&[1, 0], &full_chip(), MOST_PACKETS);
     let (source, target) = largest_pair();
     let largest = opening(&source, &target, MOST_PACKETS);
@@ -32,14 +34,18 @@ pub fn scripts() -> Vec<(&'static str, Vec<u8>)> {
         ),
         (
             "push, pop, 8 steps, full",
-            filled(&deep, 255, &[1; 8], push_pop(&[1; 8])),
+            filled(&deep, 255, &[2; 8], push_pop(&[2; 8])),
+        ),
+        (
+            "the same, all nodes passed over",
+            filled(&hut, 255, &[1; 8], push_pop(&[1; 8])),
         ),
         (
             "push, pop, 1 step in 8, full",
             filled(&lane, 255, &[1], push_pop(&[1])),
         ),
         (
-            "the same, 2 nodes in 57",
+            "the same, 3 nodes in 57",
             filled(&lanes, 255, &[1], push_pop(&[1])),
         ),
         (
@@ -52,7 +58,7 @@ pub fn scripts() -> Vec<(&'static str, Vec<u8>)> {
         ),
         (
             "8 steps to each push",
-            filled(&deep, 0, &[1; 8], level(&[1; 8])),
+            filled(&deep, 0, &[2; 8], level(&[2; 8])),
         ),
         (
             "8 steps to each push, all refused",
@@ -104,19 +110,24 @@ fn push(path: &[u8], packet: u32, rank: u32) -> Vec<u8> {
     push_along(&steps, packet, rank).concat()
 }
 
-/// Eight steps down to one leaf.
-fn chain() -> Vec<u8> {
-    [vec![1; 8], vec![0]].concat()
+/// One way of eight steps and one of one.
+fn long_and_short() -> Vec<u8> {
+    [vec![2], chain(8), vec![0]].concat()
+}
+
+/// Eight steps down to the last leaf, and another leaf beside each step.
+fn comb() -> Vec<u8> {
+    [[2, 0].repeat(8), vec![0]].concat()
 }
 
 /// Seven ways of eight steps.
 fn chains() -> Vec<u8> {
-    [vec![7], chain()[1..].repeat(7)].concat()
+    [vec![7], chain(8).repeat(7)].concat()
 }
 
 /// 64 nodes: one way of eight steps, and fans beside it.
 fn full_chip() -> Vec<u8> {
-    [vec![8], chain()[1..].to_vec(), fan(7).repeat(6), fan(6)].concat()
+    [vec![8], chain(8), fan(7).repeat(6), fan(6)].concat()
 }
 
 /// 32 nodes and 64, with a map.

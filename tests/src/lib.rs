@@ -25,6 +25,7 @@ pub mod rattle_queue_tree;
 pub mod rattle_translator;
 pub mod rattle_tree;
 pub mod reached;
+pub mod reduced;
 pub mod requests;
 pub mod rules;
 pub mod samples;

@@ -3,6 +3,7 @@
 use crate::embedding::Pair;
 use crate::generate::{self, SHAPES};
 use crate::random::Random;
+use crate::reduced::{Reduced, PASSED_OVER};
 use crate::topology::{Topology, MOST_CHILDREN, MOST_STEPS_DOWN, TARGET_NODES};
 
 /// Any size from `least` to `most`, which is the most frequent.
@@ -20,6 +21,49 @@ pub fn tree(random: &mut Random, most: usize) -> Vec<u8> {
     generate::tree(random, shape, nodes, depth, children)
 }
 
+/// A source with 1 to `most` nodes: a tree of any shape, one with few nodes that
+/// are passed over, or one with many, which may have one leaf below them.
+pub fn drawing(random: &mut Random, most: usize) -> Vec<u8> {
+    let smaller = match random.below(12) {
+        0 => vec![0],
+        1 => tree(random, most.div_ceil(4)),
+        2 | 3 => tree(random, most.div_ceil(2)),
+        4..8 => return bushy(&tree(random, (2 * most).div_ceil(3)), most),
+        _ => return tree(random, most),
+    };
+    let nodes = size(random, smaller.len(), most);
+    stretched(random, smaller, nodes)
+}
+
+/// A tree with a leaf put beside each only child, as long as there are not `most`
+/// nodes.
+fn bushy(bytes: &[u8], most: usize) -> Vec<u8> {
+    let mut room = most - bytes.len();
+    let mut bushy = Vec::new();
+    for &children in bytes {
+        if children == 1 && room > 0 {
+            bushy.extend([2, 0]);
+            room -= 1;
+        } else {
+            bushy.push(children);
+        }
+    }
+    bushy
+}
+
+/// A tree with nodes of one child put in, up to `nodes` in all where there is
+/// room for them: a byte 1 draws a node above the one that follows.
+fn stretched(random: &mut Random, mut bytes: Vec<u8>, nodes: usize) -> Vec<u8> {
+    for _ in 0..2 * nodes {
+        let at = random.below(bytes.len());
+        bytes.insert(at, 1);
+        if Topology::read(&bytes, nodes).is_err() {
+            bytes.remove(at);
+        }
+    }
+    bytes
+}
+
 /// A source and a target, and a map if the pair was made from one. It meets
 /// the rules, but need not be the least.
 pub struct Drawn {
@@ -35,8 +79,8 @@ pub fn any(random: &mut Random, source_nodes: usize, target_nodes: usize) -> Dra
         0 | 1 => embedded(random, source_nodes, target_nodes),
         2 => {
             let drawn = embedded(random, source_nodes - 1, target_nodes);
-            let nodes = drawn.source.len() + 1;
-            let (source, _) = grown(random, &drawn.source, nodes);
+            let source = Topology::read(&drawn.source, TARGET_NODES).expect("a valid tree");
+            let (source, _) = grown(random, &source, source.node_count() + 1);
             Drawn {
                 source,
                 target: drawn.target,
@@ -44,19 +88,26 @@ pub fn any(random: &mut Random, source_nodes: usize, target_nodes: usize) -> Dra
             }
         }
         _ => Drawn {
-            source: tree(random, source_nodes),
+            source: drawing(random, source_nodes),
             target: tree(random, target_nodes),
             map: None,
         },
     }
 }
 
-/// A target grown around a source.
+/// A target grown around what is left of a source.
 pub fn embedded(random: &mut Random, source_nodes: usize, target_nodes: usize) -> Drawn {
-    let source = tree(random, source_nodes);
-    let nodes = size(random, source.len(), target_nodes);
-    let (target, map) = grown(random, &source, nodes);
-    let map = Some(map);
+    let source = drawing(random, source_nodes);
+    let topology = Topology::read(&source, TARGET_NODES).expect("a valid tree");
+    let reduced = Reduced::new(&topology);
+    let (target, images) = match reduced.is_lone_leaf() {
+        true => around_a_leaf(random, target_nodes),
+        false => {
+            let nodes = size(random, reduced.tree.node_count(), target_nodes);
+            grown(random, &reduced.tree, nodes)
+        }
+    };
+    let map = Some(reduced.spread(&topology, &images));
     Drawn {
         source,
         target,
@@ -64,20 +115,28 @@ pub fn embedded(random: &mut Random, source_nodes: usize, target_nodes: usize) -
     }
 }
 
+/// Any target, and one of its leaves.
+fn around_a_leaf(random: &mut Random, nodes: usize) -> (Vec<u8>, Vec<u8>) {
+    let target = tree(random, nodes);
+    let places = 0..target.len();
+    let leaves: Vec<usize> = places.filter(|&place| target[place] == 0).collect();
+    let image = random.pick(&leaves) as u8;
+    (target, vec![image])
+}
+
 /// A tree around `source`, of `nodes` nodes where there is room for them, and
 /// the map from one into the other.
 ///
 /// New nodes come between a node and one or more of its children, or as new
 /// children of inner nodes; in the end the children of every node are shuffled.
-pub fn grown(random: &mut Random, source: &[u8], nodes: usize) -> (Vec<u8>, Vec<u8>) {
-    let source = Topology::read(source, TARGET_NODES).expect("a valid tree");
+fn grown(random: &mut Random, source: &Topology, nodes: usize) -> (Vec<u8>, Vec<u8>) {
     let mut tree = Growing {
         children_of: (0..source.node_count())
             .map(|node| source.children(node).to_vec())
             .collect(),
     };
     let source_leaf: Vec<bool> = (0..source.node_count())
-        .map(|node| source.child_count(node) == 0)
+        .map(|node| source.is_leaf(node))
         .collect();
     for _ in 0..20 * nodes {
         let size = tree.children_of.len();
@@ -158,7 +217,7 @@ impl Growing {
 pub fn shares_a_node(target: &[u8], map: &[u8]) -> bool {
     let target = Topology::read(target, TARGET_NODES).expect("a valid tree");
     let has_image = |&&node: &&usize| {
-        let mut images = map.iter();
+        let mut images = map.iter().filter(|&&image| image != PASSED_OVER);
         images.any(|&image| target.is_above(node, usize::from(image)))
     };
     (0..target.node_count())
@@ -169,8 +228,11 @@ pub fn shares_a_node(target: &[u8], map: &[u8]) -> bool {
 /// A list that may be a map, made from one that is.
 pub fn damaged_map(right: &[u8], pair: &Pair, random: &mut Random) -> Vec<u8> {
     let mut map = right.to_vec();
-    let (nodes, places) = (pair.source.node_count(), pair.target.node_count());
-    let any_node = random.below(nodes);
+    let Pair { source, target } = pair;
+    let (nodes, places) = (source.node_count(), target.node_count());
+    let (passed, kept): (Vec<usize>, Vec<usize>) =
+        (0..nodes).partition(|&node| source.is_passed_over(node));
+    let any_node = random.pick(&kept);
     let node = random.pick(&[any_node, any_node, any_node, nodes - 1]);
     let unused: Vec<u8> = (0..places as u8)
         .filter(|place| !map.contains(place))
@@ -178,24 +240,22 @@ pub fn damaged_map(right: &[u8], pair: &Pair, random: &mut Random) -> Vec<u8> {
     let inside: Vec<u8> = unused
         .iter()
         .copied()
-        .filter(|&place| pair.target.child_count(usize::from(place)) > 0)
+        .filter(|&place| !target.is_leaf(usize::from(place)))
         .collect();
-    match random.below(9) {
+    let anything = random.below(256) as u8;
+    match random.below(12) {
         0 => map.truncate(node),
         1 => {
             for _ in 0..random.within(1..=3) {
                 map.push(random.below(places) as u8);
             }
         }
-        2 => {
-            let anything = random.below(256) as u8;
-            map[node] = random.pick(&[places as u8, places as u8 + 1, anything, 255]);
-        }
-        3 => map[node] = map[random.below(nodes)],
-        4 if !unused.is_empty() => map[0] = random.pick(&unused),
+        2 => map[node] = random.pick(&[places as u8, places as u8 + 1, anything, PASSED_OVER]),
+        3 => map[node] = map[random.pick(&kept)],
+        4 if !unused.is_empty() => map[kept[0]] = random.pick(&unused),
         5 if !inside.is_empty() => {
             // A leaf sent inside: the first at or after the node.
-            let leaf = (node..nodes).find(|&leaf| pair.source.child_count(leaf) == 0);
+            let leaf = (node..nodes).find(|&leaf| source.is_leaf(leaf));
             map[leaf.expect("the last node is a leaf")] = random.pick(&inside);
         }
         6 if !unused.is_empty() => {
@@ -208,13 +268,20 @@ pub fn damaged_map(right: &[u8], pair: &Pair, random: &mut Random) -> Vec<u8> {
             let over: Vec<u8> = unused
                 .iter()
                 .copied()
-                .filter(|&place| pair.target.is_above(usize::from(place), image))
+                .filter(|&place| target.is_above(usize::from(place), image))
                 .collect();
-            if pair.source.child_count(node) > 0 && !over.is_empty() {
+            if !source.is_leaf(node) && !over.is_empty() {
                 map[node] = random.pick(&over);
             }
         }
-        _ => map.swap(node, random.below(nodes)),
+        8 if !passed.is_empty() => {
+            // A node that is passed over gets a number as if it were kept.
+            let below = map[random.pick(&kept)];
+            let places = places as u8;
+            map[random.pick(&passed)] = random.pick(&[0, below, places - 1, places, 254, anything]);
+        }
+        9 => map.swap(random.below(nodes), random.below(nodes)),
+        _ => map.swap(random.pick(&kept), random.pick(&kept)),
     }
     map
 }

@@ -55,7 +55,7 @@ fn later_first() -> (Vec<u8>, String) {
     let mut script = opening(&[1, 0], &[1, 0], 2);
     script.extend([step(1, 1), push(100, 9), step(1, 4), push(200, 2)]);
     script.extend([vec![POP], vec![POP]]);
-    let printed = "map 0 1\nin 1\nin 2\nout 000000C8\nout 00000064\n";
+    let printed = "map 255 1\nin 1\nin 2\nout 000000C8\nout 00000064\n";
     (script.concat(), printed.to_string())
 }
 
@@ -75,10 +75,26 @@ fn pairs() -> Vec<(Vec<u8>, String)> {
         pair(&[2, 0, 2, 0, 0], &[2, 2, 0, 0, 2, 0, 0], "0 2 4 5 6"),
         pair(&[2, 3, 0, 0, 0, 0], &[2, 2, 0, 0, 2, 0, 0], "12"),
         pair(&[0], &[0], "0"),
-        pair(&[0], &[1, 0], "12"),
-        pair(&[1, 0], &[1, 1, 0], "0 2"),
-        pair(&[1, 1, 0], &[1, 0], "12"),
+        pair(&[0], &[1, 0], "1"),
+        pair(&[1, 0], &[1, 1, 0], "255 2"),
+        pair(&[1, 1, 0], &[1, 0], "255 255 1"),
+        pair(&[1, 0], &[0], "255 0"),
+        pair(&[1, 2, 0, 0], &[1, 2, 0, 0], "255 0 2 3"),
+        pair(&lanes(), &[4, 0, 0, 0, 0], &lanes_map()),
     ]
+}
+
+/// Four leaves and 27 nodes that are passed over: there can be no more of them
+/// among 32.
+fn lanes() -> Vec<u8> {
+    let lane = |nodes: usize| [vec![1; nodes], vec![0]].concat();
+    [vec![4], lane(7).repeat(3), lane(6)].concat()
+}
+
+fn lanes_map() -> String {
+    let lane = |nodes: usize| " 255".repeat(nodes);
+    let (long, short) = (lane(7), lane(6));
+    format!("0{long} 1{long} 2{long} 3{short} 4")
 }
 
 /// The topologies, as sources and as targets.
@@ -88,7 +104,7 @@ fn topologies() -> Vec<(Vec<u8>, String)> {
     let faults: [(&[u8], u8); 5] = [(&[], 1), (&[2, 0], 1), (&[0, 0], 2), (&[9], 4), (&ten, 5)];
     let mut scripts = vec![(
         opening(&nine, &nine, 1).concat(),
-        "map 0 1 2 3 4 5 6 7 8\n".to_string(),
+        format!("map {}8\n", "255 ".repeat(8)),
     )];
     for (bytes, refusal) in faults {
         let printed = format!("no {refusal} {}\n", 2 * (bytes.len() + 1) + 3);
@@ -109,7 +125,7 @@ fn worked_by_hand() -> Vec<(Vec<u8>, String)> {
         // The source before the target, and both before 12, that before 17.
         script(opening(&[2, 0], &[0, 0], 0).concat(), "no 1 11\n"),
         script(opening(&[0], &[0, 0], 0).concat(), "no 2 9\n"),
-        script(opening(&[0], &[1, 0], 0).concat(), "no 12 9\n"),
+        script(opening(&[2, 0, 0], &[1, 0], 0).concat(), "no 12 13\n"),
         script(opening(&[0], &[0], 0).concat(), "no 17 7\n"),
         script(opening(&[0], &[0], 257).concat(), "no 17 7\n"),
         // 21 before 22.
@@ -143,7 +159,7 @@ fn worked_by_hand() -> Vec<(Vec<u8>, String)> {
             ]
             .concat()
             .concat(),
-            "map 0 1\nin 1\nno 14 27\n",
+            "map 255 1\nin 1\nno 14 27\n",
         ),
         // A pop leaves the steps that were gathered.
         script(
@@ -153,7 +169,21 @@ fn worked_by_hand() -> Vec<(Vec<u8>, String)> {
             ]
             .concat()
             .concat(),
-            "map 0 1\nno 16 18\nin 1\nout 00000007\n",
+            "map 255 1\nno 16 18\nin 1\nout 00000007\n",
+        ),
+        // A step at a node that is passed over is tested as drawn, though the
+        // chip gets none; and its rank decides nothing.
+        script(
+            [
+                opening(&[1, 2, 0, 0], &[2, 0, 0], 2),
+                vec![step(2, 0), push(5, 0)],
+                vec![step(1, 9), step(1, 1), push(6, 0)],
+                vec![step(1, 2), step(2, 0), push(7, 0)],
+                vec![vec![POP], vec![POP]],
+            ]
+            .concat()
+            .concat(),
+            "map 255 0 1 2\nno 13 24\nin 1\nin 2\nout 00000007\nout 00000006\n",
         ),
         // Nothing is read behind a refusal that stops.
         script(vec![OPEN, 0x01, 0x00], "no 22 0\n"),

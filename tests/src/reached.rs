@@ -2,6 +2,7 @@
 //! cases, and scripts of every kind.
 
 use crate::pairs::shares_a_node;
+use crate::reduced::PASSED_OVER;
 use crate::script::{outcomes, Done, Outcome, Refused, REFUSALS, SCRIPT_BYTES};
 use crate::scripts::{KINDS, LONG_KINDS};
 use std::collections::BTreeMap;
@@ -19,6 +20,10 @@ pub struct Reached {
     most_held: usize,
     /// Maps by which two branches of the source share a chip node.
     shared: usize,
+    /// Maps of sources with nodes that are passed over, and among them those of
+    /// which one leaf is left.
+    passed: usize,
+    lone_leaves: usize,
     /// Scripts past the longest that end with a whole command.
     ended_by_length: usize,
 }
@@ -39,10 +44,8 @@ impl Reached {
                     *self.commands.entry(outcome.command).or_default() += 1;
                     match done {
                         Done::Held(packets) => self.most_held = self.most_held.max(*packets),
-                        Done::Map(map) if shares_a_node(&target(script, &outcomes), map) => {
-                            self.shared += 1;
-                        }
-                        _ => {}
+                        Done::Map(map) => self.map(&target(script, &outcomes), map),
+                        Done::Read | Done::Departed(_) => {}
                     }
                 }
             }
@@ -51,6 +54,13 @@ impl Reached {
         if script.len() > SCRIPT_BYTES && !stopped {
             self.ended_by_length += 1;
         }
+    }
+
+    fn map(&mut self, target: &[u8], map: &[u8]) {
+        let passed = map.iter().filter(|&&image| image == PASSED_OVER).count();
+        self.shared += usize::from(shares_a_node(target, map));
+        self.passed += usize::from(passed > 0);
+        self.lone_leaves += usize::from(passed > 0 && passed + 1 == map.len());
     }
 
     /// Adds what another has counted.
@@ -66,6 +76,8 @@ impl Reached {
         }
         self.most_held = self.most_held.max(other.most_held);
         self.shared += other.shared;
+        self.passed += other.passed;
+        self.lone_leaves += other.lone_leaves;
         self.ended_by_length += other.ended_by_length;
     }
 
@@ -84,8 +96,9 @@ impl Reached {
             println!("  {times:7}  {number:2} {case}");
         }
         println!(
-            "at most {} packets held; {} maps share a chip node; {} scripts ended by their length alone",
-            self.most_held, self.shared, self.ended_by_length
+            "at most {} packets held; {} maps share a chip node, {} pass over nodes, {} of them down to a leaf; \
+             {} scripts ended by their length alone",
+            self.most_held, self.shared, self.passed, self.lone_leaves, self.ended_by_length
         );
     }
 
@@ -105,7 +118,9 @@ impl Reached {
             assert!(times >= enough, "{refused:?} was met only {times} times");
         }
         assert!(self.ended_by_length >= AT_THE_END);
-        assert!(self.shared >= OFTEN_ENOUGH, "{} maps share", self.shared);
+        for maps in [self.shared, self.passed, self.lone_leaves] {
+            assert!(maps >= OFTEN_ENOUGH, "only {maps} maps of a kind");
+        }
         assert_eq!(self.most_held, 256, "no tree was full at the highest limit");
     }
 }

@@ -6,7 +6,7 @@ use crate::queue_tree;
 use crate::random::Random;
 use crate::rattle_chip::Behind;
 use crate::rattle_tree;
-use crate::scheduler::{Refusal, Tree};
+use crate::scheduler::{Disciplines, Refusal, Tree, STRICT, WEIGHTED};
 use crate::states::{any_path, Habits};
 use crate::topology::Topology;
 use crate::translator::Path;
@@ -101,6 +101,46 @@ impl Request {
     }
 }
 
+/// What disciplines at nodes that are passed over would do to a push to a leaf,
+/// did they do anything.
+pub fn passed_over(
+    drawing: &Topology,
+    disciplines: &Disciplines,
+    request: &Request,
+) -> Vec<&'static str> {
+    let mut met = Vec::new();
+    let Request::PushToLeaf { leaf, length, .. } = *request else {
+        return met;
+    };
+    let Disciplines {
+        rules,
+        virtual_time,
+        finish,
+    } = disciplines;
+    let mut child = leaf;
+    while let Some(node) = drawing.parent(child) {
+        if drawing.is_passed_over(node) && rules[node].discipline == STRICT {
+            met.push("passed over: strict");
+        }
+        if drawing.is_passed_over(node) && rules[node].discipline == WEIGHTED {
+            met.push("passed over: weighted");
+            let service = u32::from(length) * 256 / u32::from(rules[child].weight);
+            if virtual_time[node].max(finish[child]) > u32::MAX - service {
+                met.push("passed over: a finish above the largest");
+            }
+        }
+        child = node;
+    }
+    met
+}
+
+/// All that `passed_over` can name.
+pub const PASSED_OVER_KINDS: [&str; 3] = [
+    "passed over: strict",
+    "passed over: weighted",
+    "passed over: a finish above the largest",
+];
+
 /// A push by path or to a leaf, right or at fault, with its kind and the answer
 /// that this kind gets where it can be made and nothing comes before it.
 pub fn any_push(
@@ -167,7 +207,7 @@ fn class(random: &mut Random) -> u8 {
 pub fn some_leaf(drawing: &Topology, random: &mut Random) -> usize {
     let nodes = 0..drawing.node_count();
     let leaves: Vec<usize> = nodes
-        .filter(|&node| drawing.child_count(node) == 0)
+        .filter(|&node| drawing.is_leaf(node))
         .collect();
     random.pick(&leaves)
 }

@@ -74,7 +74,7 @@ pub fn break_rules(
     random: &mut Random,
 ) -> Option<()> {
     let (leaves, inner): (Vec<usize>, Vec<usize>) =
-        (0..topology.node_count()).partition(|&node| topology.child_count(node) == 0);
+        (0..topology.node_count()).partition(|&node| topology.is_leaf(node));
     let weights = children_with_weight(topology, rules);
     let any = random.within(3..=255) as u8;
     let unknown = random.pick(&[3, 4, 128, 255, any]);

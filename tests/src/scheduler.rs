@@ -1,6 +1,7 @@
 //! The second implementation of disciplines: Figure 1 of document 002 at each
 //! weighted node of a drawing, over the queue tree. A tree by itself is its own
-//! drawing; a chip's tree stands behind a map and goes by the source's.
+//! drawing; a chip's tree stands behind a map and goes by the source's. A
+//! discipline at a node that is passed over gives rank 0 and keeps nothing.
 
 use crate::embedding::read_pair;
 use crate::queue_tree::{self, Departure, QueueTree, State, Step};
@@ -14,7 +15,7 @@ pub const WEIGHTED: u8 = 2;
 
 #[derive(Clone, Copy, Debug, PartialEq, Eq)]
 pub enum Refusal {
-    /// A fault of a topology or a map, or no map at all: 1 to 12.
+    /// A fault of a topology or a map, or no map at all: 1 to 12, or 26.
     Drawing(u8),
     Queues(queue_tree::Refusal),
     LateFinish,
@@ -52,8 +53,8 @@ pub struct Rule {
 pub type Rules = [Rule; TARGET_NODES];
 
 /// Disciplines as they are handed in and out, by node of the drawing; a finish
-/// is that of a node under its parent. Only weighted nodes keep anything, and
-/// all other numbers stay as they came.
+/// is that of a node under its parent. Only weighted nodes that are not passed
+/// over keep anything, and all other numbers stay as they came.
 #[repr(C)]
 #[derive(Clone, Copy, Debug, PartialEq, Eq)]
 pub struct Disciplines {
@@ -81,9 +82,9 @@ type Flow = (usize, u8);
 pub struct Scheduler {
     drawing: Topology,
     given: Disciplines,
-    /// Each weighted node has one.
+    /// Each weighted node that is kept has one.
     virtual_time: BTreeMap<usize, u32>,
-    /// Each child of a weighted node has one.
+    /// Each child of such a node has one.
     last_finish: BTreeMap<Flow, u32>,
 }
 
@@ -97,32 +98,38 @@ impl Scheduler {
             last_finish: BTreeMap::new(),
         };
         for node in 0..scheduler.drawing.node_count() {
-            match scheduler.discipline(node) {
-                ARRIVAL | STRICT => {}
-                WEIGHTED => scheduler.take_up(node)?,
-                _ => return None,
+            if !scheduler.can_follow(node) {
+                return None;
+            }
+            if scheduler.discipline(node) == WEIGHTED && !scheduler.drawing.is_passed_over(node) {
+                scheduler.take_up(node);
             }
         }
         Some(scheduler)
     }
 
-    /// Takes up what a weighted node keeps. None at a leaf, and where a child
-    /// has no weight.
-    fn take_up(&mut self, node: usize) -> Option<()> {
+    /// Whether a node's rule can be followed, be it passed over or not: a
+    /// weighted node is no leaf, and its children have weights.
+    fn can_follow(&self, node: usize) -> bool {
         let children = self.drawing.children(node);
-        if children.is_empty() {
-            return None;
+        match self.discipline(node) {
+            ARRIVAL | STRICT => true,
+            WEIGHTED => {
+                let has_weight = |&child: &usize| self.given.rules[child].weight > 0;
+                !children.is_empty() && children.iter().all(has_weight)
+            }
+            _ => false,
         }
+    }
+
+    /// Takes up what a weighted node keeps.
+    fn take_up(&mut self, node: usize) {
         self.virtual_time
             .insert(node, self.given.virtual_time[node]);
-        for (&child, number) in children.iter().zip(1..) {
-            if self.given.rules[child].weight == 0 {
-                return None;
-            }
+        for (&child, number) in self.drawing.children(node).iter().zip(1..) {
             self.last_finish
                 .insert((node, number), self.given.finish[child]);
         }
-        Some(())
     }
 
     fn discipline(&self, node: usize) -> u8 {
@@ -134,7 +141,7 @@ impl Scheduler {
     }
 
     fn is_leaf(&self, node: usize) -> bool {
-        node < self.drawing.node_count() && self.drawing.child_count(node) == 0
+        node < self.drawing.node_count() && self.drawing.is_leaf(node)
     }
 
     /// The disciplines as they are now.
@@ -149,7 +156,8 @@ impl Scheduler {
         now
     }
 
-    /// Figure 1's start of a packet to a child of a weighted node.
+    /// Figure 1's start of a packet to a child of a node that keeps a virtual
+    /// time.
     fn start(&self, flow: Flow) -> u32 {
         self.virtual_time[&flow.0].max(self.last_finish[&flow])
     }
@@ -176,9 +184,9 @@ impl Scheduler {
     fn path(&self, leaf: usize, class: u8) -> Path {
         let step = |flow: Flow| Step {
             child: flow.1,
-            rank: match self.discipline(flow.0) {
-                WEIGHTED => self.start(flow),
-                _ => self.plain_rank(flow.0, class),
+            rank: match self.virtual_time.contains_key(&flow.0) {
+                true => self.start(flow),
+                false => self.plain_rank(flow.0, class),
             },
         };
         Path {
@@ -187,10 +195,10 @@ impl Scheduler {
         }
     }
 
-    /// The rank at a node that is not weighted.
+    /// The rank at a node that keeps no virtual time.
     fn plain_rank(&self, node: usize, class: u8) -> u32 {
         match self.discipline(node) {
-            STRICT => u32::from(class),
+            STRICT if !self.drawing.is_passed_over(node) => u32::from(class),
             _ => 0,
         }
     }

@@ -1,6 +1,7 @@
 //! Random queue trees, paths and states, right and damaged.
 
 use crate::generate::{self, SHAPES};
+use crate::pairs;
 use crate::plain::{PlainEntry, PlainPath, PlainState, PlainStep};
 use crate::queue_tree::{Entry, Item, QueueTree, State, Step, MOST_ENTRIES};
 use crate::random::Random;
@@ -11,12 +12,14 @@ pub const LIMITS: [usize; 6] = [1, 2, 3, 10, 255, 256];
 
 /// A tree that can be opened, of some shape that is worth a look.
 pub fn any_topology(random: &mut Random) -> Vec<u8> {
-    match random.below(8) {
+    match random.below(10) {
         0 => vec![0],
         1 => vec![1, 1, 1, 1, 1, 1, 1, 1, 0],
         2 => [vec![8], vec![0; 8]].concat(),
         3 => vec![2, 2, 0, 0, 2, 0, 0],
-        4 => {
+        4 => [[2, 0].repeat(8), vec![0]].concat(),
+        5 => pairs::drawing(random, TARGET_NODES),
+        6 => {
             let shape = random.pick(&SHAPES);
             let nodes = random.within(2..=12);
             generate::tree(random, shape, nodes, MOST_STEPS_DOWN, MOST_CHILDREN)

@@ -24,14 +24,14 @@ struct Node {
 }
 
 /// A tree; its nodes stand in preorder, so a node's index is its number.
-#[derive(Clone)]
+#[derive(Clone, Default)]
 pub struct Topology {
     nodes: Vec<Node>,
 }
 
 impl Topology {
     pub fn read(bytes: &[u8], limit: usize) -> Result<Topology, Refusal> {
-        let mut topology = Topology { nodes: Vec::new() };
+        let mut topology = Topology::default();
         topology.read_branch(bytes, limit, None, 0)?;
         if topology.nodes.len() < bytes.len() {
             return Err(Refusal::BytesFollow);
@@ -40,19 +40,18 @@ impl Topology {
     }
 
     /// Reads the next node, `depth` steps below the root, and all nodes below
-    /// it. Returns the node's number.
+    /// it.
     fn read_branch(
         &mut self,
         bytes: &[u8],
         limit: usize,
         parent: Option<usize>,
         depth: usize,
-    ) -> Result<usize, Refusal> {
-        let node = self.nodes.len();
-        let Some(&count) = bytes.get(node) else {
+    ) -> Result<(), Refusal> {
+        let Some(&count) = bytes.get(self.nodes.len()) else {
             return Err(Refusal::EndsEarly);
         };
-        if node >= limit {
+        if self.nodes.len() >= limit {
             return Err(Refusal::TooManyNodes);
         }
         if usize::from(count) > MOST_CHILDREN {
@@ -61,13 +60,23 @@ impl Topology {
         if depth > MOST_STEPS_DOWN {
             return Err(Refusal::TooDeep);
         }
+        let node = self.add(parent);
+        for _ in 0..count {
+            self.read_branch(bytes, limit, Some(node), depth + 1)?;
+        }
+        Ok(())
+    }
+
+    /// Adds a node behind all others, the last child of its parent, and
+    /// answers its number.
+    pub fn add(&mut self, parent: Option<usize>) -> usize {
+        let node = self.nodes.len();
+        if let Some(parent) = parent {
+            self.nodes[parent].children.push(node);
+        }
         let children = Vec::new();
         self.nodes.push(Node { parent, children });
-        for _ in 0..count {
-            let child = self.read_branch(bytes, limit, Some(node), depth + 1)?;
-            self.nodes[node].children.push(child);
-        }
-        Ok(node)
+        node
     }
 
     pub fn node_count(&self) -> usize {
@@ -76,6 +85,15 @@ impl Topology {
 
     pub fn child_count(&self, node: usize) -> usize {
         self.nodes[node].children.len()
+    }
+
+    pub fn is_leaf(&self, node: usize) -> bool {
+        self.child_count(node) == 0
+    }
+
+    /// Whether a node of a drawing is passed over: an inner node with one child.
+    pub fn is_passed_over(&self, node: usize) -> bool {
+        self.child_count(node) == 1
     }
 
     pub fn children(&self, node: usize) -> &[usize] {
@@ -106,6 +124,12 @@ impl Topology {
     /// Whether `a` is `b` or an ancestor of it: looks up from `b`.
     pub fn is_above(&self, a: usize, b: usize) -> bool {
         a == b || self.nodes[b].parent.is_some_and(|up| self.is_above(a, up))
+    }
+
+    /// The tree as bytes.
+    pub fn bytes(&self) -> Vec<u8> {
+        let counts = self.nodes.iter().map(|node| node.children.len() as u8);
+        counts.collect()
     }
 
     /// Writes the branch under `node` as a topology of its own.

@@ -1,8 +1,10 @@
-//! The second implementation of carrying a path over: from the image of each
-//! step's child it goes up the target to the image of the step's node.
+//! The second implementation of carrying a path over: the path as drawn becomes
+//! one of the reduced drawing, and from the image of each step's child it goes
+//! up the target to the image of the step's node.
 
 use crate::embedding::{read_pair, Pair};
 use crate::queue_tree::{Refusal, Step};
+use crate::reduced::Reduced;
 use crate::topology::Topology;
 
 #[derive(Clone, Debug)]
@@ -21,36 +23,54 @@ pub fn carry(source: &[u8], target: &[u8], map: &[u8], path: &Path) -> Result<Pa
 #[derive(Clone)]
 pub struct Translator {
     pair: Pair,
-    map: Vec<usize>,
+    reduced: Reduced,
+    /// By node of the reduced drawing.
+    images: Vec<usize>,
 }
 
 impl Translator {
     pub fn new(source: &[u8], target: &[u8], map: &[u8]) -> Result<Translator, u8> {
         let pair = read_pair(source, target)?;
         pair.check(map).map_err(|refusal| refusal as u8)?;
-        let map = map.iter().copied().map(usize::from).collect();
-        Ok(Translator { pair, map })
+        let reduced = Reduced::new(&pair.source);
+        let kept = reduced.kept.iter();
+        let images = kept.map(|&node| usize::from(map[node])).collect();
+        Ok(Translator {
+            pair,
+            reduced,
+            images,
+        })
     }
 
     pub fn carry(&self, path: &Path) -> Result<Path, Refusal> {
-        let nodes = nodes_on(&self.pair.source, &path.steps)?;
-        let mut steps = Vec::new();
-        for (ends, step) in nodes.windows(2).zip(&path.steps) {
-            let (from, to) = (self.map[ends[0]], self.map[ends[1]]);
-            let rank = step.rank;
-            steps.extend(
-                way_down(&self.pair.target, from, to)
-                    .into_iter()
-                    .map(|child| Step { child, rank }),
-            );
+        let drawn = nodes_on(&self.pair.source, &path.steps)?;
+        // The steps of a node that is passed over give none.
+        let steps = drawn.iter().zip(&path.steps);
+        let steps = steps.filter(|(&node, _)| !self.pair.source.is_passed_over(node));
+        let steps: Vec<Step> = steps.map(|(_, &step)| step).collect();
+        let nodes = nodes_on(&self.reduced.tree, &steps).expect("the path as drawn has no fault");
+        let images: Vec<usize> = nodes.iter().map(|&node| self.images[node]).collect();
+        // Above a lone leaf's image, and else the first image is the root.
+        let mut carried = self.steps_down(0, images[0], 0);
+        for (ends, step) in images.windows(2).zip(&steps) {
+            carried.extend(self.steps_down(ends[0], ends[1], step.rank));
         }
-        let leaf_rank = path.leaf_rank;
-        Ok(Path { steps, leaf_rank })
+        Ok(Path {
+            steps: carried,
+            leaf_rank: path.leaf_rank,
+        })
+    }
+
+    /// The steps of one rank from a target node down to another.
+    fn steps_down(&self, from: usize, to: usize, rank: u32) -> Vec<Step> {
+        let numbers = way_down(&self.pair.target, from, to).into_iter();
+        numbers.map(|child| Step { child, rank }).collect()
     }
 
     /// The source node whose image that is, if it is one.
     pub fn drawn(&self, image: usize) -> Option<usize> {
-        self.map.iter().position(|&other| other == image)
+        let place = self.images.iter().position(|&other| other == image);
+        place.map(|place| self.reduced.kept[place])
     }
 }
 

@@ -13,7 +13,7 @@ use linduvar_tests::queue_tree::{Step, MOST_PACKETS};
 use linduvar_tests::random::{seeded, Random};
 use linduvar_tests::rattle_chip::{self, Behind};
 use linduvar_tests::rattle_tree;
-use linduvar_tests::requests::{any_push, refused, Answer, Request};
+use linduvar_tests::requests::{any_push, passed_over, refused, Answer, Request, PASSED_OVER_KINDS};
 use linduvar_tests::rules::{any_rules, break_rules, keep_anything, right_rules, RULE_FAULTS};
 use linduvar_tests::scheduler::{Pair, Rule, Rules, Tree, ARRIVAL, STRICT, WEIGHTED};
 use linduvar_tests::states::{any_topology, damage, dressed, Habits, DAMAGES, DRESSES, LIMITS};
@@ -24,7 +24,7 @@ const OPENINGS: usize = 8_000;
 const LISTS: usize = 900;
 const CALLS_A_LIST: usize = 50;
 const LONG_LISTS: usize = 12;
-const DAMAGED_TREES: usize = 1_000;
+const DAMAGED_TREES: usize = 2_000;
 const DAMAGES_A_TREE: usize = 20;
 
 /// Each answer of each call and each occasion must be met this often, and each
@@ -95,6 +95,34 @@ fn examples(kinds: &mut Kinds) {
     assert_eq!(trees.chip.disciplines.finish[..5], [0, 0, 0, 828, 0]);
     trees.answers(&path(&[(2, 1)], 3), (14, 0), kinds);
     trees.answers(&path(&[(3, 1)], 3), (13, 0), kinds);
+
+    // The root and node 2 are passed over: they give rank 0, keep nothing and
+    // leave what stands in their places. Node 2 has a weight under node 1.
+    let mut rules = [rule((WEIGHTED, 1)); TARGET_NODES];
+    rules[2].weight = 2;
+    rules[3].discipline = STRICT;
+    rules[4].discipline = ARRIVAL;
+    let mut trees = Trees::open(&[1, 2, 1, 0, 0], &[2, 0, 0], 4, &rules);
+    assert_eq!(trees.map, [255, 0, 255, 1, 2]);
+    trees.source.disciplines.virtual_time[..3].copy_from_slice(&[77, 0, 88]);
+    trees.source.disciplines.finish[..4].copy_from_slice(&[9, u32::MAX, 0, u32::MAX]);
+    trees.chip.disciplines = trees.source.disciplines;
+    trees.read_again();
+    for (leaf, packet, held) in [(3, 31, 1), (4, 41, 2), (3, 32, 3)] {
+        trees.answers(&to_leaf(leaf, 10, packet), (0, held), kinds);
+    }
+    trees.answers(&path(&[(1, 500), (2, 900)], 42), (0, 4), kinds);
+    for (packet, time) in [(31, 0), (41, 0), (42, 900), (32, 1280)] {
+        trees.answers(&Request::Pop, (0, packet), kinds);
+        assert_eq!(trees.chip.disciplines.virtual_time[..3], [77, time, 88]);
+    }
+    let finishes = [9, u32::MAX, 2560, u32::MAX, 2560];
+    assert_eq!(trees.chip.disciplines.finish[..5], finishes);
+
+    // 24 is about the rules as given.
+    rules[3].weight = 0;
+    let opened = rattle_chip::open(&[1, 2, 1, 0, 0], &[2, 0, 0], 4, &rules);
+    assert_eq!(opened.refusal, 24);
     println!("examples: as worked by hand");
 }
 
@@ -420,7 +448,9 @@ impl Trees {
             kinds.meet(&format!("both full at a limit of {limit}"));
         }
         self.count_moves(&before.1, kinds);
-        if answer.0 != 0 {
+        if answer.0 == 0 {
+            self.count_passed(&before.1, request, kinds);
+        } else {
             for (before, after) in [(before.0, self.source), (before.1, self.chip)] {
                 let mut expected = before.rewritten();
                 expected.state.refused = after.state.refused;
@@ -484,17 +514,32 @@ impl Trees {
     }
 
     /// What a call moved of what the chip keeps, where the chip's number of the
-    /// node is another.
+    /// node is another or it has none.
     fn count_moves(&self, before: &PlainTree, kinds: &mut Kinds) {
         let (old, new) = (&before.disciplines, &self.chip.disciplines);
         for (node, &image) in self.map.iter().enumerate() {
             let elsewhere = usize::from(image) != node;
+            let place = match self.drawing[node] {
+                1 => "that is passed over",
+                _ => "with another image",
+            };
             if elsewhere && old.virtual_time[node] != new.virtual_time[node] {
-                kinds.meet("a virtual time moved at a node with another image");
+                kinds.meet(&format!("a virtual time moved at a node {place}"));
             }
             if elsewhere && old.finish[node] != new.finish[node] {
-                kinds.meet("a finish moved at a node with another image");
+                kinds.meet(&format!("a finish moved at a node {place}"));
             }
+        }
+    }
+
+    /// An accepted call, where nodes are passed over.
+    fn count_passed(&self, before: &PlainTree, request: &Request, kinds: &mut Kinds) {
+        let drawing = Topology::read(&self.drawing, SOURCE_NODES).expect("a valid tree");
+        for kind in passed_over(&drawing, &before.disciplines, request) {
+            kinds.meet(kind);
+        }
+        if self.drawing.iter().all(|&children| children < 2) {
+            kinds.meet(&format!("a lone leaf: {}", request.name()));
         }
     }
 }
@@ -518,19 +563,22 @@ const ANSWERS: [(&str, &[u8]); 8] = [
     ("both, pop", &[0, 16]),
     (
         "chip, push",
-        &[0, 1, 2, 3, 4, 5, 6, 7, 8, 9, 10, 11, 13, 14, 15, 18],
+        &[0, 1, 2, 3, 4, 5, 6, 7, 8, 9, 10, 11, 13, 14, 15, 18, 26],
     ),
     (
         "chip, push to a leaf",
-        &[0, 1, 2, 3, 4, 5, 6, 7, 8, 9, 10, 11, 15, 18, 23, 25],
+        &[0, 1, 2, 3, 4, 5, 6, 7, 8, 9, 10, 11, 15, 18, 23, 25, 26],
     ),
-    ("chip, pop", &[0, 1, 2, 3, 4, 5, 6, 7, 8, 9, 10, 11, 16, 18]),
+    (
+        "chip, pop",
+        &[0, 1, 2, 3, 4, 5, 6, 7, 8, 9, 10, 11, 16, 18, 26],
+    ),
     ("chip, held", &[0, 1, 2, 3, 4, 5, 18]),
     ("chip, refusals", &[0, 1, 2, 3, 4, 5, 18]),
 ];
 
 /// What is worth to be met besides.
-const OCCASIONS: [&str; 15] = [
+const OCCASIONS: [&str; 19] = [
     "both full at a limit of 1",
     "both full at a limit of 2",
     "both full at a limit of 256",
@@ -544,6 +592,10 @@ const OCCASIONS: [&str; 15] = [
     "another tree",
     "a virtual time moved at a node with another image",
     "a finish moved at a node with another image",
+    "a finish moved at a node that is passed over",
+    "a lone leaf: push",
+    "a lone leaf: push to a leaf",
+    "a lone leaf: pop",
     "state, map: 18",
     "source, state: 18",
 ];
@@ -559,9 +611,11 @@ fn require_everything(kinds: &Kinds) {
             kinds.require(&format!("open: {number} of the {of}"), OFTEN_ENOUGH);
         }
     }
-    for kind in RULE_FAULTS.iter().chain(&OCCASIONS) {
+    for kind in RULE_FAULTS.iter().chain(&OCCASIONS).chain(&PASSED_OVER_KINDS) {
         kinds.require(kind, OFTEN_ENOUGH);
     }
+    let never = "a virtual time moved at a node that is passed over";
+    assert_eq!(kinds.times(never), 0, "{never}");
     for damage in DAMAGES {
         kinds.require(damage, DAMAGED_ENOUGH);
     }

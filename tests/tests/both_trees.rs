@@ -9,12 +9,13 @@ use linduvar_tests::queue_tree::{Refusal, MOST_PACKETS};
 use linduvar_tests::random::{seeded, Random};
 use linduvar_tests::rattle_queue_tree as rattle;
 use linduvar_tests::rattle_translator;
+use linduvar_tests::reduced::Reduced;
 use linduvar_tests::states::{any_path, Habits};
-use linduvar_tests::topology::{SOURCE_NODES, TARGET_NODES};
+use linduvar_tests::topology::{Topology, SOURCE_NODES, TARGET_NODES};
 use linduvar_tests::translator::Path;
 use std::collections::BTreeMap;
 
-const LISTS_A_LIMIT: usize = 2;
+const LISTS_A_LIMIT: usize = 3;
 
 /// Each answer must be met this often.
 const OFTEN_ENOUGH: usize = 50;
@@ -27,12 +28,18 @@ fn every_limit(seed: u64) {
     let mut random = Random::new(seed);
     let mut answers = BTreeMap::new();
     let (mut lists, mut calls, mut shared) = (0, 0, 0);
+    let (mut passing, mut lone_leaves) = (0, 0);
     for limit in 1..=MOST_PACKETS {
         let mut full = false;
         for list in 0..LISTS_A_LIMIT {
-            let drawn = pairs::embedded(&mut random, SOURCE_NODES, TARGET_NODES);
+            let drawn = match list {
+                0 => on_itself(pairs::drawing(&mut random, SOURCE_NODES)),
+                _ => pairs::embedded(&mut random, SOURCE_NODES, TARGET_NODES),
+            };
             let mut trees = Trees::open(drawn, limit);
             shared += usize::from(pairs::shares_a_node(&trees.target, &trees.map));
+            passing += usize::from(trees.drawing.contains(&1));
+            lone_leaves += usize::from(trees.drawing.iter().all(|&children| children < 2));
             // Every other list fills the trees first.
             let pushes = if list % 2 == 0 { 2 * limit + 10 } else { 0 };
             for answer in trees.calls(pushes, limit + 20, &mut random) {
@@ -44,15 +51,31 @@ fn every_limit(seed: u64) {
         }
         assert!(full, "limit {limit} was not met");
     }
-    println!("{lists} lists, in {shared} of them branches share a chip node; {calls} calls,");
-    println!("each limit met; how many met each answer:");
-    assert!(shared >= OFTEN_ENOUGH);
+    println!("{lists} lists, in {shared} of them branches share a chip node, in {passing} nodes are");
+    println!("passed over, in {lone_leaves} down to a leaf; {calls} calls, each limit met; how many met");
+    println!("each answer:");
+    for lists in [shared, passing, lone_leaves] {
+        assert!(lists >= OFTEN_ENOUGH, "only {lists} lists of a kind");
+    }
     for (answer, times) in &answers {
         println!("  {times:7}  {answer}");
     }
     for answer in [0, 13, 14, 15, 16] {
         let met = answers.get(&answer).copied().unwrap_or(0);
         assert!(met >= OFTEN_ENOUGH, "{answer} was met only {met} times");
+    }
+}
+
+/// A drawing on its own reduced drawing: where nodes with one child are left
+/// out, all is as before.
+fn on_itself(source: Vec<u8>) -> Drawn {
+    let drawing = Topology::read(&source, SOURCE_NODES).expect("a valid tree");
+    let reduced = Reduced::new(&drawing);
+    let places: Vec<u8> = (0..reduced.kept.len() as u8).collect();
+    Drawn {
+        source,
+        target: reduced.tree.bytes(),
+        map: Some(reduced.spread(&drawing, &places)),
     }
 }
 

@@ -16,8 +16,7 @@ fn main() {
     for (script, _) in paper::scripts() {
         compare(&script);
     }
-    compare(&samples::read(&samples::folder().join("garden.hex")).script);
-    for (_, path) in samples::refusals() {
+    for path in samples::all() {
         compare(&samples::read(&path).script);
     }
     compare(&[]);

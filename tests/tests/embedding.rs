@@ -2,10 +2,13 @@
 //! implementation. The first difference ends the run.
 
 use linduvar_tests::embedding::{self, read_pair};
+use linduvar_tests::generate::{self, all_trees, chain};
 use linduvar_tests::pairs::{self, damaged_map, Drawn};
 use linduvar_tests::random::{seeded, Random};
-use linduvar_tests::topology::{SOURCE_NODES, TARGET_NODES};
-use linduvar_tests::{generate, rattle_embedding};
+use linduvar_tests::rattle_embedding;
+use linduvar_tests::reduced::{Reduced, PASSED_OVER};
+use linduvar_tests::topology::{Topology, SOURCE_NODES, TARGET_NODES};
+use std::collections::BTreeMap;
 use std::fmt;
 
 const SMALL_PAIRS: usize = 30_000;
@@ -20,6 +23,7 @@ fn main() {
         examples(seed);
         hard_pairs(seed);
         long_strings();
+        every_chain(seed);
         every_small_pair(seed);
         random_pairs(seed);
     });
@@ -49,9 +53,9 @@ fn examples(seed: u64) {
     );
     search(&[2, 3, 0, 0, 0, 0], &[2, 2, 0, 0, 2, 0, 0], 12, &[]);
     search(&[0], &[0], 0, &[0]);
-    search(&[0], &[1, 0], 12, &[]);
-    search(&[1, 0], &[1, 1, 0], 0, &[0, 2]);
-    search(&[1, 1, 0], &[1, 0], 12, &[]);
+    search(&[0], &[1, 0], 0, &[1]);
+    search(&[1, 0], &[1, 1, 0], 0, &[255, 2]);
+    search(&[1, 1, 0], &[1, 0], 0, &[255, 255, 1]);
 
     // The paper's topologies, as sources and as targets.
     for (bytes, refusal) in [
@@ -64,69 +68,115 @@ fn examples(seed: u64) {
         search(&bytes, &[0], refusal, &[]);
         search(&[0], &bytes, refusal, &[]);
     }
-    search(&chain(9), &chain(9), 0, &[0, 1, 2, 3, 4, 5, 6, 7, 8]);
-    search(&[1, 0], &chain(9), 0, &[0, 8]);
+    let passed = 255;
+    search(&chain(9), &chain(9), 0, &[[passed; 8].as_slice(), &[8]].concat());
+    search(&[1, 0], &chain(9), 0, &[passed, 8]);
 
     // The source is read first, each under its own limit.
     search(&[2, 0], &[0, 0], 1, &[]);
     search(&[0, 0], &[2, 0], 2, &[]);
     search(&crowd(33), &[2, 0], 3, &[]);
     search(&[0], &crowd(65), 3, &[]);
-    search(&[0], &crowd(64), 12, &[]);
-    search(&[1, 0], &crowd(64), 0, &[0, 8]);
+    search(&[0], &crowd(64), 0, &[8]);
+    search(&[1, 0], &crowd(64), 0, &[passed, 8]);
 
-    // The first choice of images fails: leaf 1 may not take the chain that
-    // node 2 needs; and node 1 leaves the larger branch to node 3.
-    search(&[2, 0, 1, 0], &[2, 1, 0, 0], 0, &[0, 3, 1, 2]);
+    // The first choice of images fails: leaf 1 may not take the fork that
+    // node 2 needs; and node 1 leaves the larger branch to node 4.
+    search(&[2, 0, 2, 0, 0], &[2, 2, 0, 0, 0], 0, &[0, 4, 1, 2, 3]);
     search(
-        &[2, 1, 0, 2, 0, 0],
-        &[2, 2, 0, 0, 1, 0],
+        &[2, 2, 0, 0, 3, 0, 0, 0],
+        &[2, 3, 0, 0, 0, 2, 0, 0],
         0,
-        &[0, 4, 5, 1, 2, 3],
+        &[0, 5, 6, 7, 1, 2, 3, 4],
     );
     // Both children of the root go below one child of the target's root.
     search(&[2, 0, 0], &[1, 2, 0, 0], 0, &[0, 2, 3]);
-    search(&[2, 1, 0, 0], &[1, 2, 0, 1, 0], 0, &[0, 3, 4, 2]);
+    search(
+        &[2, 2, 0, 0, 0],
+        &[1, 2, 0, 2, 0, 0],
+        0,
+        &[0, 3, 4, 5, 2],
+    );
     // Only siblings one above the other would fit.
-    search(&[2, 0, 1, 0], &[1, 1, 1, 0], 12, &[]);
-    search(&[2, 1, 0, 1, 0], &[2, 1, 1, 0, 0], 12, &[]);
+    search(&[2, 0, 0], &[1, 1, 1, 0], 12, &[]);
+    search(&[2, 2, 0, 0, 2, 0, 0], &[2, 2, 0, 2, 0, 0, 0], 12, &[]);
     // Eight children, all of them leaves but the last.
     search(
-        &[8, 0, 0, 0, 0, 0, 0, 0, 1, 0],
-        &[8, 1, 0, 0, 0, 0, 0, 0, 0, 0],
+        &[8, 0, 0, 0, 0, 0, 0, 0, 2, 0, 0],
+        &[8, 2, 0, 0, 0, 0, 0, 0, 0, 0, 0],
         0,
-        &[0, 3, 4, 5, 6, 7, 8, 9, 1, 2],
+        &[0, 4, 5, 6, 7, 8, 9, 10, 1, 2, 3],
     );
+
+    // Nodes that are passed over: all but a leaf, the root alone, those between
+    // others. The chip's nodes with one child are not.
+    search(&[1, 0], &[0], 0, &[passed, 0]);
+    search(&[0], &[2, 2, 0, 0, 0], 0, &[2]);
+    search(&[1, 2, 0, 0], &[2, 0, 0], 0, &[passed, 0, 1, 2]);
+    search(&[2, 1, 0, 0], &[2, 0, 0], 0, &[0, passed, 1, 2]);
+    search(
+        &[2, 1, 1, 2, 0, 1, 0, 0],
+        &[1, 2, 2, 0, 0, 0],
+        0,
+        &[0, passed, passed, 2, 3, passed, 4, 5],
+    );
+    search(&[1, 2, 0, 0], &[1, 1, 0], 12, &[]);
 
     let mut check = |source: &[u8], target: &[u8], map: &[u8], answer: u8| {
         comparison.check(source, target, map);
         let rattle = rattle_embedding::check(source, target, map);
         assert_eq!(rattle, answer, "{map:?} of {source:?} in {target:?}");
     };
-    let (source, target) = (&[2, 0, 1, 0], &[3, 1, 0, 1, 1, 0, 0]);
-    check(source, target, &[0, 2, 3, 5], 0);
-    check(source, target, &[0, 2, 4, 5], 0);
-    check(source, target, &[0, 6, 1, 2], 0);
-    check(source, target, &[0, 2, 3], 6);
-    check(source, target, &[0, 2, 3, 5, 0], 6);
+    // The chip's node 1 has the leaves 2 and 3, node 4 has node 5 with the
+    // leaves 6 and 7, and 8 is a leaf.
+    let (source, target) = (&[2, 0, 2, 0, 0], &[3, 2, 0, 0, 1, 2, 0, 0, 0]);
+    check(source, target, &[0, 8, 1, 2, 3], 0);
+    check(source, target, &[0, 2, 4, 7, 6], 0);
+    check(source, target, &[0, 2, 5, 6, 7], 0);
+    check(source, target, &[0, 8, 1, 2], 6);
+    check(source, target, &[0, 8, 1, 2, 3, 0], 6);
     check(source, target, &[], 6);
-    check(source, target, &[0, 2, 3, 7], 7);
-    check(source, target, &[0, 2, 3, 3], 8);
-    check(source, target, &[1, 6, 3, 5], 9);
-    check(source, target, &[0, 1, 3, 5], 10);
-    check(source, target, &[0, 5, 3, 2], 11);
+    check(source, target, &[0, 8, 1, 2, 9], 7);
+    check(source, target, &[0, 8, 1, 2, 2], 8);
+    check(source, target, &[4, 8, 5, 6, 7], 9);
+    check(source, target, &[0, 4, 1, 2, 3], 10);
+    check(source, target, &[0, 8, 2, 1, 3], 10);
+    check(source, target, &[0, 3, 1, 2, 8], 11);
     // Siblings one above the other: all else is right.
-    check(source, target, &[0, 5, 4, 6], 11);
-    check(&[2, 1, 0, 1, 0], &[1, 2, 1, 0, 0], &[0, 1, 4, 2, 3], 11);
-    check(&[2, 1, 0, 1, 0], target, &[0, 3, 6, 4, 5], 11);
-    check(&[2, 1, 0, 0], target, &[0, 3, 5, 2], 0);
-    check(&[2, 1, 0, 0], target, &[0, 3, 2, 5], 11);
+    check(source, target, &[0, 7, 4, 6, 8], 11);
+    check(source, target, &[0, 3, 1, 2, 6], 11);
     // Two faults: the lower number, and topologies before all else.
-    check(source, target, &[7, 7, 7], 6);
-    check(source, target, &[7, 1, 1, 1], 7);
-    check(source, target, &[1, 1, 3, 4], 8);
-    check(source, target, &[1, 3, 2, 0], 9);
-    check(source, target, &[0, 1, 2, 6], 10);
+    check(source, target, &[9, 9, 9], 6);
+    check(source, target, &[9, 1, 1, 1, 1], 7);
+    check(source, target, &[1, 1, 4, 4, 5], 8);
+    check(source, target, &[1, 5, 2, 0, 3], 9);
+    check(source, target, &[0, 1, 2, 8, 6], 10);
+
+    // A node that is passed over has 255 and no other number, which is tested
+    // before all numbers of kept nodes; 255 is no image of a kept node.
+    let (source, target) = (&[1, 2, 1, 0, 0], &[2, 0, 2, 0, 0]);
+    check(source, target, &[255, 0, 255, 1, 3], 0);
+    check(source, target, &[255, 0, 255, 1], 6);
+    check(source, target, &[0, 0, 255, 1, 3], 26);
+    check(source, target, &[255, 0, 2, 3, 4], 26);
+    check(source, target, &[255, 0, 254, 1, 3], 26);
+    check(source, target, &[9, 9, 9, 9, 9], 26);
+    check(source, target, &[255, 255, 0, 255, 255], 26);
+    check(source, target, &[255, 255, 255, 1, 3], 7);
+    check(source, target, &[255, 0, 255, 1, 255], 7);
+    check(source, target, &[255, 0, 255, 5, 5], 7);
+    check(source, target, &[255, 0, 255, 1, 1], 8);
+    check(source, target, &[255, 2, 255, 3, 4], 9);
+    check(source, target, &[255, 0, 255, 1, 2], 10);
+    check(source, &[2, 0, 1, 1, 0], &[255, 0, 255, 1, 4], 0);
+    // A lone leaf goes to any leaf, and to nothing else.
+    for source in [&[0][..], &[1, 0], &[1, 1, 0]] {
+        for (image, answer) in [(0, 10), (1, 0), (2, 10), (3, 0), (4, 0), (5, 7), (255, 7)] {
+            let map = [vec![255; source.len() - 1], vec![image]].concat();
+            check(source, target, &map, answer);
+        }
+    }
+
     check(&[2, 0], &[0, 0], &[], 1);
     check(&[0], &[0, 0], &[], 2);
 
@@ -136,17 +186,12 @@ fn examples(seed: u64) {
     let short = &mut map[..SOURCE_NODES - 1];
     assert_eq!(rattle_embedding::search(&[0], &[0], short), 255);
     assert_eq!(rattle_embedding::search(&[0], &[], &mut []), 1);
-    assert_eq!(rattle_embedding::search(&[0], &[1, 0], &mut []), 12);
+    assert_eq!(rattle_embedding::search(&[2, 0, 0], &[1, 0], &mut []), 12);
     assert_eq!(map, [238; SOURCE_NODES + 8]);
     assert_eq!(rattle_embedding::search(&[0], &[0], &mut map), 0);
     assert_eq!(map[..SOURCE_NODES], [0; SOURCE_NODES]);
     assert_eq!(map[SOURCE_NODES..], [238; 8]);
     println!("examples: as the paper has them");
-}
-
-/// A tree of that many nodes, one below the other.
-fn chain(nodes: usize) -> Vec<u8> {
-    [vec![1; nodes - 1], vec![0]].concat()
 }
 
 /// A tree of that many nodes: the root has 8 children, the first of these has
@@ -166,18 +211,21 @@ fn crowd(nodes: usize) -> Vec<u8> {
 /// Pairs on which trying one list after the other would not end in time.
 fn hard_pairs(seed: u64) {
     let mut comparison = Comparison::new(seed);
-    let bunch =
-        |chains: usize, length: usize| [vec![chains as u8], chain(length).repeat(chains)].concat();
+    // A root with combs below it: a comb's node has a leaf and the next.
+    let bunch = |combs: usize, teeth: usize| {
+        let comb = [[2, 0].repeat(teeth), vec![0]].concat();
+        [vec![combs as u8], comb.repeat(combs)].concat()
+    };
     let mut pair = |source: &[u8], target: &[u8], answer: u8| {
         comparison.large_pair(source, target);
         let mut map = [238; SOURCE_NODES];
         let rattle = rattle_embedding::search(source, target, &mut map);
         assert_eq!(rattle, answer, "{source:?} in {target:?}");
     };
-    pair(&bunch(8, 3), &bunch(7, 8), 12);
-    pair(&bunch(7, 3), &bunch(7, 8), 0);
-    pair(&bunch(7, 4), &bunch(8, 3), 12);
-    pair(&bunch(8, 3), &bunch(8, 7), 0);
+    pair(&bunch(8, 1), &bunch(7, 3), 12);
+    pair(&bunch(7, 1), &bunch(7, 3), 0);
+    pair(&bunch(6, 2), &bunch(8, 1), 12);
+    pair(&bunch(8, 1), &bunch(8, 3), 0);
 
     // Eight children a node, 32 nodes into up to 64: there is one fan of 8 too
     // few, the second is hidden at the end, or the leaves are too few by one.
@@ -205,12 +253,43 @@ fn long_strings() {
     println!("long strings: answered");
 }
 
-/// Every tree of up to 5 nodes into every tree of up to 7, and every list of
+/// Every chain into every tree of up to 8 nodes: what is left is one leaf, which
+/// goes to the first leaf, may go to any other and nowhere else.
+fn every_chain(seed: u64) {
+    let mut comparison = Comparison::new(seed);
+    for target in (1..=8).flat_map(all_trees) {
+        for nodes in 1..=9 {
+            let source = chain(nodes);
+            let (answer, least) = comparison.small_pair(&source, &target);
+            let first = target.iter().position(|&children| children == 0);
+            let first = first.expect("a leaf") as u8;
+            let expected = [vec![PASSED_OVER; nodes - 1], vec![first]].concat();
+            assert_eq!((answer, &least[..nodes]), (0, &expected[..]));
+            for image in 0..=target.len() {
+                let mut map = least[..nodes].to_vec();
+                map[nodes - 1] = image as u8;
+                comparison.check(&source, &target, &map);
+                let passes = target.get(image) == Some(&0);
+                assert_eq!(embedding::check(&source, &target, &map) == 0, passes);
+                // A node of the chain as if it were kept.
+                map[image % nodes] = 0;
+                comparison.check(&source, &target, &map);
+            }
+        }
+        comparison.search(&chain(10), &target);
+        comparison.check(&chain(10), &target, &[PASSED_OVER; 10]);
+    }
+    comparison.print("chains");
+    comparison.require(&[0, 5], &[0, 5, 7, 10, 26]);
+}
+
+/// Every tree of up to 6 nodes into every tree of up to 7, and every list of
 /// numbers as a map of the smaller ones.
 fn every_small_pair(seed: u64) {
     let mut comparison = Comparison::new(seed);
-    for source in (1..=5).flat_map(trees) {
-        for target in (1..=7).flat_map(trees) {
+    for source in (1..=6).flat_map(all_trees) {
+        comparison.own_places(&source);
+        for target in (1..=7).flat_map(all_trees) {
             comparison.small_pair(&source, &target);
             if source.len() <= 4 && target.len() <= 5 {
                 comparison.every_list(&source, &target);
@@ -218,34 +297,6 @@ fn every_small_pair(seed: u64) {
         }
     }
     comparison.print("small pairs");
-}
-
-/// All trees of that many nodes.
-fn trees(nodes: usize) -> Vec<Vec<u8>> {
-    (1..nodes)
-        .flat_map(|children| {
-            let rows = rows(children, nodes - 1);
-            rows.into_iter()
-                .map(move |row| [vec![children as u8], row].concat())
-        })
-        .chain((nodes == 1).then(|| vec![0]))
-        .collect()
-}
-
-/// All rows of that many trees with that many nodes in all.
-fn rows(trees_in_row: usize, nodes: usize) -> Vec<Vec<u8>> {
-    if trees_in_row == 0 {
-        return if nodes == 0 { vec![vec![]] } else { vec![] };
-    }
-    let mut all = Vec::new();
-    for first in 1..=nodes {
-        for tree in trees(first) {
-            for row in rows(trees_in_row - 1, nodes - first) {
-                all.push([tree.clone(), row].concat());
-            }
-        }
-    }
-    all
 }
 
 /// Random pairs, small and large, whole and damaged, each with some maps.
@@ -277,7 +328,7 @@ fn random_pairs(seed: u64) {
         comparison.maps(&drawn, &mut random);
     }
     comparison.print("and damaged ones");
-    comparison.require_every_answer();
+    comparison.require(&SEARCH_ANSWERS, &CHECK_ANSWERS);
 }
 
 /// Asks both sides, and counts how often each answer was met.
@@ -285,12 +336,15 @@ struct Comparison {
     seed: u64,
     pairs: usize,
     maps: usize,
-    check_answers: [usize; 13],
-    search_answers: [usize; 13],
+    check_answers: Answers,
+    search_answers: Answers,
 }
 
-const CHECK_ANSWERS: [usize; 12] = [0, 1, 2, 3, 4, 5, 6, 7, 8, 9, 10, 11];
-const SEARCH_ANSWERS: [usize; 7] = [0, 1, 2, 3, 4, 5, 12];
+/// How often each answer was met.
+type Answers = BTreeMap<u8, usize>;
+
+const CHECK_ANSWERS: [u8; 13] = [0, 1, 2, 3, 4, 5, 6, 7, 8, 9, 10, 11, 26];
+const SEARCH_ANSWERS: [u8; 7] = [0, 1, 2, 3, 4, 5, 12];
 
 impl Comparison {
     fn new(seed: u64) -> Comparison {
@@ -298,8 +352,8 @@ impl Comparison {
             seed,
             pairs: 0,
             maps: 0,
-            check_answers: [0; 13],
-            search_answers: [0; 13],
+            check_answers: Answers::new(),
+            search_answers: Answers::new(),
         }
     }
 
@@ -330,7 +384,7 @@ impl Comparison {
             rattle,
             rust,
         );
-        self.check_answers[usize::from(rust)] += 1;
+        *self.check_answers.entry(rust).or_default() += 1;
         self.maps += 1;
     }
 
@@ -343,13 +397,13 @@ impl Comparison {
         let written = if rust == 0 { least } else { [238; SOURCE_NODES] };
         self.agree(format_args!("search"), source, target, rattle, rust);
         self.agree(format_args!("least map"), source, target, map, written);
-        self.search_answers[usize::from(rust)] += 1;
+        *self.search_answers.entry(rust).or_default() += 1;
         self.pairs += 1;
         (rust, least)
     }
 
-    /// A pair small enough to try every list on it.
-    fn small_pair(&mut self, source: &[u8], target: &[u8]) {
+    /// A pair small enough to try every list on it; its answer and its map.
+    fn small_pair(&mut self, source: &[u8], target: &[u8]) -> (u8, [u8; SOURCE_NODES]) {
         let (answer, least) = self.large_pair(source, target);
         if let Ok(pair) = read_pair(source, target) {
             let tried = match pair.least_map_by_trying() {
@@ -359,6 +413,17 @@ impl Comparison {
             let placed = (answer, least[..source.len()].to_vec());
             assert_eq!(tried, placed, "{source:?} in {target:?}");
         }
+        (answer, least)
+    }
+
+    /// A drawing in its own reduced drawing: a kept node goes to its place there.
+    fn own_places(&mut self, source: &[u8]) {
+        let drawing = Topology::read(source, SOURCE_NODES).expect("a valid tree");
+        let reduced = Reduced::new(&drawing);
+        let (answer, least) = self.search(source, &reduced.tree.bytes());
+        let places: Vec<u8> = (0..reduced.kept.len() as u8).collect();
+        let expected = (0, &reduced.spread(&drawing, &places)[..]);
+        assert_eq!((answer, &least[..source.len()]), expected, "{source:?}");
     }
 
     /// The search's answer and its map, which must pass the check.
@@ -372,17 +437,18 @@ impl Comparison {
         (answer, least)
     }
 
-    /// Every list as long as the source, of numbers up to one past the end.
+    /// Every list as long as the source, of numbers up to one past the end and
+    /// of 255.
     fn every_list(&mut self, source: &[u8], target: &[u8]) {
-        let numbers = target.len() + 1;
-        for code in 0..numbers.pow(source.len() as u32) {
+        let numbers: Vec<u8> = (0..=target.len() as u8).chain([PASSED_OVER]).collect();
+        for code in 0..numbers.len().pow(source.len() as u32) {
             let mut rest = code;
             let map: Vec<u8> = source
                 .iter()
                 .map(|_| {
-                    let image = rest % numbers;
-                    rest /= numbers;
-                    image as u8
+                    let image = numbers[rest % numbers.len()];
+                    rest /= numbers.len();
+                    image
                 })
                 .collect();
             self.check(source, target, &map);
@@ -412,8 +478,12 @@ impl Comparison {
                     0 => random.within(0..=SOURCE_NODES + 2),
                     _ => source.len(),
                 };
+                let marked = !random.one_in(4);
                 let list: Vec<u8> = (0..length)
-                    .map(|_| random.within(0..=target.len()) as u8)
+                    .map(|node| match source.get(node) {
+                        Some(1) if marked => PASSED_OVER,
+                        _ => random.within(0..=target.len()) as u8,
+                    })
                     .collect();
                 self.check(source, target, &list);
             }
@@ -421,32 +491,33 @@ impl Comparison {
     }
 
     fn print(&self, what: &str) {
-        let line = |answers: &[usize], counts: &[usize]| {
-            let mut line = String::new();
-            for &answer in answers {
-                line += &format!("{answer}: {}  ", counts[answer]);
-            }
-            line.trim_end().to_string()
+        let line = |answers: &Answers| {
+            let counts = answers.iter();
+            let counts: Vec<String> = counts
+                .map(|(answer, met)| format!("{answer}: {met}"))
+                .collect();
+            counts.join("  ")
         };
         println!(
             "{what}: {} pairs, {} maps; how many met each answer:",
             self.pairs, self.maps
         );
-        println!("  search  {}", line(&SEARCH_ANSWERS, &self.search_answers));
-        println!("  check   {}", line(&CHECK_ANSWERS, &self.check_answers));
+        println!("  search  {}", line(&self.search_answers));
+        println!("  check   {}", line(&self.check_answers));
     }
 
-    fn require_every_answer(&self) {
-        let require = |function: &str, answers: &[usize], counts: &[usize]| {
-            for &answer in answers {
-                let met = counts[answer];
+    fn require(&self, search: &[u8], check: &[u8]) {
+        for (function, answers, counts) in [
+            ("search", search, &self.search_answers),
+            ("check", check, &self.check_answers),
+        ] {
+            for answer in answers {
+                let met = counts.get(answer).copied().unwrap_or(0);
                 assert!(
                     met >= OFTEN_ENOUGH,
                     "the answer {answer} of {function} was met only {met} times"
                 );
             }
-        };
-        require("search", &SEARCH_ANSWERS, &self.search_answers);
-        require("check", &CHECK_ANSWERS, &self.check_answers);
+        }
     }
 }

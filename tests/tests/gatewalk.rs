@@ -57,8 +57,7 @@ fn compare(what: &str, script: &[u8]) {
 
 /// `samples/run` gives the bytes of each sample.
 fn samples_in_the_shell() {
-    let refusals = samples::refusals().into_iter().map(|(_, path)| path);
-    for path in refusals.chain([samples::garden()]) {
+    for path in samples::all() {
         assert_eq!(shell(&path), samples::read(&path).script);
     }
 }

@@ -5,12 +5,16 @@
 use linduvar_tests::generate;
 use linduvar_tests::history::History;
 use linduvar_tests::kinds::Kinds;
+use linduvar_tests::pairs;
 use linduvar_tests::plain::{PlainAmount, PlainPath, PlainState};
 use linduvar_tests::plain_tree::{PlainTree, PlainTreeOpened};
 use linduvar_tests::queue_tree::Step;
 use linduvar_tests::random::{seeded, Random};
 use linduvar_tests::rattle_tree;
-use linduvar_tests::requests::{any_push, length, some_leaf, Answer, Request, LEAVES};
+use linduvar_tests::reduced::Reduced;
+use linduvar_tests::requests::{
+    any_push, length, passed_over, some_leaf, Answer, Request, LEAVES, PASSED_OVER_KINDS,
+};
 use linduvar_tests::rules::{any_rules, break_rules, keep_anything, right_rules, RULE_FAULTS};
 use linduvar_tests::scheduler::{self, Disciplines, Rule, Rules, Tree, ARRIVAL, STRICT, WEIGHTED};
 use linduvar_tests::states::{
@@ -24,12 +28,13 @@ use std::fmt;
 
 const HISTORIES: usize = 2_500;
 const CALLS_A_HISTORY: usize = 120;
+const REDUCED: usize = 1_000;
 const SHARINGS: usize = 40;
 const OPENINGS: usize = 10_000;
-const SHORT_LISTS: usize = 1_200;
+const SHORT_LISTS: usize = 2_000;
 const LONG_LISTS: usize = 20;
 const STATES: usize = 3_000;
-const ENDS: usize = 8_000;
+const ENDS: usize = 16_000;
 const DAMAGED_TREES: usize = 8_000;
 const CHURNS: usize = 1_000;
 
@@ -41,6 +46,7 @@ fn main() {
         examples();
         table();
         histories(seed);
+        reduced_drawings(seed);
         let mut comparison = Comparison::new(seed);
         sharings(&mut comparison);
         openings(&mut comparison);
@@ -114,8 +120,14 @@ fn examples() {
 
     // Two weighted nodes on the way: each has its own time, and all starts are
     // read before a finish is written.
-    let nested = [(WEIGHTED, 0), (WEIGHTED, 1), (STRICT, 255), (STRICT, 2)];
-    let mut tree = Literal::open(&[1, 2, 0, 0], 4, &nested);
+    let nested = [
+        (WEIGHTED, 0),
+        (WEIGHTED, 1),
+        (STRICT, 255),
+        (STRICT, 2),
+        (ARRIVAL, 1),
+    ];
+    let mut tree = Literal::open(&[2, 2, 0, 0, 0], 4, &nested);
     tree.push_to_leaf(2, 1, 255, 1, (0, 1));
     tree.push_to_leaf(3, 1, 255, 2, (0, 2));
     tree.keeps(&[0, 0], &[(1, 2 * 65_280), (2, 256), (3, 32_640)]);
@@ -127,7 +139,8 @@ fn examples() {
     }
 
     // The largest finish, and one above it; a full tree comes first.
-    let mut tree = Literal::open(&[1, 0], 2, &[(WEIGHTED, 0), (ARRIVAL, 1)]);
+    let alike = [(WEIGHTED, 0), (ARRIVAL, 1), (ARRIVAL, 1)];
+    let mut tree = Literal::open(&[2, 0, 0], 2, &alike);
     tree.tree.disciplines.finish[1] = u32::MAX - 255;
     tree.push_to_leaf(1, 0, 1, 1, (23, 0));
     tree.keeps(&[0], &[(1, u32::MAX - 255)]);
@@ -142,7 +155,7 @@ fn examples() {
     tree.keeps(&[u32::MAX], &[(1, u32::MAX)]);
 
     // The greatest service: 65,535 at weight 1, from a time by path.
-    let mut tree = Literal::open(&[1, 0], 1, &[(WEIGHTED, 0), (ARRIVAL, 1)]);
+    let mut tree = Literal::open(&[2, 0, 0], 1, &alike);
     for (over, answer) in [(0, (0, 1)), (1, (23, 0))] {
         tree.push(&[(1, u32::MAX - 65_535 * 256 + over)], 0, 1, (0, 1));
         tree.pop((0, 1));
@@ -152,6 +165,27 @@ fn examples() {
             tree.pop((0, 2));
         }
     }
+
+    // A node with one child is passed over: whatever its discipline, ranks there
+    // are 0, no finish is too large and what stands in its places stays. The
+    // leaf's own discipline holds.
+    for discipline in [ARRIVAL, STRICT, WEIGHTED] {
+        let mut tree = Literal::open(&[1, 0], 2, &[(discipline, 0), (STRICT, 1)]);
+        tree.tree.disciplines.virtual_time[0] = 5;
+        tree.tree.disciplines.finish[1] = u32::MAX;
+        tree.push_to_leaf(1, 9, u16::MAX, 1, (0, 1));
+        tree.push_to_leaf(1, 3, u16::MAX, 2, (0, 2));
+        let state = tree.tree.state.read().expect("a state");
+        assert!(state.queues[0].iter().all(|entry| entry.rank == 0));
+        tree.pop((0, 2));
+        tree.pop((0, 1));
+        tree.push(&[(1, 8)], 0, 3, (0, 1));
+        tree.pop((0, 3));
+        tree.keeps(&[5], &[(1, u32::MAX)]);
+    }
+    // 24 is about the rules as given.
+    let opened = rattle_tree::open(&[1, 0], 1, &rules(&[(WEIGHTED, 0), (ARRIVAL, 0)]));
+    assert_eq!(opened.refusal, 24);
     println!("examples: as worked by hand");
 }
 
@@ -247,7 +281,7 @@ fn histories(seed: u64) {
             let looked_up = by_history(&request, &mut history);
             let answer = request.by_rust(&mut tree);
             assert_eq!(answer, looked_up, "{request:?}");
-            compare_history(&tree, &history, &rules, &topology);
+            compare_history(&tree, &history, &topology);
         }
     }
     println!(
@@ -273,18 +307,62 @@ fn by_history(request: &Request, history: &mut History) -> Answer {
     value.map_or_else(|refused| refused, |value| (0, value))
 }
 
-fn compare_history(tree: &Tree, history: &History, rules: &Rules, topology: &[u8]) {
+fn compare_history(tree: &Tree, history: &History, topology: &[u8]) {
     assert_eq!(tree.held(), history.held());
     assert_eq!(tree.refusals(), history.refusals());
     let kept = tree.disciplines();
-    for (node, rule) in rules.iter().enumerate().take(topology.len()) {
-        let time = match rule.discipline {
-            WEIGHTED => history.virtual_time(node),
-            _ => 0,
-        };
-        assert_eq!(u64::from(kept.virtual_time[node]), time);
-        assert_eq!(u64::from(kept.finish[node]), history.finish(node));
+    for node in 0..topology.len() {
+        let (time, finish) = (kept.virtual_time[node], kept.finish[node]);
+        assert_eq!(u64::from(time), history.virtual_time(node));
+        assert_eq!(u64::from(finish), history.finish(node));
     }
+}
+
+/// A drawing beside its reduced drawing, both by the second implementation: they
+/// answer alike. A branch has the weight of its top node under its kept parent,
+/// be that node passed over or not.
+fn reduced_drawings(seed: u64) {
+    let mut random = Random::new(seed);
+    for _ in 0..REDUCED {
+        let topology = pairs::drawing(&mut random, SOURCE_NODES);
+        let drawing = Topology::read(&topology, SOURCE_NODES).expect("a valid tree");
+        let reduced = Reduced::new(&drawing);
+        let rules = right_rules(&drawing, &mut random);
+        let left = reduced_rules(&drawing, &reduced, &rules);
+        let limit = random.pick(&LIMITS);
+        let mut whole = Tree::open(&topology, limit, &rules).expect("right rules");
+        let mut rest = Tree::open(&reduced.tree.bytes(), limit, &left).expect("right rules");
+        for _ in 0..CALLS_A_HISTORY {
+            let leaf = some_leaf(&reduced.tree, &mut random);
+            let (class, length) = (random.below(3) as u8, length(&mut random));
+            let packet = random.number() as u32;
+            let answers = match random.one_in(3) {
+                true => (whole.pop(), rest.pop()),
+                false => {
+                    let push = |tree: &mut Tree, leaf: usize| {
+                        let held = tree.push_to_leaf(leaf, class, length, packet);
+                        held.map(|held| held as u32)
+                    };
+                    (push(&mut whole, reduced.kept[leaf]), push(&mut rest, leaf))
+                }
+            };
+            assert_eq!(answers.0, answers.1, "{topology:?}");
+        }
+    }
+    println!("{REDUCED} drawings answer as reduced");
+}
+
+/// The rules of the nodes that are left.
+fn reduced_rules(drawing: &Topology, reduced: &Reduced, given: &Rules) -> Rules {
+    let mut left = rules(&[]);
+    for (place, &node) in reduced.kept.iter().enumerate() {
+        left[place].discipline = given[node].discipline;
+        let below = reduced.tree.children(place);
+        for (&branch, &child) in below.iter().zip(drawing.children(node)) {
+            left[branch].weight = given[child].weight;
+        }
+    }
+    left
 }
 
 /// Children that always have a packet waiting share as their weights say.
@@ -514,7 +592,10 @@ fn end_at(
     }
     let parent = |child: usize| drawing.parent(child).expect("the root was taken off");
     children.pop();
-    children.retain(|&child| disciplines.rules[parent(child)].discipline == WEIGHTED);
+    children.retain(|&child| {
+        let node = parent(child);
+        disciplines.rules[node].discipline == WEIGHTED && !drawing.is_passed_over(node)
+    });
     for &child in &children {
         disciplines.virtual_time[parent(child)] = random.below(9) as u32;
         disciplines.finish[child] = random.below(9) as u32;
@@ -772,7 +853,11 @@ impl Comparison {
         };
         let times = moved(&old.virtual_time, &new.virtual_time);
         let finishes = moved(&old.finish, &new.finish);
+        for kind in passed_over(&drawing, old, request) {
+            self.kinds.meet(kind);
+        }
         for &node in &times {
+            assert!(!drawing.is_passed_over(node), "node {node} keeps nothing");
             let rose = new.virtual_time[node] > old.virtual_time[node];
             let way = if rose { "rose" } else { "fell" };
             self.kinds.meet(&format!("a virtual time {way}"));
@@ -782,6 +867,7 @@ impl Comparison {
         }
         for &node in &finishes {
             let parent = drawing.parent(node).expect("the root has no finish");
+            assert!(!drawing.is_passed_over(parent), "node {parent} keeps nothing");
             let by_time = old.virtual_time[parent] > old.finish[node];
             let from = if by_time {
                 "virtual time"
@@ -879,7 +965,8 @@ impl Comparison {
         }
         let pushes = PATHS.iter().chain(&LEAVES).map(|(kind, _)| kind);
         let damages = DAMAGES.iter().chain(&RULE_FAULTS);
-        for kind in pushes.chain(damages).chain(&OCCASIONS) {
+        let occasions = OCCASIONS.iter().chain(&PASSED_OVER_KINDS);
+        for kind in pushes.chain(damages).chain(occasions) {
             self.kinds.require(kind, OFTEN_ENOUGH);
         }
     }

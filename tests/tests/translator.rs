@@ -2,12 +2,13 @@
 //! implementation. The first difference ends the run.
 
 use linduvar_tests::embedding::{self, read_pair};
-use linduvar_tests::generate;
+use linduvar_tests::generate::{self, all_trees, chain};
 use linduvar_tests::pairs::{self, damaged_map, Drawn};
 use linduvar_tests::plain::{PlainCarried, PlainPath, PlainStep, MOST_STEPS};
 use linduvar_tests::queue_tree::Step;
 use linduvar_tests::random::{seeded, Random};
 use linduvar_tests::rattle_translator;
+use linduvar_tests::reduced::PASSED_OVER;
 use linduvar_tests::states::{any_path, noise_behind, Habits, PATHS};
 use linduvar_tests::topology::{Topology, MOST_STEPS_DOWN, SOURCE_NODES, TARGET_NODES};
 use linduvar_tests::translator::{self, Path};
@@ -28,6 +29,7 @@ fn main() {
         examples(seed);
         whole_paths();
         long_strings();
+        every_chain(seed);
         let mut comparison = Comparison::new(seed);
         let mut random = Random::new(seed);
         for _ in 0..SMALL_PAIRS {
@@ -94,23 +96,63 @@ fn examples(seed: u64) {
     carry(apart, &[(2, 4), (1, 1)], Err(13));
 
     // One step over eight, eight over eight, none over none.
-    let chain = [1, 1, 1, 1, 1, 1, 1, 1, 0];
-    carry((&[1, 0], &chain, &[0, 8]), &[(1, 7)], Ok(vec![(1, 7); 8]));
-    let ranks: Vec<(u8, u32)> = (1..=8).map(|rank| (1, rank)).collect();
-    let all = [0, 1, 2, 3, 4, 5, 6, 7, 8];
-    carry((&chain, &chain, &all), &ranks, Ok(ranks.clone()));
+    let long_and_short = [vec![2], chain(8), vec![0]].concat();
+    let lane: (&[u8], &[u8], &[u8]) = (&[2, 0, 0], &long_and_short, &[0, 8, 9]);
+    carry(lane, &[(1, 7)], Ok(vec![(1, 7); 8]));
+    let ranks: Vec<(u8, u32)> = (1..=8).map(|rank| (2, rank)).collect();
+    let comb = [[2, 0].repeat(8), vec![0]].concat();
+    let all: Vec<u8> = (0..17).collect();
+    carry((&comb, &comb, &all), &ranks, Ok(ranks.clone()));
     carry((&[0], &[0], &[0]), &[], Ok(vec![]));
     carry((&[0], &[0], &[0]), &[(1, 1)], Err(13));
+
+    // The root, node 3 and node 5 are passed over. The step into node 3 goes on
+    // to node 4, and those of the three give none.
+    let passing: (&[u8], &[u8], &[u8]) = (
+        &[1, 2, 0, 1, 2, 1, 0, 0],
+        &[2, 1, 2, 0, 0, 0],
+        &[255, 0, 5, 255, 2, 255, 4, 3],
+    );
+    carry(passing, &[(1, 9), (1, 4)], Ok(vec![(2, 4)]));
+    carry(
+        passing,
+        &[(1, 9), (2, 4), (1, 8), (1, 3), (1, 7)],
+        Ok(vec![(1, 4), (1, 4), (2, 3)]),
+    );
+    carry(
+        passing,
+        &[(1, 9), (2, 4), (1, 8), (2, 3)],
+        Ok(vec![(1, 4), (1, 4), (1, 3)]),
+    );
+    // The path as drawn is tested, where nodes are passed over too.
+    carry(passing, &[(2, 4)], Err(13));
+    carry(passing, &[(1, 9), (2, 4), (2, 8), (2, 3)], Err(13));
+    carry(passing, &[(1, 9), (2, 4), (1, 8), (1, 3), (1, 7), (1, 1)], Err(13));
+    carry(passing, &[], Err(14));
+    carry(passing, &[(1, 9), (2, 4)], Err(14));
+    carry(passing, &[(1, 9), (2, 4), (1, 8), (1, 3)], Err(14));
+    // Above a lone leaf the chip's ranks are 0.
+    let hut: (&[u8], &[u8], &[u8]) = (&[1, 1, 0], &[2, 0, 1, 1, 0], &[255, 255, 4]);
+    carry(hut, &[(1, 9), (1, 8)], Ok(vec![(2, 0), (1, 0), (1, 0)]));
+    carry(hut, &[(1, 9)], Err(14));
+    carry(hut, &[(1, 9), (2, 8)], Err(13));
+    carry((&[0], &[1, 0], &[1]), &[], Ok(vec![(1, 0)]));
+    carry((&[1, 0], &[0], &[255, 0]), &[(1, 9)], Ok(vec![]));
 
     // Topologies, the source first, then the map, then the path.
     carry((&[2, 0], &[0, 0], &[]), &[(0, 0)], Err(1));
     carry((&[0], &[0, 0], &[]), &[(0, 0)], Err(2));
     carry((&[0], &[0], &[]), &[(0, 0)], Err(6));
+    carry((&[1, 0], &[0], &[0, 1]), &[(0, 0)], Err(26));
     carry((&[0], &[0], &[1]), &[(0, 0)], Err(7));
-    carry((&[1, 0], &[1, 0], &[1, 1]), &[(0, 0)], Err(8));
-    carry((&[1, 0], &[1, 0], &[1, 0]), &[(0, 0)], Err(9));
-    carry((&[1, 0], &[1, 1, 0], &[0, 1]), &[(0, 0)], Err(10));
-    let siblings: (&[u8], &[u8], &[u8]) = (&[2, 0, 1, 0], &[3, 1, 0, 1, 1, 0, 0], &[0, 5, 4, 6]);
+    carry((&[2, 0, 0], &[2, 0, 0], &[1, 1, 2]), &[(0, 0)], Err(8));
+    carry((&[2, 0, 0], &[2, 0, 0], &[1, 0, 2]), &[(0, 0)], Err(9));
+    carry((&[0], &[1, 0], &[0]), &[(0, 0)], Err(10));
+    let siblings: (&[u8], &[u8], &[u8]) = (
+        &[2, 0, 2, 0, 0],
+        &[3, 2, 0, 0, 1, 2, 0, 0, 0],
+        &[0, 7, 4, 6, 8],
+    );
     carry(siblings, &[(0, 0)], Err(11));
     println!("examples: as worked by hand");
 }
@@ -126,7 +168,7 @@ fn plain_path(steps: &[(u8, u32)]) -> PlainPath {
 /// All that comes back: a carried path has zeros past its last step, and a
 /// refused one is as it came. A count above nine reads as nine.
 fn whole_paths() {
-    let (source, target, map) = (&[1, 0], &[1, 1, 0], &[0, 2]);
+    let (source, target, map) = (&[2, 0, 0], &[2, 1, 0, 0], &[0, 2, 3]);
     let path = |count: usize| PlainPath {
         steps: [1, 2, 3, 4, 5, 6, 7, 8, 9].map(|at| PlainStep {
             child: at,
@@ -163,7 +205,7 @@ fn whole_paths() {
         refused(map, count, 13);
     }
     for count in [0, 1, 9, usize::MAX] {
-        refused(&[0, 1], count, 10);
+        refused(&[0, 1, 3], count, 10);
         refused(&[0], count, 6);
     }
     println!("whole paths: as worked by hand");
@@ -184,11 +226,38 @@ fn long_strings() {
     println!("long strings: answered");
 }
 
+/// Every chain into every tree of up to 8 nodes, to each of its leaves: along the
+/// whole chain, one step less and one more. On the chip all ranks are 0.
+fn every_chain(seed: u64) {
+    let mut comparison = Comparison::new(seed);
+    for target in (1..=8).flat_map(all_trees) {
+        let leaves = (0..target.len()).filter(|&place| target[place] == 0);
+        for (nodes, leaf) in leaves.flat_map(|leaf| (1..=10).map(move |nodes| (nodes, leaf))) {
+            let map = [vec![PASSED_OVER; nodes - 1], vec![leaf as u8]].concat();
+            for steps in [nodes.saturating_sub(2), nodes - 1, nodes] {
+                let path = plain_path(&vec![(1, 5); steps]);
+                let carried = comparison.carry(&chain(nodes), &target, &map, &path);
+                if carried.refusal == 0 {
+                    assert!(carried.path.read().iter().all(|step| step.rank == 0));
+                }
+            }
+        }
+    }
+    for answer in [0, 13, 14] {
+        require("a chain", &comparison.answers, (answer, ""));
+    }
+    require("a chain", &comparison.answers, (5, "source"));
+    println!("every chain in every small chip: {} paths", comparison.paths);
+}
+
 /// What is worth to be met besides the answers and the kinds of paths.
-const OCCASIONS: [&str; 3] = [
+const OCCASIONS: [&str; 6] = [
     "carried, with noise behind the steps",
     "refused, with noise behind the steps",
     "refused by 13, with a count above nine",
+    "carried, with nodes passed over",
+    "carried, above a lone leaf",
+    "refused by 13 or 14, with nodes passed over",
 ];
 
 /// Asks both sides, and counts what was met.
@@ -200,8 +269,8 @@ struct Comparison {
     kinds: BTreeMap<&'static str, usize>,
     /// How many paths were carried over to that many steps.
     lengths: BTreeMap<usize, usize>,
-    /// How many paths were carried over to that many steps more.
-    longer_by: BTreeMap<usize, usize>,
+    /// How many paths were carried over to that many steps more, or fewer.
+    longer_by: BTreeMap<isize, usize>,
 }
 
 impl Comparison {
@@ -230,8 +299,11 @@ impl Comparison {
         match maps.last() {
             Some(right) => maps.push(damaged_map(right, &pair, random)),
             None => {
-                let any = |_| random.below(drawn.target.len()) as u8;
-                maps.push((0..drawn.source.len()).map(any).collect());
+                let any = |&children: &u8| match children {
+                    1 => PASSED_OVER,
+                    _ => random.below(drawn.target.len()) as u8,
+                };
+                maps.push(drawn.source.iter().map(any).collect());
             }
         }
         for map in maps {
@@ -294,17 +366,23 @@ impl Comparison {
         let length = carried.path.count;
         if carried.refusal == 0 {
             *self.lengths.entry(length).or_default() += 1;
-            *self.longer_by.entry(length - path.count).or_default() += 1;
+            let longer = length as isize - path.count as isize;
+            *self.longer_by.entry(longer).or_default() += 1;
         }
         let noise = path
             .steps
             .iter()
             .skip(path.count)
             .any(|step| step.child != 0);
+        let passing = source.contains(&1);
+        let lone_leaf = !source.iter().any(|&children| children > 1);
         let met = [
             carried.refusal == 0 && noise,
             carried.refusal != 0 && noise,
             carried.refusal == 13 && path.count > MOST_STEPS,
+            carried.refusal == 0 && passing,
+            carried.refusal == 0 && lone_leaf && length > 0,
+            [13, 14].contains(&carried.refusal) && passing,
         ];
         for (occasion, met) in OCCASIONS.into_iter().zip(met) {
             *self.kinds.entry(occasion).or_default() += usize::from(met);
@@ -325,13 +403,13 @@ impl Comparison {
         }
         println!("how many paths have so many steps on the chip:");
         println!("  {:?}", self.lengths);
-        println!("and so many more than in the source:");
+        println!("and so many more than in the source, or fewer:");
         println!("  {:?}", self.longer_by);
     }
 
     fn require_everything(&self) {
         let of_both = (1..=5).flat_map(|number| [(number, "source"), (number, "target")]);
-        let of_one = [0, 6, 7, 8, 9, 10, 11, 13, 14].map(|number| (number, ""));
+        let of_one = [0, 6, 7, 8, 9, 10, 11, 13, 14, 26].map(|number| (number, ""));
         for answer in of_both.chain(of_one) {
             require("the answer", &self.answers, answer);
         }
@@ -342,7 +420,7 @@ impl Comparison {
         for length in 0..=MOST_STEPS_DOWN {
             require("steps on the chip", &self.lengths, length);
         }
-        for longer in 0..=6 {
+        for longer in -6..=6 {
             require("steps more on the chip", &self.longer_by, longer);
         }
     }

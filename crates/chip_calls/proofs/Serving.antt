@@ -1,4 +1,4 @@
--- The calls on a chip's tree. What is tested first decides, or the tree is refused by 18 where its state is not well formed, by 6 to 11 of the map,
+-- The calls on a chip's tree. What is tested first decides, or the tree is refused by 18 where its state is not well formed, by 6 to 11 or 26 of the map,
 -- or served: the call below goes with its path carried over, and disciplines go by the drawing (`ChipServes`).
 use mathlib.Core.Path.{_≡_, refl, sym, ap, _∙_, subst}
 use mathlib.Core.Logic.{_≢_}
@@ -108,7 +108,7 @@ module _ (source m : List ℕ) (t : Tree) where
       unfolding chipRefusal
       map-chip w = rw (valid, kept-formed source t n e z, w) (sym (map-number w))
 
-      -- refused by 6 to 11, after 18
+      -- refused by 6 to 11 or 26, after 18
       pub map-refused : (k : ℕ) → k ≡ mapFault source (bytes s) m → k ≢ 0 → (q : Request Packet)
           → ChipServes source m t q (refused (pick (wellFormed s) k 18)) t
       map-refused k f y q = by-form (wellFormed s) refl
@@ -189,25 +189,24 @@ module _ (source m : List ℕ) (t : Tree) where
 
       -- ---- a pop, which hands back its way
       pub by-pop : mapFault source (bytes s) m ≡ 0 → (a : Answer Packet) (r : State) (way : Way) (after : Disciplines) → Serves s popping a r → way ≡ wayOf s
-          → after ≡ clocked d (length source) way m → ChipServes source m t (calling popping) a (treeWith r after)
+          → after ≡ clocked d source way m → ChipServes source m t (calling popping) a (treeWith r after)
       unfolding machine
       by-pop p a r way after v f h = by-form (wellFormed s) refl
         where
-          k : after ≡ clocked d (length source) (wayOf s) m
-          k = h ∙ ap (λ (x : Way). clocked d (length source) x m) f
+          k : after ≡ clocked d source (wayOf s) m
+          k = h ∙ ap (λ (x : Way). clocked d source x m) f
 
           learns : (w : wellFormed s ≡ true) (o : Option (Packet × PTree Packet)) → pop (treeOf s) ≡ o
               → after ≡ learnt S d (imageRank m (machine s)) (servePop (machine s) o .0)
-          learns w none q = k ∙ clock-idle s d (length source) m w q
+          learns w none q = k ∙ clock-idle s d source m w q
           learns w (some (x, u)) q =
               let E = passes w p in
               let nodes = valid-size 32 source valid in
-              clock-after S d (wayOf s) m (imageRank m (machine s)) after (omega (arith, E .long))
-              (λ n l. rank-way s (image m n) w (E .within n l))
-              (k ∙ ap (λ (n : ℕ). clocked d n (wayOf s) m) (sym nodes))
+              clock-after source wide d (wayOf s) m (imageRank m (machine s)) after (omega (arith, E .long, nodes))
+              (λ n l kept. rank-way s (image m n) w (E .within n (omega (arith, nodes)) kept)) k
 
           by-form : (w : Bool) → wellFormed s ≡ w → ChipServes source m t (calling popping) a (treeWith r after)
-          by-form false i = ill-call (calling popping) popping a r after i v (k ∙ clock-ill s d (length source) m i)
+          by-form false i = ill-call (calling popping) popping a r after i v (k ∙ clock-ill s d source m i)
           by-form true w =
               by-call w p popping a r after v
               (learns w (pop (treeOf s)) refl ∙ ap (learnt S d (imageRank m (machine s))) (sym (v .answer w)))

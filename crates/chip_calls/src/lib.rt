@@ -32,7 +32,7 @@ fn map_fault(source: &[u8], target: &[u8], map: &[u8], after: u8) -> u8
 }
 
 // Pushes a packet along a path of the drawing, carried over, which enters its ranks as given and alters no finish: 1 to 5 of the source are
-// tested, 18, 6 to 11, then 13 and 14 by the source, and 15.
+// tested, 18, 6, 26, 7 to 11, then 13 and 14 by the source, and 15.
 pub fn push(source: &[u8], map: &[u8], tree: Tree, path: Path, packet: Packet) -> TreeServed
     ensures { λ r. ⌜ ChipServes (now (source .entry)) (now (map .entry)) tree (calling (pushing (stepsOf path) (path .«leaf_rank») packet)) (answerOf (r .answer)) (r .tree) ⌝ }
 {
@@ -72,7 +72,7 @@ pub fn push(source: &[u8], map: &[u8], tree: Tree, path: Path, packet: Packet) -
 }
 
 // Pushes a packet to a leaf of the drawing, with its class and its length, by the ranks that the disciplines give: 1 to 5 of the source are
-// tested, 18, 6 to 11, then 25 by the source, 15 and 23.
+// tested, 18, 6, 26, 7 to 11, then 25 by the source, 15 and 23.
 pub fn push_to_leaf(
     source: &[u8],
     map: &[u8],
@@ -152,7 +152,7 @@ pub fn push_to_leaf(
 }
 
 // Pops the packet at the head; the virtual time of a source node becomes the rank that the pop took at its image: 1 to 5 of the source are
-// tested, 18, 6 to 11, then 16.
+// tested, 18, 6, 26, 7 to 11, then 16.
 pub fn pop(source: &[u8], map: &[u8], tree: Tree) -> TreeServed
     ensures { λ r. ⌜ ChipServes (now (source .entry)) (now (map .entry)) tree (calling popping) (answerOf (r .answer)) (r .tree) ⌝ }
 {
@@ -185,7 +185,7 @@ pub fn pop(source: &[u8], map: &[u8], tree: Tree) -> TreeServed
     TreeServed {
         tree: Tree {
             state: after,
-            disciplines: after_pop(disciplines, source.len(), way, map),
+            disciplines: after_pop(disciplines, source, way, map),
         },
         answer,
     }

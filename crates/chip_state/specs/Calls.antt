@@ -11,7 +11,7 @@ use Rattle.tree_state.specs.Calls.{wellKept, Schedules}
 use Rattle.tree_state.specs.declared.Tree.{Tree}
 
 -- The number by which a call is refused before anything of its own is tested: 1 to 5 of the drawing; 18 where the tree is not well formed by it;
--- 6 to 11 of the map between the drawing and the chip's own topology.
+-- 6, 26, 7 to 11 of the map between the drawing and the chip's own topology.
 unfoldable pub chipRefusal : List ℕ → List ℕ → Tree → ℕ
 chipRefusal source m t =
     let mapped = listFault source (bytes (t .state)) m in

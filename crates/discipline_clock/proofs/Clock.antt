@@ -1,20 +1,21 @@
 -- The virtual times by a way are those of the definition: a way has the rank that a pop takes at each node (`rank-way`), so what `after_pop`
 -- answers is `afterPop` (`clock-after`).
-use mathlib.Core.Path.{_≡_, refl, sym, ap, _∙_}
+use mathlib.Core.Path.{_≡_, refl, sym, ap, ap₂, _∙_}
+use mathlib.Core.Logic.{_≢_}
 use Prim.Native.Nat.{ℕ, zero, suc, _+_, _-_, _≤_, _<_}
 use native.Mathlib.Nat.{not-suc-le-zero, le-of-suc-le-suc, zero-add, add-zero}
 use native.Mathlib.Omega.{arith}
 use mathlib.Core.List.{List, [], _∷_, map}
 use mathlib.Core.Bool.{Bool, true, false}
 use mathlib.Core.Option.{Option, none, some}
-use lib.ListN.{length, getD, take, replicate, length-map}
+use lib.ListN.{length, getD, replicate, length-map}
 use lib.Seq.{take-at}
 use lib.Dec.{eqb}
 use borrow.Author.Tests.{lt-ltb, le-ltb}
-use Rattle.topology.specs.Tree.{Topo, size}
-use Rattle.topology.specs.Address.{addr}
-use Rattle.topology.specs.Reader.{pick, tree}
-use Rattle.topology.proofs.Lookup.{valid-size, valid-length}
+use Rattle.topology.specs.Tree.{Topo, width, size}
+use Rattle.topology.specs.Address.{addr, subtree}
+use Rattle.topology.specs.Reader.{pick, fault, tree}
+use Rattle.topology.proofs.Lookup.{valid-size, valid-length, valid-width}
 use Rattle.pifo.specs.Queue.{Rank, Entry, child, packet, entry}
 use Rattle.pifo.specs.Tree.{shape}
 use Rattle.pifo.specs.Way.{Taken, taken, way, takes}
@@ -25,10 +26,11 @@ use Rattle.queue_state.specs.declared.State.{State}
 use Rattle.queue_state.proofs.Formed.{formed}
 use Rattle.queue_pop.specs.Ways.{codeTaken, noTaken, wayFrom, wayOf}
 use Rattle.queue_pop.specs.declared.Way.{Way}
-use Rattle.disciplines.specs.Figure.{weighted, kindAt, lastOf, timesAfter, afterPop}
+use Rattle.disciplines.specs.Figure.{weighted, kindAt, actsBy, keepsTime, lastOf, timesAfter, afterPop}
 use Rattle.disciplines.specs.Scheduler.{rankOf, rankAt}
 use Rattle.disciplines.specs.declared.Rule.{Rule}
 use Rattle.disciplines.specs.declared.Disciplines.{Disciplines}
+use Rattle.disciplines.proofs.Times.{keeps-kept}
 use Rattle.discipline_clock.specs.Clock.{rankAmong, rankIn, timesBy, withTimes, clocked, numbersFrom, ownImages}
 
 -- ---- the rank that a way has
@@ -79,27 +81,39 @@ module _ (t : Topo) (rules : List Rule) (at : ℕ → Option Rank) where
   times-past k [] h = refl
   times-past k (v ∷ vs) h = rw (le-ltb k (size t) h) (ap (λ (ys : List Rank). v ∷ ys) (times-past (suc k) vs (omega arith)))
 
-  -- the n nodes from node k on, whose images are the first n of l
-  times-same : (of : ℕ → Option Rank) (k n : ℕ) (l : List ℕ) (vs : List Rank) → k + n ≡ size t → n ≤ length l
-      → ((i : ℕ) → i < n → of (getD l i 0) ≡ at (k + i)) → timesBy rules of k (take n l) vs ≡ timesAfter t rules at k vs
-  times-same of k zero l vs e h f = times-past k vs (omega arith)
-  times-same of k (suc n) [] vs e h f = absurd (not-suc-le-zero h)
-  times-same of k (suc n) (a ∷ l) [] e h f = refl
-  times-same of k (suc n) (a ∷ l) (v ∷ vs) e h f =
-      let below : (i : ℕ) → i < n → of (getD l i 0) ≡ at (suc k + i) =
-      λ i g. let m : k + suc i ≡ suc k + i = omega arith in rw m at (f (suc i) (omega arith)) in
-      let first : of a ≡ at k = rw (add-zero k) at (f 0 (omega arith)) in
-      rw (lt-ltb k (size t) (omega arith), first)
-      (ap (λ (ys : List Rank). pick (eqb (kindAt rules k) weighted) (lastOf (at k) v) v ∷ ys)
-      (times-same of (suc k) n l vs (omega arith) (le-of-suc-le-suc h) below))
+  -- the nodes from node k on, whose bytes are bs; l has the images of the kept ones
+  times-alike : (of : ℕ → Option Rank) (k : ℕ) (bs l : List ℕ) (vs : List Rank) → k + length bs ≡ size t → length bs ≤ length l
+      → ((i : ℕ) → i < length bs → width (subtree t (k + i)) ≡ getD bs i 0)
+      → ((i : ℕ) → i < length bs → width (subtree t (k + i)) ≢ 1 → of (getD l i 0) ≡ at (k + i))
+      → timesBy rules of k bs l vs ≡ timesAfter t rules at k vs
+  times-alike of k [] l vs e h w f = times-past k vs (omega arith)
+  times-alike of k (b ∷ bs) [] vs e h w f = absurd (not-suc-le-zero h)
+  times-alike of k (b ∷ bs) (a ∷ l) [] e h w f = refl
+  times-alike of k (b ∷ bs) (a ∷ l) (v ∷ vs) e h w f =
+      let next : (i : ℕ) → k + suc i ≡ suc k + i = λ i. omega arith in
+      let rest = times-alike of (suc k) bs l vs (omega arith) (le-of-suc-le-suc h)
+      (λ i g. rw (next i) at (w (suc i) (omega arith)))
+      (λ i g. rw (next i) at (f (suc i) (omega arith))) in
+      let width-is : width (subtree t k) ≡ b = rw (add-zero k) at (w 0 (omega arith)) in
+      let first : width (subtree t k) ≢ 1 → of a ≡ at k = rw (add-zero k) at (f 0 (omega arith)) in
+      let keeps : eqb (actsBy b (kindAt rules k)) weighted ≡ keepsTime t rules k = rw (lt-ltb k (size t) (omega arith), width-is) in
+      ap₂ (λ (x : Rank) (xs : List Rank). x ∷ xs)
+      (ap (λ (c : Bool). pick c (lastOf (of a) v) v) keeps ∙ by-node first (keepsTime t rules k) refl) rest
+    where
+      by-node : (width (subtree t k) ≢ 1 → of a ≡ at k) → (c : Bool) → keepsTime t rules k ≡ c → pick c (lastOf (of a) v) v ≡ pick c (lastOf (at k) v) v
+      by-node first true q = ap (λ (r : Option Rank). lastOf r v) (first (keeps-kept t rules k q .1))
+      by-node first false q = refl
 
--- The answer of `after_pop` is the definition's, where the way has at the image of each node the rank that was popped there.
-pub clock-after : (t : Topo) (d : Disciplines) (w : Way) (images : List ℕ) (at : ℕ → Option Rank) (r : Disciplines) → size t ≤ length images
-    → ((n : ℕ) → n < size t → rankIn w (getD images n 0) ≡ at n) → r ≡ clocked d (size t) w images → r ≡ afterPop t d at
-clock-after t d w images at r h f e =
+-- The answer of `after_pop` is the definition's, where the way has at the image of each kept node the rank that was popped there.
+pub clock-after : (bs : List ℕ) (valid : fault 64 bs ≡ 0) (d : Disciplines) (w : Way) (images : List ℕ) (at : ℕ → Option Rank) (r : Disciplines)
+    → length bs ≤ length images → ((n : ℕ) → n < length bs → width (subtree (tree bs) n) ≢ 1 → rankIn w (getD images n 0) ≡ at n)
+    → r ≡ clocked d bs w images → r ≡ afterPop (tree bs) d at
+clock-after bs valid d w images at r h f e =
     e
     ∙ ap (withTimes d)
-    (times-same t (d .rules) at (rankIn w) 0 (size t) images (d .«virtual_time») (zero-add (size t)) h (λ n g. rw (zero-add n) (f n g)))
+    (times-alike (tree bs) (d .rules) at (rankIn w) 0 bs images (d .«virtual_time») (zero-add (length bs) ∙ sym (valid-size 64 bs valid)) h
+    (λ n g. rw (zero-add n) (valid-width 64 bs valid n g))
+    (λ n g. rw (zero-add n) (f n g)))
 
 -- ---- a tree by itself
 
@@ -113,10 +127,11 @@ number-at n (suc k) zero h = sym (add-zero n)
 number-at n (suc k) (suc i) h = omega (arith, number-at (suc n) k i (le-of-suc-le-suc h))
 
 -- With its own images the answer is the definition's for its own drawing and its own machine.
-pub clock-own : (s : State) (d r : Disciplines) → wellFormed s ≡ true → r ≡ clocked d (size (tree (bytes s))) (wayOf s) ownImages
+pub clock-own : (s : State) (d r : Disciplines) → wellFormed s ≡ true → r ≡ clocked d (bytes s) (wayOf s) ownImages
     → r ≡ afterPop (tree (bytes s)) d (rankAt (machine s))
 clock-own s d r w e =
     let valid = formed s w .valid in
-    let fits : size (tree (bytes s)) ≤ 64 = omega (arith, valid-size 64 (bytes s) valid, valid-length 64 (bytes s) valid) in
-    clock-after (tree (bytes s)) d (wayOf s) ownImages (rankAt (machine s)) r (omega (arith, length-numbers 0 64))
-    (λ n h. ap (rankIn (wayOf s)) (number-at 0 64 n (omega arith) ∙ zero-add n) ∙ rank-way s n w h) e
+    let fits = valid-length 64 (bytes s) valid in
+    clock-after (bytes s) valid d (wayOf s) ownImages (rankAt (machine s)) r (omega (arith, length-numbers 0 64))
+    (λ n h kept.
+    ap (rankIn (wayOf s)) (number-at 0 64 n (omega arith) ∙ zero-add n) ∙ rank-way s n w (omega (arith, valid-size 64 (bytes s) valid))) e

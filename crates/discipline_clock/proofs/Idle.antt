@@ -4,7 +4,6 @@ use Prim.Native.Nat.{ℕ, suc}
 use mathlib.Core.List.{List, [], _∷_}
 use mathlib.Core.Bool.{Bool, true, false}
 use mathlib.Core.Option.{none}
-use lib.ListN.{take}
 use lib.Dec.{eqb}
 use Rattle.topology.specs.Reader.{pick}
 use Rattle.pifo.specs.Queue.{Rank}
@@ -17,33 +16,34 @@ use Rattle.queue_state.specs.declared.State.{State}
 use Rattle.queue_state.proofs.Formed.{formed}
 use Rattle.queue_pop.specs.Ways.{wayFrom, wayOf}
 use Rattle.queue_pop.specs.declared.Way.{Way}
-use Rattle.disciplines.specs.Figure.{weighted, kindAt}
+use Rattle.disciplines.specs.Figure.{weighted, kindAt, actsBy}
 use Rattle.disciplines.specs.declared.Rule.{Rule}
 use Rattle.disciplines.specs.declared.Disciplines.{Disciplines}
 use Rattle.discipline_clock.specs.Clock.{timesBy, withTimes, clocked}
 
-times-none : (rules : List Rule) (n : ℕ) (l : List ℕ) (vs : List Rank) → timesBy rules (λ _. none) n l vs ≡ vs
-times-none rules n [] vs = refl
-times-none rules n (a ∷ l) [] = refl
-times-none rules n (a ∷ l) (v ∷ vs) = by-kind (eqb (kindAt rules n) weighted) (times-none rules (suc n) l vs)
+times-none : (rules : List Rule) (n : ℕ) (bs l : List ℕ) (vs : List Rank) → timesBy rules (λ _. none) n bs l vs ≡ vs
+times-none rules n [] l vs = refl
+times-none rules n (b ∷ bs) [] vs = refl
+times-none rules n (b ∷ bs) (a ∷ l) [] = refl
+times-none rules n (b ∷ bs) (a ∷ l) (v ∷ vs) = by-kind (eqb (actsBy b (kindAt rules n)) weighted) (times-none rules (suc n) bs l vs)
   where
-    by-kind : (b : Bool) → timesBy rules (λ _. none) (suc n) l vs ≡ vs → pick b v v ∷ timesBy rules (λ _. none) (suc n) l vs ≡ v ∷ vs
+    by-kind : (w : Bool) → timesBy rules (λ _. none) (suc n) bs l vs ≡ vs → pick w v v ∷ timesBy rules (λ _. none) (suc n) bs l vs ≡ v ∷ vs
     by-kind true e = ap (λ (x : List Rank). v ∷ x) e
     by-kind false e = ap (λ (x : List Rank). v ∷ x) e
 
-empty-way : (d : Disciplines) (nodes : ℕ) (w : Way) (images : List ℕ) → w ≡ wayFrom 0 [] → clocked d nodes w images ≡ d
-empty-way d nodes w images e =
-    ap (λ (x : Way). clocked d nodes x images) e ∙ ap (withTimes d) (times-none (d .rules) 0 (take nodes images) (d .«virtual_time»))
+empty-way : (d : Disciplines) (bs : List ℕ) (w : Way) (images : List ℕ) → w ≡ wayFrom 0 [] → clocked d bs w images ≡ d
+empty-way d bs w images e =
+    ap (λ (x : Way). clocked d bs x images) e ∙ ap (withTimes d) (times-none (d .rules) 0 bs images (d .«virtual_time»))
 
-module _ (s : State) (d : Disciplines) (nodes : ℕ) (images : List ℕ) where
-  pub clock-ill : wellFormed s ≡ false → clocked d nodes (wayOf s) images ≡ d
+module _ (s : State) (d : Disciplines) (bs images : List ℕ) where
+  pub clock-ill : wellFormed s ≡ false → clocked d bs (wayOf s) images ≡ d
   unfolding wayOf
-  clock-ill f = empty-way d nodes (wayOf s) images (ap (λ (b : Bool). wayFrom 0 (pick b (way (treeOf s) 0) [])) f)
+  clock-ill f = empty-way d bs (wayOf s) images (ap (λ (b : Bool). wayFrom 0 (pick b (way (treeOf s) 0) [])) f)
 
-  pub clock-idle : wellFormed s ≡ true → pop (treeOf s) ≡ none → clocked d nodes (wayOf s) images ≡ d
+  pub clock-idle : wellFormed s ≡ true → pop (treeOf s) ≡ none → clocked d bs (wayOf s) images ≡ d
   unfolding wayOf
   clock-idle w e =
       let well = formed s w .tree in
       let nothing = none-way (treeOf s) 0 well (pop-none (treeOf s) well e) in
-      empty-way d nodes (wayOf s) images
+      empty-way d bs (wayOf s) images
       (ap (λ (b : Bool). wayFrom 0 (pick b (way (treeOf s) 0) [])) w ∙ ap (wayFrom 0) nothing)

@@ -8,14 +8,14 @@ use native.Mathlib.Omega.{arith}
 use mathlib.Core.List.{List, [], _∷_, _++_}
 use mathlib.Core.Option.{Option}
 use lib.ListN.{length, getD, set, take, drop, length-take, drop-of-length-le}
-use lib.Seq.{take-all, drop-cons, set-getD, take-suc-set, getD-take}
+use lib.Seq.{take-nil, take-all, drop-cons, set-getD, take-suc-set, getD-take}
 use lib.Dec.{eqb}
 use borrow.Author.Tests.{eq-eqb, ne-eqb}
 use Rattle.topology.specs.Reader.{pick}
 use Rattle.pifo.specs.Queue.{Rank}
 use Rattle.queue_pop.specs.Ways.{noTaken}
 use Rattle.queue_pop.specs.declared.Taken.{Taken}
-use Rattle.disciplines.specs.Figure.{weighted, kindAt, lastOf}
+use Rattle.disciplines.specs.Figure.{weighted, kindAt, actsBy, lastOf}
 use Rattle.disciplines.specs.declared.Rule.{Rule}
 use Rattle.discipline_clock.specs.Clock.{rankAmong, timesBy, numbersFrom, ownImages}
 
@@ -43,52 +43,54 @@ module _ (node count : ℕ) (ps : List Taken) (time : Rank) (i : ℕ) where
 
 module _ (rules : List Rule) (at : ℕ → Option Rank) where
   -- the next node's is still the old one
-  times-kept : (k n : ℕ) (l : List ℕ) (vs : List Rank) → getD (timesBy rules at k (take n l) vs) n 0 ≡ getD vs n 0
-  times-kept k zero l vs = refl
-  times-kept k (suc n) [] vs = refl
-  times-kept k (suc n) (a ∷ l) [] = refl
-  times-kept k (suc n) (a ∷ l) (v ∷ vs) = times-kept (suc k) n l vs
+  times-kept : (k n : ℕ) (bs l : List ℕ) (vs : List Rank) → getD (timesBy rules at k (take n bs) l vs) n 0 ≡ getD vs n 0
+  times-kept k zero bs l vs = refl
+  times-kept k (suc n) [] l vs = refl
+  times-kept k (suc n) (b ∷ bs) [] vs = refl
+  times-kept k (suc n) (b ∷ bs) (a ∷ l) [] = refl
+  times-kept k (suc n) (b ∷ bs) (a ∷ l) (v ∷ vs) = times-kept (suc k) n bs l vs
 
   -- one node more
-  times-set : (k n : ℕ) (l : List ℕ) (vs : List Rank) (x : Rank) → n < length l → n < length vs
-      → x ≡ pick (eqb (kindAt rules (k + n)) weighted) (lastOf (at (getD l n 0)) (getD vs n 0)) (getD vs n 0)
-      → set (timesBy rules at k (take n l) vs) n x ≡ timesBy rules at k (take (suc n) l) vs
-  times-set k n [] vs x h g e = absurd (not-suc-le-zero h)
-  times-set k n (a ∷ l) [] x h g e = absurd (not-suc-le-zero g)
-  times-set k zero (a ∷ l) (v ∷ vs) x h g e = ap (λ (y : Rank). y ∷ vs) (rw (add-zero k) at e)
-  times-set k (suc n) (a ∷ l) (v ∷ vs) x h g e =
+  times-set : (k n : ℕ) (bs l : List ℕ) (vs : List Rank) (x : Rank) → n < length bs → n < length l → n < length vs
+      → x ≡ pick (eqb (actsBy (getD bs n 0) (kindAt rules (k + n))) weighted) (lastOf (at (getD l n 0)) (getD vs n 0)) (getD vs n 0)
+      → set (timesBy rules at k (take n bs) l vs) n x ≡ timesBy rules at k (take (suc n) bs) l vs
+  times-set k n [] l vs x i h g e = absurd (not-suc-le-zero i)
+  times-set k n (b ∷ bs) [] vs x i h g e = absurd (not-suc-le-zero h)
+  times-set k n (b ∷ bs) (a ∷ l) [] x i h g e = absurd (not-suc-le-zero g)
+  times-set k zero (b ∷ bs) (a ∷ l) (v ∷ vs) x i h g e = ap (λ (y : Rank). y ∷ vs) (rw (add-zero k) at e)
+  times-set k (suc n) (b ∷ bs) (a ∷ l) (v ∷ vs) x i h g e =
       let m : k + suc n ≡ suc k + n = omega arith in
-      ap (λ (ys : List Rank). pick (eqb (kindAt rules k) weighted) (lastOf (at a) v) v ∷ ys)
-      (times-set (suc k) n l vs x (le-of-suc-le-suc h) (le-of-suc-le-suc g) (rw m at e))
+      ap (λ (ys : List Rank). pick (eqb (actsBy b (kindAt rules k)) weighted) (lastOf (at a) v) v ∷ ys)
+      (times-set (suc k) n bs l vs x (le-of-suc-le-suc i) (le-of-suc-le-suc h) (le-of-suc-le-suc g) (rw m at e))
 
-  module _ (n : ℕ) (l : List ℕ) (vs now : List Rank) (h : n < length l) (g : n < length vs) (e : now ≡ timesBy rules at 0 (take n l) vs) where
+  module _ (n : ℕ) (bs l : List ℕ) (vs now : List Rank) (i : n < length bs) (h : n < length l) (g : n < length vs)
+      (e : now ≡ timesBy rules at 0 (take n bs) l vs) (acts : ℕ) (q : acts ≡ actsBy (getD bs n 0) (kindAt rules n)) where
     old : getD now n 0 ≡ getD vs n 0
-    old = rw e (times-kept 0 n l vs)
+    old = rw e (times-kept 0 n bs l vs)
 
-    next : (x : Rank) → x ≡ pick (eqb (kindAt rules n) weighted) (lastOf (at (getD l n 0)) (getD now n 0)) (getD now n 0)
-        → set now n x ≡ timesBy rules at 0 (take (n + 1) l) vs
-    next x f = rw (e, add-one) (times-set 0 n l vs x h g (rw (zero-add n) (rw old at f)))
+    next : (x : Rank) → x ≡ pick (eqb acts weighted) (lastOf (at (getD l n 0)) (getD now n 0)) (getD now n 0)
+        → set now n x ≡ timesBy rules at 0 (take (n + 1) bs) l vs
+    next x f = rw (e, add-one) (times-set 0 n bs l vs x i h g (rw (zero-add n) (rw (old, q) at f)))
 
-    pub times-weighted : (x : Rank) → kindAt rules n ≡ weighted → x ≡ lastOf (at (getD l n 0)) (getD now n 0)
-        → set now n x ≡ timesBy rules at 0 (take (n + 1) l) vs
+    pub times-weighted : (x : Rank) → acts ≡ weighted → x ≡ lastOf (at (getD l n 0)) (getD now n 0)
+        → set now n x ≡ timesBy rules at 0 (take (n + 1) bs) l vs
     times-weighted x k f = next x (rw k f)
 
-    pub times-plain : kindAt rules n ≢ weighted → now ≡ timesBy rules at 0 (take (n + 1) l) vs
-    times-plain k = sym (set-getD now n 0) ∙ next (getD now n 0) (rw (ne-eqb (kindAt rules n) weighted k))
+    pub times-plain : acts ≢ weighted → now ≡ timesBy rules at 0 (take (n + 1) bs) l vs
+    times-plain k = sym (set-getD now n 0) ∙ next (getD now n 0) (rw (ne-eqb acts weighted k))
 
-  -- the end: the last node is reached, the last image or the last place
-  pub times-all : (k n nodes : ℕ) (l : List ℕ) (vs : List Rank) → n ≤ nodes → (n < nodes → n < length l → n < length vs → ⊥)
-      → timesBy rules at k (take n l) vs ≡ timesBy rules at k (take nodes l) vs
-  times-all k zero zero l vs h o = refl
-  times-all k zero (suc nodes) [] vs h o = refl
-  times-all k zero (suc nodes) (a ∷ l) [] h o = refl
-  times-all k zero (suc nodes) (a ∷ l) (v ∷ vs) h o = absurd (o (omega arith) (omega arith) (omega arith))
-  times-all k (suc n) zero l vs h o = absurd (not-suc-le-zero h)
-  times-all k (suc n) (suc nodes) [] vs h o = refl
-  times-all k (suc n) (suc nodes) (a ∷ l) [] h o = refl
-  times-all k (suc n) (suc nodes) (a ∷ l) (v ∷ vs) h o =
-      ap (λ (ys : List Rank). pick (eqb (kindAt rules k) weighted) (lastOf (at a) v) v ∷ ys)
-      (times-all (suc k) n nodes l vs (le-of-suc-le-suc h) (λ x y z. o (omega arith) (omega arith) (omega arith)))
+  -- the end: the last byte is reached, the last image or the last place
+  pub times-all : (k n : ℕ) (bs l : List ℕ) (vs : List Rank) → (n < length bs → n < length l → n < length vs → ⊥)
+      → timesBy rules at k (take n bs) l vs ≡ timesBy rules at k bs l vs
+  times-all k n [] l vs o = rw (take-nil n)
+  times-all k zero (b ∷ bs) [] vs o = refl
+  times-all k zero (b ∷ bs) (a ∷ l) [] o = refl
+  times-all k zero (b ∷ bs) (a ∷ l) (v ∷ vs) o = absurd (o (omega arith) (omega arith) (omega arith))
+  times-all k (suc n) (b ∷ bs) [] vs o = refl
+  times-all k (suc n) (b ∷ bs) (a ∷ l) [] o = refl
+  times-all k (suc n) (b ∷ bs) (a ∷ l) (v ∷ vs) o =
+      ap (λ (ys : List Rank). pick (eqb (actsBy b (kindAt rules k)) weighted) (lastOf (at a) v) v ∷ ys)
+      (times-all (suc k) n bs l vs (λ x y z. o (omega arith) (omega arith) (omega arith)))
 
 -- ---- the numbers from 0 on
 

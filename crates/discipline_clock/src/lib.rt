@@ -1,7 +1,8 @@
-// Virtual times after a pop (paper 02, 2.1): at a weighted node the rank last popped there.
+// Virtual times after a pop (paper 02, 2.1): at a weighted node the rank last popped there. A node that is passed over keeps none (2.2).
 use disciplines::Disciplines;
 use disciplines::Rule;
 use disciplines::WEIGHTED;
+use disciplines::acting;
 use queue_pop::Taken;
 use queue_pop::Way;
 use queue_state::Rank;
@@ -28,28 +29,28 @@ fn last_rank(taken: [Taken; 9], count: usize, node: u8, time: Rank) -> Rank
     time
 }
 
-// The virtual times of the first `nodes` nodes anew.
+// The virtual times of the nodes of a drawing anew.
 fn times_after(
     rules: [Rule; 64],
     times: [Rank; 64],
-    nodes: usize,
+    bytes: &[u8],
     way: Way,
     images: &[u8],
 ) -> [Rank; 64]
-    ensures { λ r. ⌜ r ≡ timesBy rules (rankIn way) 0 (take nodes (now (images .entry))) times ⌝ }
+    ensures { λ r. ⌜ r ≡ timesBy rules (rankIn way) 0 (now (bytes .entry)) (now (images .entry)) times ⌝ }
 {
     let taken = way.taken;
     let count = way.count;
     let mut after = times;
     let mut n = 0;
-    while n < nodes {
+    while n < bytes.len() {
         if images.len() <= n {
             return after;
         }
         if TARGET_NODES <= n {
             return after;
         }
-        if rules[n].discipline == WEIGHTED {
+        if acting(bytes[n], rules[n].discipline) == WEIGHTED {
             after[n] = last_rank(taken, count, images[n], after[n]);
         }
         n += 1;
@@ -57,14 +58,14 @@ fn times_after(
     after
 }
 
-// The disciplines of a drawing of so many nodes after a pop: at each weighted node the virtual time is the rank that `way` has at the node's
-// image, if it has one there.
-pub fn after_pop(disciplines: Disciplines, nodes: usize, way: Way, images: &[u8]) -> Disciplines
-    ensures { λ r. ⌜ r ≡ clocked disciplines nodes way (now (images .entry)) ⌝ }
+// The disciplines of a drawing after a pop: at each node that acts as weighted the virtual time is the rank that `way` has at the node's image, if it
+// has one there.
+pub fn after_pop(disciplines: Disciplines, bytes: &[u8], way: Way, images: &[u8]) -> Disciplines
+    ensures { λ r. ⌜ r ≡ clocked disciplines (now (bytes .entry)) way (now (images .entry)) ⌝ }
 {
     let rules = disciplines.rules;
     let times = disciplines.virtual_time;
-    let virtual_time = times_after(rules, times, nodes, way, images);
+    let virtual_time = times_after(rules, times, bytes, way, images);
     let finish = disciplines.finish;
     Disciplines {
         rules,

@@ -3,10 +3,11 @@
 use mathlib.Core.Path.{_≡_, refl, sym, ap, ap₂, _∙_, subst}
 use mathlib.Core.Logic.{_≢_}
 use Prim.Native.Nat.{ℕ, _≤_, _<_}
+use native.Mathlib.Decide.{decLt}
 use native.Mathlib.Omega.{arith}
 use mathlib.Core.List.{List, [], _∷_, _++_, append-nil, append-assoc}
 use mathlib.Core.Bool.{Bool, true, false, _&&_}
-use lib.ListN.{length, drop, length-append}
+use lib.ListN.{length, drop, getD, length-append}
 use lib.Dec.{eqb, ltb}
 use borrow.Author.Tests.{ltb-true}
 use Rattle.topology.specs.Tree.{Topo, width, size}
@@ -15,11 +16,11 @@ use Rattle.topology.specs.Reader.{fault, tree}
 use Rattle.topology.specs.Branch.{towardAt}
 use Rattle.topology.specs.declared.Toward.{Toward}
 use Rattle.topology.specs.declared.Toward.the-variants.{Child, Nowhere}
-use Rattle.topology.proofs.Cases.{toward-between}
+use Rattle.topology.proofs.Cases.{clash, toward-out, toward-between}
 use Rattle.topology.proofs.Numbering.{addr-root, addr-in}
 use Rattle.topology.proofs.Ancestry.{size-pos, in-height}
 use Rattle.topology.proofs.Children.{childOf-lt, depth-childOf, route-self, route-step}
-use Rattle.topology.proofs.Lookup.{valid-size, valid-length, IsToward, Leads, valid-toward}
+use Rattle.topology.proofs.Lookup.{valid-size, valid-length, valid-width, IsToward, Leads, valid-toward}
 use Rattle.topology.proofs.Reader.{within}
 use Rattle.pifo.specs.Queue.{Rank}
 use Rattle.pifo.proofs.Order.{both}
@@ -27,7 +28,7 @@ use Rattle.pifo.specs.Tree.{Step, step}
 use Rattle.queue_push.specs.Calls.{stepsOf, pathOf, Plain}
 use Rattle.queue_push.specs.declared.Path.{Path}
 use Rattle.queue_push.proofs.Paths.{steps-path, path-more}
-use Rattle.disciplines.specs.Figure.{kindAt, start, finish, rankBy, finishBy, fitsBy, stepsDown, finishesDown, fitsDown}
+use Rattle.disciplines.specs.Figure.{kindAt, actsBy, actsAt, start, finish, rankBy, finishBy, fitsBy, stepsDown, finishesDown, fitsDown}
 use Rattle.disciplines.specs.Scheduler.{isLeaf}
 use Rattle.disciplines.specs.declared.Disciplines.{Disciplines}
 use Rattle.discipline_path.specs.Plans.{Planned}
@@ -101,9 +102,9 @@ module _ (bytes : List ℕ) (valid : fault 64 bytes ≡ 0) (d : Disciplines) (le
         }
 
     -- one step down, to the child toward the leaf
-    module _ (i c : ℕ) (o : IsToward t node leaf i c) (r : Plan) (z : StepsDown d node c i class len p r) where
+    module _ (i c : ℕ) (o : IsToward t node leaf i c) (r : Plan) (z : StepsDown d (actsAt t (d .rules) node) node c i class len p r) where
       abbrev k : ℕ
-      k = kindAt (d .rules) node
+      k = actsAt t (d .rules) node
 
       way : route t node leaf ≡ i ∷ route t c leaf
       way =
@@ -198,9 +199,18 @@ module _ (bytes : List ℕ) (d : Disciplines) (leaf class len : ℕ) where
         pub walking-down : (node < c) × (c ≤ leaf)
         walking-down = toward-between bytes node leaf i c (sym e ∙ q)
 
-        pub walking-next : (r : Plan) → StepsDown d node c i class len p r → Walking c r
+        pub walking-inside : node < length bytes
+        walking-inside = by-length (decLt node (length bytes))
+          where
+            by-length : Dec (node < length bytes) → node < length bytes
+            by-length (yes h) = h
+            by-length (no h) = let out = toward-out bytes node leaf (omega arith) in absurd (clash (cc))
+
+        pub walking-next : (r : Plan) → StepsDown d (actsBy (getD bytes node 0) (kindAt (d .rules) node)) node c i class len p r → Walking c r
         walking-next r z =
             record {
               low = walking-down .1;
-              plans = λ f is. planning-next bytes f d leaf class len l node p (w .plans f is) i c (subst (Leads (tree bytes) node leaf) q (leads f is)) r z;
+              plans = λ f is.
+                  planning-next bytes f d leaf class len l node p (w .plans f is) i c (subst (Leads (tree bytes) node leaf) q (leads f is)) r
+                  (rw (valid-width 64 bytes f node walking-inside) z);
             }

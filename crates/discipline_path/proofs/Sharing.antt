@@ -1,5 +1,5 @@
 -- What each discipline gives, case by case, as `share_of` returns it.
-use mathlib.Core.Path.{_≡_, refl, sym, ap, _∙_}
+use mathlib.Core.Path.{_≡_, refl, sym, ap, _∙_, subst}
 use mathlib.Core.Logic.{_≢_}
 use Prim.Native.Nat.{ℕ, _+_, _-_, _*_, _/_, _≤_, _<_, div·zero}
 use native.Mathlib.Decide.{ℕ-discrete}
@@ -10,7 +10,7 @@ use lib.ListN.{set}
 use borrow.Author.Tests.{eq-eqb, ne-eqb, le-leb, lt-leb}
 use Rattle.pifo.specs.Queue.{Rank}
 use Rattle.queue_state.proofs.Formed.{off}
-use Rattle.disciplines.specs.Figure.{weighted, kindAt, weightAt, start, finish, mostFinish, finishBy}
+use Rattle.disciplines.specs.Figure.{weighted, weightAt, start, finish, mostFinish, finishBy}
 use Rattle.disciplines.specs.declared.Disciplines.{Disciplines}
 use Rattle.queue_push.specs.Calls.{extendedBy}
 use Rattle.discipline_path.specs.Shares.{Shares, StepsDown}
@@ -59,23 +59,23 @@ pub finish-stays : (k c f : ℕ) (fs : List Rank) → k ≢ 2 → fs ≡ finishB
 finish-stays k c f fs n = rw (ne-eqb k 2 n) refl
 
 -- what `step_down` returns, by what the functions under it do
-pub stepped : (d : Disciplines) (n c i class len : ℕ) (p r : Plan) (s : Share)
-    → Shares (kindAt (d .rules) n) (start d n c) ((len * 256) / weightAt (d .rules) c) class s
-    → r .path ≡ extendedBy (p .path) i (s .rank) → r .finish ≡ finishBy (kindAt (d .rules) n) c (s .finish) (p .finish)
-    → r .fits ≡ (p .fits && s .fits) → StepsDown d n c i class len p r
-stepped d n c i class len p r s h path finishes fits =
+pub stepped : (d : Disciplines) (acts k n c i class len : ℕ) (p r : Plan) (s : Share) → k ≡ acts
+    → Shares k (start d n c) ((len * 256) / weightAt (d .rules) c) class s → r .path ≡ extendedBy (p .path) i (s .rank)
+    → r .finish ≡ finishBy k c (s .finish) (p .finish) → r .fits ≡ (p .fits && s .fits) → StepsDown d acts n c i class len p r
+stepped d acts k n c i class len p r s e h path finishes fits =
+    subst (λ (x : ℕ). StepsDown d x n c i class len p r) e
     record {
       path = path ∙ ap (extendedBy (p .path) i) (h .rank);
       fits = fits ∙ ap (λ (b : Bool). p .fits && b) (h .fits);
-      finish = λ f. finishes ∙ same (kindAt (d .rules) n) (h .finish (second (p .fits) (s .fits) (sym fits ∙ f)));
+      finish = λ f. finishes ∙ same (h .finish (second (p .fits) (s .fits) (sym fits ∙ f)));
     }
   where
     second : (a b : Bool) → (a && b) ≡ true → b ≡ true
     second true b e = e
     second false b e = absurd (off e)
 
-    same : (k : ℕ) → (k ≡ weighted → s .finish ≡ finish d n c len) → finishBy k c (s .finish) (p .finish) ≡ finishBy k c (finish d n c len) (p .finish)
-    same k e = by-kind (ℕ-discrete k 2)
+    same : (k ≡ weighted → s .finish ≡ finish d n c len) → finishBy k c (s .finish) (p .finish) ≡ finishBy k c (finish d n c len) (p .finish)
+    same e = by-kind (ℕ-discrete k 2)
       where
         by-kind : Dec (k ≡ 2) → finishBy k c (s .finish) (p .finish) ≡ finishBy k c (finish d n c len) (p .finish)
         by-kind (yes q) = ap (λ (f : ℕ). finishBy k c f (p .finish)) (e q)

@@ -2,6 +2,7 @@
 mod shares;
 
 use disciplines::Disciplines;
+use disciplines::acting;
 use queue_push::Path;
 use queue_push::Step;
 use queue_push::extended;
@@ -13,7 +14,7 @@ ghost use mathlib.Core.List.{[]};
 ghost use mathlib.Core.Bool.{true, _&&_};
 ghost use Rattle.topology.specs.Reader.{fault, tree};
 ghost use Rattle.queue_push.specs.Calls.{pathOf};
-ghost use Rattle.disciplines.specs.Figure.{kindAt, rankBy};
+ghost use Rattle.disciplines.specs.Figure.{kindAt, actsBy, rankBy};
 ghost use Rattle.disciplines.specs.Scheduler.{isLeaf};
 ghost use Rattle.discipline_path.specs.Plans.{Planned};
 ghost use Rattle.discipline_path.specs.Shares.{StepsDown};
@@ -50,10 +51,11 @@ fn begun(disciplines: Disciplines, leaf: usize, class: u8) -> Plan
     }
 }
 
-// One step more, from a node to its child number `index`.
+// One step more, from a node with so many children to its child number `index`.
 fn step_down(
     plan: Plan,
     disciplines: Disciplines,
+    children: u8,
     node: usize,
     child: usize,
     index: u8,
@@ -61,12 +63,13 @@ fn step_down(
     length: u16,
 ) -> Plan
     requires { ⌜ (node < 64) × (child < 64) ⌝ }
-    ensures { λ r. ⌜ StepsDown disciplines node child index class length plan r ⌝ }
+    ensures { λ r. ⌜ StepsDown disciplines (actsBy children (kindAt (disciplines .rules) node)) node child index class length plan r ⌝ }
 {
     let rule = disciplines.rules[node];
     let under = disciplines.rules[child];
+    let discipline = acting(children, rule.discipline);
     let share = shares::share_of(
-        rule.discipline,
+        discipline,
         disciplines.virtual_time[node],
         disciplines.finish[child],
         under.weight,
@@ -77,7 +80,7 @@ fn step_down(
     let path = plan.path;
     Plan {
         path: extended(path, index, share.rank),
-        finish: shares::finished(finishes, rule.discipline, child, share.finish),
+        finish: shares::finished(finishes, discipline, child, share.finish),
         fits: both(plan.fits, share.fits),
     }
 }
@@ -95,7 +98,16 @@ pub fn plan_to(bytes: &[u8], disciplines: Disciplines, leaf: usize, class: u8, l
         let Toward::Child(index, child) = branches::toward(bytes, node, leaf) else {
             return plan;
         };
-        plan = step_down(plan, disciplines, node, child, index, class, length);
+        plan = step_down(
+            plan,
+            disciplines,
+            bytes[node],
+            node,
+            child,
+            index,
+            class,
+            length,
+        );
         node = child;
     }
     plan

@@ -36,7 +36,7 @@ fn added(length: u16, weight: u8) -> Rank
     (length as Rank) * 256 / (weight as Rank)
 }
 
-// Figure 1 of document 002: by the node's discipline and virtual time, and by the child's last finish and weight.
+// Figure 1 of document 002: by the discipline as which the node acts, its virtual time, and the child's last finish and weight.
 pub(crate) fn share_of(
     discipline: u8,
     virtual_time: Rank,
@@ -77,7 +77,7 @@ pub(crate) fn share_of(
     }
 }
 
-// The finishes with the child's new one, if the node is weighted.
+// The finishes with the child's new one, if the node acts as weighted.
 pub(crate) fn finished(
     finishes: [Rank; 64],
     discipline: u8,

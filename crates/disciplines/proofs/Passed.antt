@@ -1,5 +1,5 @@
 -- By which discipline a node acts: one that is passed over as by arrival (`acts-passed`), a kept one by its own (`acts-kept`).
-use mathlib.Core.Path.{_≡_, refl}
+use mathlib.Core.Path.{_≡_}
 use mathlib.Core.Logic.{_≢_}
 use Prim.Native.Nat.{ℕ}
 use borrow.Author.Tests.{eq-eqb, ne-eqb}

@@ -11,11 +11,12 @@ use borrow.Author.Tests.{lt-ltb, le-ltb, le-leb, lt-leb, eq-eqb, ne-eqb, ltb-tru
 use Rattle.topology.specs.Reader.{pick, orElse, fault}
 use Rattle.topology.specs.Branch.{branchEnd, isAbove}
 use Rattle.embedding_laws.specs.Rules.{image}
-use Rattle.embedding_laws.specs.Check.{all, same, areNodes, rule1, rule2, rule3, rule4, listFault, mapFault}
+use Rattle.reduction.specs.Reduced.{passedOver, keptBytes, gathered}
+use Rattle.embedding_laws.specs.Check.{all, same, areNodes, rule1, rule2, rule3, rule4, imagesFault, areMarked, listFault, mapFault}
 use Rattle.embedding_laws.proofs.All.{and-both, all-below, all-false, all-cong}
 use Rattle.embedding.specs.Answers.{checked}
 use Rattle.two_trees.specs.Trees.{treesFault, branchEnds}
-use Rattle.embedding.specs.Tests.{fresh, leafKept, aboveBy, alike, rows, Sized, Tabled}
+use Rattle.embedding.specs.Tests.{fresh, leafKept, aboveBy, alike, rows, marked, markedTo, Sized, Tabled}
 use Rattle.embedding.specs.declared.Checked.the-variants.{Passes}
 use Rattle.embedding.specs.declared.Checked.the-variants as answer
 use Rattle.two_trees.proofs.Trees.{orElse-both, tree-fits}
@@ -179,45 +180,89 @@ tabled source target m z =
       images = λ b h. omega (arith, node-at target m b (z .nodes) h, z .target-fits);
     }
 
+-- rule 2
+module _ (s m : List ℕ) where
+  pub root-kept : image m 0 ≡ 0 → true ≡ rule2 s m
+  unfolding rule2
+  root-kept e = rw e
+
+  pub root-moved : (image m 0 ≡ 0 → ⊥) → eqb (getD s 0 0) 0 ≡ rule2 s m
+  unfolding rule2
+  root-moved n = rw (ne-eqb (image m 0) 0 n)
+
+-- The refusals of a list of images, in the order of the tests.
+module _ (s t m : List ℕ) (long : length m ≡ length s) where
+  pub refuse-7 : (x : Bool) → x ≡ areNodes t (length m) m → x ≡ false → 7 ≡ imagesFault s t m
+  unfolding imagesFault
+  refuse-7 x f h = rw (← long, ← f, h)
+
+  module _ (x : Bool) (f : x ≡ areNodes t (length m) m) (h : x ≡ true) where
+    pub refuse-8 : (y : Bool) → y ≡ rule1 (length m) m → y ≡ false → 8 ≡ imagesFault s t m
+    unfolding imagesFault
+    refuse-8 y g k = rw (← long, ← f, h, ← g, k)
+
+    module _ (y : Bool) (g : y ≡ rule1 (length m) m) (k : y ≡ true) where
+      pub refuse-9 : (z : Bool) → z ≡ rule2 s m → z ≡ false → 9 ≡ imagesFault s t m
+      unfolding imagesFault
+      refuse-9 z p q = rw (← long, ← f, h, ← g, k, ← p, q)
+
+      module _ (z : Bool) (p : z ≡ rule2 s m) (q : z ≡ true) where
+        pub refuse-10 : (w : Bool) → w ≡ rule3 s t (length m) m → w ≡ false → 10 ≡ imagesFault s t m
+        unfolding imagesFault
+        refuse-10 w i j = rw (← long, ← f, h, ← g, k, ← p, q, ← i, j)
+
+        module _ (w : Bool) (i : w ≡ rule3 s t (length m) m) (j : w ≡ true) (v : Bool) (r : v ≡ rule4 s t (length m) m) where
+          last-test : pick v 0 11 ≡ imagesFault s t m
+          unfolding imagesFault
+          last-test = rw (← long, ← f, h, ← g, k, ← p, q, ← i, j, r)
+
+          pub refuse-11 : v ≡ false → 11 ≡ imagesFault s t m
+          refuse-11 e = rw e at last-test
+
+          pub refuse-none : v ≡ true → 0 ≡ imagesFault s t m
+          refuse-none e = rw e at last-test
+
+-- the marks of passed nodes
+pub marked-passed : (c image : ℕ) → c ≡ 1 → eqb image passedOver ≡ marked c image
+unfolding marked
+marked-passed c image e = rw e
+
+pub marked-kept : (c image : ℕ) → (c ≡ 1 → ⊥) → true ≡ marked c image
+unfolding marked
+marked-kept c image n = rw (ne-eqb c 1 n)
+
+module _ (s m : List ℕ) where
+  pub marks-none : markedTo s m 0 ≡ true
+  unfolding markedTo
+  marks-none = refl
+
+  pub marks-next : (a : ℕ) (x : Bool) → markedTo s m a ≡ true → x ≡ marked (getD s a 0) (image m a) → x ≡ true → markedTo s m (a + 1) ≡ true
+  unfolding markedTo marked
+  marks-next a x e f h = all-next (λ a. not (eqb (getD s a 0) 1) || eqb (image m a) passedOver) a e (sym f ∙ h)
+
+  pub marks-stop : (a : ℕ) (x : Bool) → a < length s → x ≡ marked (getD s a 0) (image m a) → x ≡ false → false ≡ areMarked s m
+  unfolding areMarked marked
+  marks-stop a x l f h = sym (all-false (length s) (λ a. not (eqb (getD s a 0) 1) || eqb (image m a) passedOver) a l (sym f ∙ h))
+
+  pub marks-end : (a : ℕ) → a ≤ length s → length s ≤ a → markedTo s m a ≡ true → true ≡ areMarked s m
+  unfolding areMarked markedTo
+  marks-end a = all-end (λ a. not (eqb (getD s a 0) 1) || eqb (image m a) passedOver) a (length s)
+
 -- The list's refusals, in the order of the tests.
 module _ (s t m : List ℕ) where
   pub refuse-6 : (length m ≡ length s → ⊥) → 6 ≡ listFault s t m
   unfolding listFault
-  refuse-6 e = rw (ne-eqb (length m) (length s) e)
+  refuse-6 n = rw (ne-eqb (length m) (length s) n)
 
   module _ (long : length m ≡ length s) where
-    is-long : eqb (length m) (length s) ≡ true
-    is-long = eq-eqb (length m) (length s) long
-
-    pub refuse-7 : (x : Bool) → x ≡ areNodes t (length m) m → x ≡ false → 7 ≡ listFault s t m
+    pub refuse-26 : (x : Bool) → x ≡ areMarked s m → x ≡ false → 26 ≡ listFault s t m
     unfolding listFault
-    refuse-7 x f h = rw (is-long, ← long, ← f, h)
+    refuse-26 x f h = rw (eq-eqb (length m) (length s) long, ← f, h)
 
-    module _ (x : Bool) (f : x ≡ areNodes t (length m) m) (h : x ≡ true) where
-      pub refuse-8 : (y : Bool) → y ≡ rule1 (length m) m → y ≡ false → 8 ≡ listFault s t m
-      unfolding listFault
-      refuse-8 y g k = rw (is-long, ← long, ← f, h, ← g, k)
-
-      module _ (y : Bool) (g : y ≡ rule1 (length m) m) (k : y ≡ true) where
-        pub refuse-9 : (image m 0 ≡ 0 → ⊥) → 9 ≡ listFault s t m
-        unfolding listFault rule2
-        refuse-9 r = rw (is-long, ← long, ← f, h, ← g, k, ne-eqb (image m 0) 0 r)
-
-        module _ (root : image m 0 ≡ 0) where
-          pub refuse-10 : (z : Bool) → z ≡ rule3 s t (length m) m → z ≡ false → 10 ≡ listFault s t m
-          unfolding listFault rule2
-          refuse-10 z p q = rw (is-long, ← long, ← f, h, ← g, k, eq-eqb (image m 0) 0 root, ← p, q)
-
-          module _ (z : Bool) (p : z ≡ rule3 s t (length m) m) (q : z ≡ true) (w : Bool) (i : w ≡ rule4 s t (length m) m) where
-            last-test : pick w 0 11 ≡ listFault s t m
-            unfolding listFault rule2
-            last-test = rw (is-long, ← long, ← f, h, ← g, k, eq-eqb (image m 0) 0 root, ← p, q, i)
-
-            pub refuse-11 : w ≡ false → 11 ≡ listFault s t m
-            refuse-11 j = rw j at last-test
-
-            pub refuse-none : w ≡ true → 0 ≡ listFault s t m
-            refuse-none j = rw j at last-test
+    pub refuse-images : (x : Bool) → x ≡ areMarked s m → x ≡ true → (number : ℕ) → number ≡ imagesFault (keptBytes s) t (gathered s m)
+        → number ≡ listFault s t m
+    unfolding listFault
+    refuse-images x f h number e = rw (eq-eqb (length m) (length s) long, ← f, h, e)
 
 -- The answers: the refusal of one of the trees, then the list's.
 module _ (source target m : List ℕ) (refusal : ℕ) (e : refusal ≡ treesFault source target) where
@@ -234,11 +279,8 @@ module _ (source target m : List ℕ) (refusal : ℕ) (e : refusal ≡ treesFaul
     no-fault : (fault 32 source ≡ 0) × (fault 64 target ≡ 0)
     no-fault = orElse-both (fault 32 source) (fault 64 target) (sym e ∙ z)
 
-    pub trees-fit : (0 < length source) × (length source ≤ 64) × (length target ≤ 64)
-    trees-fit =
-        let s = tree-fits 32 source (no-fault .0) in
-        let t = tree-fits 64 target (no-fault .1) in
-        (omega arith, omega arith, omega arith)
+    pub trees-fit : (fault 32 source ≡ 0) × (length target ≤ 64)
+    trees-fit = (no-fault .0, tree-fits 64 target (no-fault .1) .1)
 
     module _ (number : ℕ) (f : number ≡ listFault source target m) where
       pub check-passes : number ≡ 0 → Passes ≡ checked (mapFault source target m)

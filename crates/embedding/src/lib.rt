@@ -1,13 +1,17 @@
 // The check of a map between two trees.
 //
-// It tests each rule over all nodes or pairs of nodes, with tables of where the branches end: a few thousand steps at the most.
+// It tests each rule over all nodes or pairs of nodes, with tables of where the branches end: a few thousand steps at the most. The nodes are
+// those of the reduced drawing, whose bytes are the source's without its bytes 1 (paper 02, 2.2).
 ghost use mathlib.Core.Path.{_≡_};
 ghost use Prim.Native.Nat.{_≤_, _<_};
 ghost use mathlib.Core.Bool.{true};
 ghost use lib.ListN.{length};
-ghost use Rattle.embedding_laws.specs.Check.{same, areNodes, rule1, rule3, rule4, listFault, mapFault};
+ghost use Rattle.topology.specs.Reader.{fault};
+ghost use Rattle.embedding_laws.specs.Check.{same, areNodes, rule1, rule2, rule3, rule4, imagesFault, areMarked, listFault, mapFault};
 ghost use Rattle.embedding.specs.Answers.{checked};
-ghost use Rattle.embedding.specs.Tests.{fresh, leafKept, aboveBy, alike, Sized, Tabled};
+ghost use Rattle.embedding.specs.Tests.{fresh, leafKept, aboveBy, alike, marked, Sized, Tabled};
+use reduction::PASSED_OVER;
+use reduction::gather;
 use two_trees::branch_ends;
 use two_trees::trees_fault;
 
@@ -131,21 +135,26 @@ fn keeps_order(source: &[u8], target: &[u8], map: &[u8]) -> bool
     true
 }
 
-// The refusal of a list as a map between two trees, in the order of the tests; or 0.
-fn list_fault(source: &[u8], target: &[u8], map: &[u8]) -> u8
-    requires { ⌜ (0 < length (now source)) × (length (now source) ≤ 64) × (length (now target) ≤ 64) ⌝ }
-    ensures { λ r. ⌜ r ≡ listFault (now (source .entry)) (now (target .entry)) (now (map .entry)) ⌝ }
+// Rule 2: the root goes to the root. The rule lapses where the root is a leaf, which is then alone.
+fn keeps_root(source: &[u8], map: &[u8]) -> bool
+    requires { ⌜ (0 < length (now source)) × (0 < length (now map)) ⌝ }
+    ensures { λ r. ⌜ r ≡ rule2 (now (source .entry)) (now (map .entry)) ⌝ }
 {
-    if map.len() != source.len() {
-        return 6;
-    }
+    if map[0] == 0 { true } else { source[0] == 0 }
+}
+
+// The refusal of a list of images, one for each node of a drawing without passed nodes, in the order of the tests; or 0.
+fn images_fault(source: &[u8], target: &[u8], map: &[u8]) -> u8
+    requires { ⌜ (length (now map) ≡ length (now source)) × (0 < length (now source)) × (length (now source) ≤ 64) × (length (now target) ≤ 64) ⌝ }
+    ensures { λ r. ⌜ r ≡ imagesFault (now (source .entry)) (now (target .entry)) (now (map .entry)) ⌝ }
+{
     if !are_nodes(target, map) {
         return 7;
     }
     if !keeps_apart(map) {
         return 8;
     }
-    if map[0] != 0 {
+    if !keeps_root(source, map) {
         return 9;
     }
     if !keeps_leaves(source, target, map) {
@@ -155,6 +164,52 @@ fn list_fault(source: &[u8], target: &[u8], map: &[u8]) -> u8
         return 11;
     }
     0
+}
+
+// Whether a node with `children` children is kept or has the mark of a passed node in place of an image.
+fn is_marked(children: u8, image: u8) -> bool
+    ensures { λ r. ⌜ r ≡ marked children image ⌝ }
+{
+    if children == 1 {
+        image == PASSED_OVER
+    } else {
+        true
+    }
+}
+
+// Whether every node that is passed over has the mark for it.
+fn are_marked(source: &[u8], map: &[u8]) -> bool
+    requires { ⌜ length (now map) ≡ length (now source) ⌝ }
+    ensures { λ r. ⌜ r ≡ areMarked (now (source .entry)) (now (map .entry)) ⌝ }
+{
+    let mut a = 0;
+    while a < source.len() {
+        if !is_marked(source[a], map[a]) {
+            return false;
+        }
+        a += 1;
+    }
+    true
+}
+
+// The refusal of a list as a map between two trees, in the order of the tests; or 0. The rules are tested on what is left of the source: its
+// reduced drawing and the images of the kept nodes.
+fn list_fault(source: &[u8], target: &[u8], map: &[u8]) -> u8
+    requires { ⌜ (fault 32 (now source) ≡ 0) × (length (now target) ≤ 64) ⌝ }
+    ensures { λ r. ⌜ r ≡ listFault (now (source .entry)) (now (target .entry)) (now (map .entry)) ⌝ }
+{
+    if map.len() != source.len() {
+        return 6;
+    }
+    if !are_marked(source, map) {
+        return 26;
+    }
+    let kept = gather(source, source);
+    let gathered = gather(source, map);
+    let nodes = kept.count;
+    let bytes = kept.numbers;
+    let images = gathered.numbers;
+    images_fault(&bytes[..nodes], target, &images[..nodes])
 }
 
 // Checks a map: both trees are read first, then the list is tested.

@@ -3,7 +3,7 @@
 use mathlib.Core.Path.{_≡_, refl, sym, ap, ap₂, _∙_, subst, subst₂}
 use mathlib.Core.Logic.{_↔_, _≢_, _⊎_, inl, inr}
 use Prim.Native.Nat.{ℕ, zero, suc, _+_, _≤_, _<_}
-use native.Mathlib.Decide.{decLt}
+use native.Mathlib.Decide.{decLt, ℕ-discrete}
 use native.Mathlib.Omega.{arith}
 use mathlib.Core.List.{List, [], _∷_, _++_, append-nil}
 use mathlib.Core.Bool.{Bool, true, false}
@@ -160,6 +160,14 @@ maps-reduced S T = (
 
     down : (l : List ℕ) → Embeds (reduced S) T l → Passes (reduced S) T (spread (code (reduced S)) l)
     down l e = let q = subst (λ (t : Topo). Embeds t T l) (sym (reduced-again S)) e in embeds-passes (reduced S) T l (q .long) q
+
+-- Every number of a map fits a byte.
+pub image-fits : (S T : Topo) (m : List ℕ) → Passes S T m → size T ≤ 64 → (a : ℕ) → a < size S → image m a < 256
+image-fits S T m p few a h = by-width (ℕ-discrete (width (subtree S a)) 1)
+  where
+    by-width : Dec (width (subtree S a) ≡ 1) → image m a < 256
+    by-width (yes e) = omega (arith, p .passed a h e)
+    by-width (no k) = omega (arith, p .within a h k)
 
 -- ---- the least
 

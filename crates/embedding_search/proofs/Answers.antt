@@ -19,7 +19,8 @@ use Rattle.topology.proofs.Cases.{clash}
 use Rattle.reduction.specs.Reduced.{gathered, spread, keptBytes, in32}
 use Rattle.reduction.specs.declared.Gathered.{Gathered}
 use Rattle.reduction.proofs.Limits.{kept-fault}
-use Rattle.reduction.proofs.Gathering.{gathered-held, spread-held}
+use Rattle.reduction.proofs.Gathering.{gather-held}
+use Rattle.reduction.proofs.Spreading.{spread-out-held}
 use Rattle.embedding_laws.specs.Sets.{none}
 use Rattle.embedding_laws.specs.Least.{Found, nothing, list, leastMap, leastOf, noneFault, padded, searchFault, searchMap, unlessRefused}
 use Rattle.embedding_laws.specs.Tables.{bestBy, Draws}
@@ -110,7 +111,7 @@ module _ (source target : List ℕ) (refusal : ℕ) (e : refusal ≡ treesFault 
 
     -- the bytes that are lent to the search are those of the reduced drawing
     pub lent : (kept .count ≤ 32) × (length (kept .numbers) ≡ 32) × (take (kept .count) (kept .numbers) ≡ keptBytes source)
-    lent = gathered-held source source (kept .numbers) (kept .count) (tree-fits 32 source (no-fault .0) .1) (g .0) (g .1)
+    lent = gather-held source source (kept .numbers) (kept .count) (tree-fits 32 source (no-fault .0) .1) (g .0) (g .1)
 
     pub both-draw : Draws 32 (take (kept .count) (kept .numbers)) × Draws 64 target
     both-draw = (rw (lent .2) (draws 32 (keptBytes source) (kept-fault 32 source (no-fault .0))), draws 64 target (no-fault .1))
@@ -137,7 +138,7 @@ module _ (source target : List ℕ) (refusal : ℕ) (e : refusal ≡ treesFault 
           by-found (list l) q =
               let long = found-long source target (no-fault .0) (no-fault .1) l q in
               let is : r .images ≡ in32 l = found .images ∙ ap padded q in
-              let spreads = spread-held source l (tree-fits 32 source (no-fault .0) .1) long in
+              let spreads = spread-out-held source l (tree-fits 32 source (no-fault .0) .1) long in
               record {
                 outcome = rw (no-fault .0, no-fault .1, q);
                 map = rw (no-fault .0, no-fault .1, q) (s ∙ ap (λ (k : List ℕ). in32 (spread (take 32 source) k)) is ∙ spreads);

@@ -9,6 +9,6 @@ fn walk(input: &mut [u8], text: &mut [u8]) {
 // The text fits: at most 13 bytes for each command, and 100 for a map (`output-fits` in script/proofs/Lengths).
 fn main() {
     let mut input = [0u8; 65536];
-    let mut text = [0u8; 852068];
+    let mut text = [0u8; 852100];
     walk(&mut input, &mut text);
 }

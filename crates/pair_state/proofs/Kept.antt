@@ -10,7 +10,7 @@ use Rattle.topology.specs.Reader.{orElse, faultAt, faultFrom, fault, after}
 use Rattle.topology.proofs.Reader.{sound}
 use Rattle.topology.proofs.Lookup.{valid-length}
 use Rattle.topology.proofs.Refusals.{orElse-none}
-use Rattle.embedding_laws.specs.Least.{Found, nothing, list, leastMap, searchFault, padded, unlessRefused, searchMap}
+use Rattle.embedding_laws.specs.Least.{Found, nothing, list, leastOf, searchFault, padded, unlessRefused, searchMap}
 use Rattle.embedding_search.specs.Outcomes.{outcomeBy, outcome, numberOf}
 use Rattle.embedding_search.proofs.Found.{outcome-number, faultless}
 use Rattle.queue_state.specs.Opening.{limitFault}
@@ -40,7 +40,7 @@ unfolding outcome
 outcome-kept s t = rw (fault-kept 32 s, fault-kept 64 t) (by-fault (fault 32 s) (fault 64 t) refl refl)
   where
     by-fault : (f g : ℕ) → fault 32 s ≡ f → fault 64 t ≡ g
-        → outcomeBy (orElse f g) (leastMap (take 33 s) (take 65 t)) ≡ outcomeBy (orElse f g) (leastMap s t)
+        → outcomeBy (orElse f g) (leastOf (take 33 s) (take 65 t)) ≡ outcomeBy (orElse f g) (leastOf s t)
     by-fault zero zero e d = rw (whole 32 s e, whole 64 t d) refl
     by-fault zero (suc g) e d = refl
     by-fault (suc f) g e d = refl
@@ -68,7 +68,7 @@ module _ (s t : List ℕ) (limit : ℕ) where
 -- the map that comes back has a place for each of 32 nodes
 pub map-room : (s t m : List ℕ) → m ≡ searchMap s t → 32 ≤ length m
 unfolding searchMap
-map-room s t m e = rw e (unless-room (searchFault s t) (padded (leastMap s t)) (padded-room (leastMap s t)))
+map-room s t m e = rw e (unless-room (searchFault s t) (padded (leastOf s t)) (padded-room (leastOf s t)))
   where
     unless-room : (f : ℕ) (l : List ℕ) → 32 ≤ length l → 32 ≤ length (unlessRefused f l)
     unless-room zero l h = h

@@ -6,7 +6,7 @@ use mathlib.Core.Bool.{_&&_}
 use lib.Dec.{leb}
 use Rattle.topology.specs.Reader.{fault}
 use Rattle.topology.proofs.Refusals.{orElse-most, pick-most, fault-most}
-use Rattle.embedding_laws.specs.Least.{Found, nothing, list, noneFault, leastMap, searchFault}
+use Rattle.embedding_laws.specs.Least.{Found, nothing, list, noneFault, leastOf, searchFault}
 use Rattle.queue_state.specs.Opening.{limitFault}
 use Rattle.pair_state.specs.Opening.{bothFault}
 
@@ -17,7 +17,7 @@ both-most source target limit =
     let t = fault-most 64 target in
     orElse-most 17 _ (limitFault limit)
     (orElse-most 17 (fault 32 source) _ (omega (arith, s))
-    (orElse-most 17 (fault 64 target) _ (omega (arith, t)) (none-most (leastMap source target))))
+    (orElse-most 17 (fault 64 target) _ (omega (arith, t)) (none-most (leastOf source target))))
     (pick-most 17 (leb 1 limit && leb limit 256) 0 17 (omega arith) (omega arith))
   where
     none-most : (f : Found) → noneFault f ≤ 17

@@ -3,7 +3,7 @@
 -- `pair_schedule`). What the looks count follows from the machine's laws, as each request is at most one call of the machine (`tallied`).
 -- Executions there are, as every call has an answer and a tree after it (`own-some` and `chip-some` of the crates `tree_state` and `chip_state`).
 use mathlib.Core.Path.{_≡_, refl, sym, ap, _∙_, subst}
-use mathlib.Core.Logic.{⊎-elim}
+use mathlib.Core.Logic.{_↔_, ⊎-elim}
 use Prim.Native.Nat.{ℕ, _+_, _≤_, min}
 use native.Mathlib.Omega.{arith}
 use mathlib.Core.List.{List, [], _∷_, map}
@@ -13,17 +13,24 @@ use borrow.Author.Tests.{le-leb}
 use Rattle.lists.proofs.Permutation.{length-perm}
 use Rattle.topology.specs.Tree.{Topo}
 use Rattle.topology.specs.Reader.{fault, tree}
+use Rattle.topology.proofs.Reader.{fault-wider}
 use Rattle.pifo.specs.Tree.{held, packets}
 use Rattle.pifo.specs.Machine.{Machine, Call, Answer, numberOf as answerNumber, most, opened, serve}
 use Rattle.pifo.specs.Runs.{Sound, acceptedBy, departedBy, times, takenBy}
 use Rattle.pifo.proofs.Answers.{full-15}
 use Rattle.pifo.proofs.Runs.{served, opened-sound}
 use Rattle.pifo.proofs.Wellness.{packets-empty, is-other}
+use Rattle.reduction.specs.Reduced.{keptBytes}
+use Rattle.reduction.proofs.Limits.{kept-fault, kept-tree}
 use Rattle.embedding_laws.specs.Rules.{Passes}
 use Rattle.embedding_laws.specs.Least.{searchMap}
+use Rattle.embedding_laws.proofs.Maps.{maps-reduced}
 use Rattle.embedding_laws.proofs.Searching.{search-twelve}
 use Rattle.simulation.specs.Sheet.{serveCarried}
-use Rattle.embedding_search.specs.Outcomes.{outcome}
+use Rattle.simulation.proofs.Reduced.{places-pass}
+use Rattle.embedding_search.specs.Outcomes.{outcome, numberOf}
+use Rattle.embedding_search.specs.Search.{Searches}
+use Rattle.embedding_search.specs.declared.Searched.{Searched}
 use Rattle.embedding_search.proofs.Found.{searched-number, found-passes}
 use Rattle.queue_state.specs.State.{Packet, machine}
 use Rattle.queue_state.specs.Opening.{limitFault}
@@ -193,6 +200,13 @@ module _ (source target m : List ℕ) (limit : ℕ) (rules : List Rule) (f : fau
 limit-fits : (limit : ℕ) → 1 ≤ limit → limit ≤ 256 → limitFault limit ≡ 0
 limit-fits limit low high = rw (le-leb 1 limit low, le-leb limit 256 high)
 
+twelve : (source target : List ℕ) → fault 32 source ≡ 0 → fault 64 target ≡ 0 → (r : Searched) → Searches source target r
+    → (numberOf (r .outcome) ≡ 12) ↔ ((l : List ℕ) → Passes (tree source) (tree target) l → ⊥)
+twelve source target f g r s =
+    let number = searched-number source target r s in
+    let exact = search-twelve source target f g in
+    (λ e. exact .0 (sym number ∙ e), λ none. number ∙ exact .1 none)
+
 pub demand-3 : Demand3
 demand-3 =
     record {
@@ -206,9 +220,15 @@ demand-3 =
         record { outcome = outcome source target; map = searchMap source target },
         record { outcome = refl; map = refl },
       );
-      twelve = λ source target f g r s.
-          let number = searched-number source target r s in
-          let exact = search-twelve source target f g in
-          (λ e. exact .0 (sym number ∙ e), λ none. number ∙ exact .1 none);
+      twelve = twelve;
+      twelve-reduced = λ source target f g r s.
+          let exact = twelve source target f g r s in
+          let same = maps-reduced (tree source) (tree target) in
+          (λ e. same .0 (exact .0 e), λ none. exact .1 (same .1 none));
       zero-passes = found-passes;
+      loads-reduced = λ source f. (
+        fault-wider 32 64 (keptBytes source) (omega arith) (kept-fault 32 source f),
+        kept-tree 32 source f,
+        places-pass (tree source),
+      );
     }

@@ -1,5 +1,5 @@
--- Demand 3 of paper 01 ("Both trees on one sheet"), with the disciplines of paper 02, 2.1: one statement about whole lists of calls, which mix pushes
--- by path, pushes to a leaf and pops: `Demand3`. `proofs/Demand.antt` proves it.
+-- Demand 3 of paper 01 ("Both trees on one sheet"), with the disciplines of paper 02, 2.1 and for the drawings of 2.2, whose nodes with one child are
+-- passed over: one statement about whole lists of calls, which mix pushes by path, pushes to a leaf and pops: `Demand3`. `proofs/Demand.antt` proves it.
 --
 -- It speaks of the code by its contracts: an execution is any sequence of answers and trees that the contracts of the calls on a tree by itself and
 -- on a chip's tree (`OwnServes`, `ChipServes`) allow, and an answer of the search any that its contract allows, so that it holds of whatever the
@@ -14,7 +14,9 @@ use Rattle.topology.specs.Reader.{fault, tree}
 use Rattle.pifo.specs.Tree.{held}
 use Rattle.pifo.specs.Machine.{popping, Answer, numberOf as answerNumber, most, opened}
 use Rattle.pifo.specs.Runs.{acceptedBy, departedBy, times}
+use Rattle.reduction.specs.Reduced.{reduced, keptBytes}
 use Rattle.embedding_laws.specs.Rules.{Passes}
+use Rattle.simulation.specs.Reduced.{placesOf}
 use Rattle.embedding_search.specs.Outcomes.{numberOf}
 use Rattle.embedding_search.specs.Search.{Searches, images}
 use Rattle.embedding_search.specs.declared.Searched.{Searched}
@@ -123,9 +125,18 @@ pub record Demand3 : Type 0 where
   pub source-executes : (t : Tree) (calls : List Request) → (vs : History Tree) × Execution SourceCall t calls vs
   pub chip-executes : (source m : List ℕ) (t : Tree) (calls : List Request) → (ws : History Tree) × Execution (ChipCall source m) t calls ws
   pub searches : (source target : List ℕ) → (r : Searched) × Searches source target r
-  -- The search's half: whatever it answers, that is 12 exactly when every list of numbers fails as the map of the pair.
+  -- The search's half: whatever it answers, that is 12 exactly when every list of numbers fails as the map of the pair. A list fails unless it gives one
+  -- target node for each kept node and 255 for each passed one, and breaks none of the rules (`Passes`).
   pub twelve : (source target : List ℕ) → fault 32 source ≡ 0 → fault 64 target ≡ 0 → (r : Searched) → Searches source target r
       → (numberOf (r .outcome) ≡ 12) ↔ ((l : List ℕ) → Passes (tree source) (tree target) l → ⊥)
+  -- So 12 means that the reduced drawing has no map.
+  pub twelve-reduced : (source target : List ℕ) → fault 32 source ≡ 0 → fault 64 target ≡ 0 → (r : Searched) → Searches source target r
+      → (numberOf (r .outcome) ≡ 12) ↔ ((l : List ℕ) → Passes (reduced (tree source)) (tree target) l → ⊥)
   -- Where it answers 0, the images that its map gives meet the rules, so that the first part holds with them.
   pub zero-passes : (source target : List ℕ) (r : Searched) → Searches source target r → numberOf (r .outcome) ≡ 0
       → Passes (tree source) (tree target) (images source r)
+  -- Every drawing loads into its reduced drawing, by the number that each kept node has there, so that the first part holds of these two: a drawing and
+  -- its reduced drawing answer every list of calls alike.
+  pub loads-reduced : (source : List ℕ) → fault 32 source ≡ 0
+      → (fault 64 (keptBytes source) ≡ 0) × (tree (keptBytes source) ≡ reduced (tree source))
+      × Passes (tree source) (reduced (tree source)) (placesOf (tree source))

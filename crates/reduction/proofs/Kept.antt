@@ -5,7 +5,7 @@ use Prim.Native.Nat.{ℕ, zero, suc, _≤_, _<_}
 use native.Mathlib.Omega.{arith}
 use mathlib.Core.List.{[], _∷_, _++_, append-assoc, append-nil}
 use Rattle.topology.specs.Tree.{Topo, Forest, node, fnil, fcons, count, width, size}
-use Rattle.topology.specs.Address.{Addr, child, nth, In, sub, Above, addr, num}
+use Rattle.topology.specs.Address.{Addr, child, nth, In, sub, Above, num}
 use Rattle.topology.proofs.Numbering.{num-lt, addr-num}
 use Rattle.topology.proofs.Ancestry.{in-below, in-join, sub-append}
 use Rattle.reduction.specs.Kept.{Kept, descent, descentIn, ifAlone, keptAt, top}

@@ -5,3 +5,4 @@ pub mod Limits
 pub mod Spread
 pub mod Scanning
 pub mod Gathering
+pub mod Spreading

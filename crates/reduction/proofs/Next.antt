@@ -1,21 +1,16 @@
 -- The next kept node at or below a node, read off the bytes: the first byte from the node's on that is not 1.
-use mathlib.Core.Path.{_≡_, refl, sym, ap, ap₂, _∙_, subst}
-use mathlib.Core.Logic.{_≢_}
-use Prim.Native.Nat.{ℕ, zero, suc, _+_, _≤_, _<_}
+use mathlib.Core.Path.{_≡_, refl, sym, ap, _∙_}
+use Prim.Native.Nat.{ℕ, suc, _+_, _<_}
 use native.Mathlib.Omega.{arith}
-use mathlib.Core.List.{List, [], _∷_, _++_, append-nil, append-assoc}
-use mathlib.Core.Bool.{Bool, true, false}
-use lib.ListN.{length, drop}
-use lib.Dec.{eqb}
-use borrow.Author.Tests.{ne-eqb, eq-eqb}
-use Rattle.lists.proofs.Part.{Part, drop-part}
-use Rattle.topology.specs.Tree.{Topo, Forest, node, fnil, fcons, count, width, code, codes, size}
-use Rattle.topology.specs.Address.{Addr, In, sub, addr, num, subtree}
-use Rattle.topology.specs.Reader.{pick}
+use mathlib.Core.List.{List, _∷_, _++_, append-nil}
+use borrow.Author.Tests.{ne-eqb}
+use Rattle.lists.proofs.Part.{drop-part}
+use Rattle.topology.specs.Tree.{Topo, Forest, node, fnil, fcons, count, code, codes, size}
+use Rattle.topology.specs.Address.{addr, num, subtree}
 use Rattle.topology.proofs.Decoding.{code-at}
 use Rattle.topology.proofs.Numbering.{addr-in, num-addr}
 use Rattle.topology.proofs.Ancestry.{num-append}
-use Rattle.reduction.specs.Kept.{descent, descentIn, ifAlone, keptAt, keptNode}
+use Rattle.reduction.specs.Kept.{descent, descentIn, ifAlone, keptNode}
 use Rattle.reduction.specs.Reduced.{ones, nextKept}
 
 last-ones : (t : Topo) (ts : Forest) (bs : List ℕ) → ones (code t ++ bs) ≡ num t (descent t)

@@ -1,14 +1,14 @@
 -- Lists over the kept nodes and lists over all nodes: where their numbers stand.
 use mathlib.Core.Path.{_≡_, refl, sym, ap, ap₂, _∙_}
 use mathlib.Core.Logic.{_≢_}
-use Prim.Native.Nat.{ℕ, zero, suc, _+_, _≤_, _<_}
+use Prim.Native.Nat.{ℕ, zero, suc, _<_}
 use native.Mathlib.Nat.{not-suc-le-zero, le-of-suc-le-suc}
 use native.Mathlib.Omega.{arith}
-use mathlib.Core.List.{List, [], _∷_, _++_}
+use mathlib.Core.List.{List, [], _∷_}
 use mathlib.Core.Bool.{Bool, true, false}
-use lib.ListN.{length, take, getD}
+use lib.ListN.{length, getD}
 use lib.Dec.{eqb}
-use borrow.Author.Tests.{eq-eqb, ne-eqb, eqb-true, eqb-false}
+use borrow.Author.Tests.{eqb-true, eqb-false}
 use Rattle.topology.specs.Reader.{pick}
 use Rattle.reduction.specs.Reduced.{passedOver, keptBytes, place, spread, gathered}
 
@@ -67,6 +67,11 @@ kept-of (b ∷ bs) j h = by-test j (eqb b 1) refl h (λ j h. kept-of bs j h)
     by-test zero false q h r = (0, omega arith, eqb-false b 1 q, refl)
     by-test (suc j) false q h r = let f = r j (le-of-suc-le-suc h) in (suc (f .0), omega (arith, f .1), f .2, rw q (ap suc (f .3)))
 
+-- A passed node takes the mark, whatever images are left.
+pub spread-mark : (b : ℕ) (bs l : List ℕ) → eqb b 1 ≡ true → spread (b ∷ bs) l ≡ passedOver ∷ spread bs l
+spread-mark b bs [] q = rw q
+spread-mark b bs (x ∷ l) q = rw q
+
 -- A list with the mark at every passed node is the spread of its numbers at the kept ones.
 pub spread-gathered : (bs m : List ℕ) → length m ≡ length bs → ((n : ℕ) → n < length bs → getD bs n 0 ≡ 1 → getD m n 0 ≡ passedOver)
     → (spread bs (gathered bs m) ≡ m) × (length (gathered bs m) ≡ length (keptBytes bs))
@@ -76,12 +81,8 @@ spread-gathered (b ∷ bs) [] l p = absurd (omega arith)
 spread-gathered (b ∷ bs) (x ∷ m) l p =
     by-test (eqb b 1) refl (spread-gathered bs m (omega (arith, l)) (λ n h e. p (suc n) (omega arith) e))
   where
-    mark-first : (k : List ℕ) → eqb b 1 ≡ true → spread (b ∷ bs) k ≡ passedOver ∷ spread bs k
-    mark-first [] q = rw q
-    mark-first (y ∷ k) q = rw q
-
     by-test : (t : Bool) → eqb b 1 ≡ t → (spread bs (gathered bs m) ≡ m) × (length (gathered bs m) ≡ length (keptBytes bs))
         → (spread (b ∷ bs) (pick t (gathered bs m) (x ∷ gathered bs m)) ≡ x ∷ m) × (length (pick t (gathered bs m) (x ∷ gathered bs m)) ≡ length (pick t (keptBytes bs) (b ∷ keptBytes bs)))
     by-test true q r =
-        (mark-first (gathered bs m) q ∙ ap₂ (λ (y : ℕ) (k : List ℕ). y ∷ k) (sym (p 0 (omega arith) (eqb-true b 1 q))) (r .0), r .1)
+        (spread-mark b bs (gathered bs m) q ∙ ap₂ (λ (y : ℕ) (k : List ℕ). y ∷ k) (sym (p 0 (omega arith) (eqb-true b 1 q))) (r .0), r .1)
     by-test false q r = (rw q (ap (λ (k : List ℕ). x ∷ k) (r .0)), ap suc (r .1))

@@ -5,7 +5,7 @@ ghost use lib.ListN.{length, take};
 ghost use Rattle.reduction.specs.Reduced.{nextKept, gathered, spread, in32};
 
 // What a map writes for a node that is passed over; it is the number of no target node.
-const PASSED_OVER: u8 = 255;
+pub const PASSED_OVER: u8 = 255;
 
 // Up to 32 numbers: `count` of them, and zeros after them.
 pub struct Gathered {

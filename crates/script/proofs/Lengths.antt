@@ -26,6 +26,7 @@ use Rattle.queue_state.specs.State.{Packet}
 use Rattle.queue_state.specs.Opening.{limitFault}
 use Rattle.pair_state.specs.Opening.{bothFault}
 use Rattle.pair_state.proofs.Numbers.{both-most}
+use Rattle.embedding_laws.proofs.Maps.{image-fits}
 use Rattle.embedding_search.proofs.Found.{faultless, images-pass}
 use Rattle.text.specs.Text.{decimal, hex8}
 use Rattle.lines.specs.Lines.{allSpaced, inLine, outLine, noLine, mapLine}
@@ -63,18 +64,18 @@ out-length : (p : ℕ) → length (outLine p) ≤ 13
 unfolding outLine
 out-length p = omega (arith, length-append (hex8 p) (10 ∷ []), length-hex8 p)
 
-spaced-length : (m : List ℕ) → ((i : ℕ) → i < length m → getD m i 0 < 64) → length (allSpaced m) ≤ 3 * length m
+spaced-length : (m : List ℕ) → ((i : ℕ) → i < length m → getD m i 0 < 256) → length (allSpaced m) ≤ 4 * length m
 spaced-length [] h = omega arith
 spaced-length (n ∷ m) h =
-    let small : n < 64 = h 0 (omega arith) in
+    let small : n < 256 = h 0 (omega arith) in
     omega (
       arith,
       length-append (decimal n) (allSpaced m),
-      length-decimal 1 n (omega (arith, small)),
+      length-decimal 2 n (omega (arith, small)),
       spaced-length m (λ i g. h (suc i) (omega (arith, g))),
     )
 
-map-length : (m : List ℕ) → length m ≤ 32 → ((i : ℕ) → i < length m → getD m i 0 < 64) → length (mapLine m) ≤ 100
+map-length : (m : List ℕ) → length m ≤ 32 → ((i : ℕ) → i < length m → getD m i 0 < 256) → length (mapLine m) ≤ 132
 unfolding mapLine
 map-length m h g = omega (arith, length-append (allSpaced m) (10 ∷ []), spaced-length m g)
 
@@ -86,7 +87,7 @@ Good (drawing s t l) = Unit
 Good (serving m steps) = Sound m × (m .limit ≤ 256)
 
 abbrev room : Sheet → ℕ
-room (drawing s t l) = 100
+room (drawing s t l) = 132
 room (serving m steps) = 0
 
 -- a command's line takes 13 bytes at most, or those that were kept for the map
@@ -109,7 +110,7 @@ module _ (at : ℕ) (h : at < 65536) where
         line = omega (
           arith,
           map-length (take (length s) (searchMap s t)) (omega (arith, E .long, few))
-              (λ i g. omega (arith, E .within i (omega (arith, E .long, g)), low)),
+              (λ i g. image-fits (tree s) (tree t) (take (length s) (searchMap s t)) E low i (omega (arith, E .long, g))),
         );
       }
     where
@@ -189,6 +190,6 @@ module _ (script : List ℕ) (h : length script ≤ 65536) where
       rw (reads-by script at)
       (by-read at sheet g (readAt script at) refl (λ f i s k. from-length bytes (nextAt script at) s (omega (arith, f, l)) k))
 
-  pub output-fits : length (output script) ≤ 852068
+  pub output-fits : length (output script) ≤ 852100
   unfolding output
   output-fits = omega (arith, from-length (length script) 0 (drawing [] [] none) (omega arith) tt, h)

@@ -6,12 +6,10 @@ use native.Mathlib.Omega.{arith}
 use mathlib.Core.List.{List}
 use mathlib.Core.Bool.{Bool, true, false}
 use mathlib.Core.Option.{Option, none, some}
-use lib.ListN.{length, length-take}
 use lib.Dec.{eqb}
-use Rattle.topology.specs.Tree.{Topo, size}
+use Rattle.topology.specs.Tree.{Topo}
 use Rattle.topology.specs.Address.{addr}
 use Rattle.topology.specs.Reader.{pick, fault, tree}
-use Rattle.topology.proofs.Lookup.{valid-size}
 use Rattle.pifo.specs.Queue.{Rank}
 use Rattle.pifo.specs.Tree.{Step, PTree, pop}
 use Rattle.pifo.specs.Machine.{Call, pushing, popping, Answer, accepted, refused, serve, servePop}
@@ -91,26 +89,21 @@ module _ (t : Tree) where
               (own-after t c a r d y v (rules-sound y) refl)
 
       -- a pop, which hands back its way
-      pub by-pop : length (s .frame .topology) ≡ 64 → (a : Answer Packet) (r : State) (way : Way) (images : List ℕ) (after : Disciplines)
-          → Serves s popping a r → way ≡ wayOf s → images ≡ ownImages → after ≡ clocked d (s .frame .nodes) way images
-          → OwnServes t (calling popping) a (treeWith r after)
-      unfolding machine bytes
-      by-pop long a r way images after v f g h = by-form (wellFormed s) refl
+      pub by-pop : (a : Answer Packet) (r : State) (way : Way) (images : List ℕ) (after : Disciplines) → Serves s popping a r → way ≡ wayOf s
+          → images ≡ ownImages → after ≡ clocked d (bytes s) way images → OwnServes t (calling popping) a (treeWith r after)
+      unfolding machine
+      by-pop a r way images after v f g h = by-form (wellFormed s) refl
         where
-          k : after ≡ clocked d (s .frame .nodes) (wayOf s) ownImages
-          k = h ∙ (λ i. clocked d (s .frame .nodes) (f i) (g i))
+          k : after ≡ clocked d (bytes s) (wayOf s) ownImages
+          k = h ∙ (λ i. clocked d (bytes s) (f i) (g i))
 
           learns : (y : wellFormed s ≡ true) (o : Option (Packet × PTree Packet)) → pop (treeOf s) ≡ o
               → after ≡ learnt S d (rankAt (machine s)) (servePop (machine s) o .0)
-          learns y none e = k ∙ clock-idle s d (s .frame .nodes) ownImages y e
-          learns y (some (p, u)) e =
-              let f = formed s y in
-              let nodes : s .frame .nodes ≡ size S =
-              omega (arith, valid-size 64 (bytes s) (f .valid), length-take (s .frame .nodes) (s .frame .topology), long, f .nodes) in
-              clock-own s d after y (k ∙ ap (λ (n : ℕ). clocked d n (wayOf s) ownImages) nodes)
+          learns y none e = k ∙ clock-idle s d (bytes s) ownImages y e
+          learns y (some (p, u)) e = clock-own s d after y k
 
           by-form : (w : Bool) → wellFormed s ≡ w → OwnServes t (calling popping) a (treeWith r after)
-          by-form false n = ill-call (calling popping) popping a r after n v (k ∙ clock-ill s d (s .frame .nodes) ownImages n)
+          by-form false n = ill-call (calling popping) popping a r after n v (k ∙ clock-ill s d (bytes s) ownImages n)
           by-form true y =
               called S serve rankAt ownRefusal serveOwn t (own-ok y) (own-is t) popping a r after (below-of s popping a r y v)
               (learns y (pop (treeOf s)) refl ∙ ap (learnt S d (rankAt (machine s))) (sym (v .answer y)))

@@ -112,8 +112,9 @@ pub fn pop(tree: Tree) -> TreeServed
     let disciplines = tree.disciplines;
     let frame = state.frame;
     let topology = frame.topology;
+    let nodes = frame.nodes;
     let rules = disciplines.rules;
-    if !are_sound(topology, frame.nodes, rules) {
+    if !are_sound(topology, nodes, rules) {
         return TreeServed {
             tree,
             answer: Answer::Refused(18),
@@ -127,7 +128,7 @@ pub fn pop(tree: Tree) -> TreeServed
     TreeServed {
         tree: Tree {
             state: after,
-            disciplines: after_pop(disciplines, frame.nodes, way, &own_images()),
+            disciplines: after_pop(disciplines, &topology[..nodes], way, &own_images()),
         },
         answer,
     }

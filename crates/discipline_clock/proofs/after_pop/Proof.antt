@@ -9,7 +9,7 @@ times-after-requires : tie.Need-times-after-requires
 times-after-requires c κs = search needs
 
 returns : tie.Need-returns
-returns c = ap (withTimes (c .before .before .before .before .before .args .disciplines)) (c .before .times-after .ensures)
+returns c = ap (withTimes (c .before .before .before .before .before .before .args .disciplines)) (c .before .times-after .ensures)
 
 pub after-pop-spec : {M : Type 1} → statement M
 after-pop-spec = tie.close (tie.spec times-after-requires returns)

@@ -3,7 +3,7 @@ use borrow.Author.Needs.{needs}
 use native.Mathlib.Omega.{arith}
 use mathlib.Core.Path.{_≡_, refl, _∙_}
 use mathlib.Core.Logic.{⊎-elim}
-use Prim.Native.Nat.{_≤_, _<_, _-_}
+use Prim.Native.Nat.{_<_, _-_}
 use lib.ListN.{length, take}
 use denote.Ref.{now}
 use Rattle.discipline_clock.specs.Clock.{rankAmong, rankIn, timesBy}
@@ -12,30 +12,36 @@ use Rattle.discipline_clock.proofs.times_after.Statement.{statement}
 use Rattle.discipline_clock.proofs.times_after.Tie as tie
 
 abbrev Inv-loop : tie.InvT-loop
-Inv-loop nodes images rules taken count after₀ n₀ after n =
-    (n ≤ nodes) × (after ≡ timesBy rules (λ a. rankAmong a (take count taken)) 0 (take n images) after₀)
+Inv-loop bytes images rules taken count after₀ n₀ after n =
+    after ≡ timesBy rules (λ a. rankAmong a (take count taken)) 0 (take n bytes) images after₀
 
 abbrev μ-loop : tie.MeasureT-loop
-μ-loop nodes images rules taken count after₀ n₀ after n = nodes - n
+μ-loop bytes images rules taken count after₀ n₀ after n = length bytes - n
 
 loop-holds : tie.Need-loop-holds Inv-loop μ-loop
-loop-holds c = (search needs, refl)
+loop-holds c = refl
 
 returns : tie.Need-returns Inv-loop μ-loop
 returns c =
     let at = c .before .before in
-    at .loop .inv .1 ∙ times-all _ _ 0 _ _ _ _ (at .loop .inv .0) (λ a b d. omega arith)
+    at .loop .inv ∙ times-all _ _ 0 (at .loop .n) _ _ _ (λ a b d. omega arith)
 
 returns-2 : tie.Need-returns-2 Inv-loop μ-loop
 returns-2 c =
     let at = c .before .before .before in
-    at .loop .inv .1 ∙ times-all _ _ 0 _ _ _ _ (at .loop .inv .0) (λ a b d. omega arith)
+    at .loop .inv ∙ times-all _ _ 0 (at .loop .n) _ _ _ (λ a b d. omega arith)
 
-mul-if3 : tie.Need-mul-if3 Inv-loop μ-loop
-mul-if3 c = search needs
+shared-slice-read-acting : tie.Need-shared-slice-read-acting Inv-loop μ-loop
+shared-slice-read-acting c = search needs
 
-element-copy-out-if3 : tie.Need-element-copy-out-if3 Inv-loop μ-loop
-element-copy-out-if3 c = search needs
+mul-acting : tie.Need-mul-acting Inv-loop μ-loop
+mul-acting c = search needs
+
+element-copy-out-acting : tie.Need-element-copy-out-acting Inv-loop μ-loop
+element-copy-out-acting c = search needs
+
+acting-requires : tie.Need-acting-requires Inv-loop μ-loop
+acting-requires c κs = search needs
 
 shared-slice-read-last-rank : tie.Need-shared-slice-read-last-rank Inv-loop μ-loop
 shared-slice-read-last-rank c = search needs
@@ -63,24 +69,24 @@ loop-less c = search needs
 
 loop-again : tie.Need-loop-again Inv-loop μ-loop
 loop-again c =
-    let at = c .before .before .before .before in
-    let args = at .before .before .before .args in
+    let at = c .before .before .before .before .before .before in
+    let args = at .before .before .before .before .args in
+    let byte : at .loop .n < length (now (args .bytes)) = omega arith in
     let image : at .loop .n < length (now (args .images)) = omega arith in
-    let node : at .loop .n < length (args .times) = omega arith in (
-      search needs,
-      ⊎-elim
-          (λ w. w .3
-          ∙ times-weighted (args .t1) (rankIn (args .way)) _ (now (args .images)) (args .times) _ image node (at .loop .inv .1) _
-          (w .0 .taken) (w .2 .ensures))
-          (λ w. w .1
-          ∙ times-plain (args .t1) (rankIn (args .way)) _ (now (args .images)) (args .times) _ image node (at .loop .inv .1) (w .0 .left))
-          (c .if3 .came),
-    )
+    let node : at .loop .n < length (args .times) = omega arith in
+    ⊎-elim
+    (λ w. w .3
+    ∙ times-weighted (args .t1) (rankIn (args .way)) _ (now (args .bytes)) (now (args .images)) (args .times) _ byte image node (at .loop .inv) _
+    (c .before .acting .ensures) _ (w .0 .taken) (w .2 .ensures))
+    (λ w. w .1
+    ∙ times-plain (args .t1) (rankIn (args .way)) _ (now (args .bytes)) (now (args .images)) (args .times) _ byte image node (at .loop .inv) _
+    (c .before .acting .ensures) (w .0 .left))
+    (c .if3 .came)
 
 returns-3 : tie.Need-returns-3 Inv-loop μ-loop
 returns-3 c =
     let at = c .before in
-    at .loop .inv .1 ∙ times-all _ _ 0 _ _ _ _ (at .loop .inv .0) (λ a b d. omega arith)
+    at .loop .inv ∙ times-all _ _ 0 (at .loop .n) _ _ _ (λ a b d. omega arith)
 
 pub times-after-spec : {M : Type 1} → statement M
 times-after-spec =
@@ -91,8 +97,10 @@ times-after-spec =
     loop-holds
     returns
     returns-2
-    mul-if3
-    element-copy-out-if3
+    shared-slice-read-acting
+    mul-acting
+    element-copy-out-acting
+    acting-requires
     shared-slice-read-last-rank
     mul-last-rank
     array-read-last-rank

@@ -16,6 +16,9 @@ mul-under c = search needs
 element-copy-out-under : tie.Need-element-copy-out-under
 element-copy-out-under c = search needs
 
+acting-requires : tie.Need-acting-requires
+acting-requires c κs = search needs
+
 mul-share-of : tie.Need-mul-share-of
 mul-share-of c = search needs
 
@@ -43,7 +46,8 @@ both-requires c κs = search needs
 returns : tie.Need-returns
 returns c =
     let share = c .before .before .before .before .before .share-of in
-    stepped _ _ _ _ _ _ _ _ _ (share .ensures) (c .before .before .extended .ensures) (c .before .finished .ensures) (c .both .ensures)
+    let acts = c .before .before .before .before .before .before .before .before .acting in
+    stepped _ _ _ _ _ _ _ _ _ _ _ (acts .ensures) (share .ensures) (c .before .before .extended .ensures) (c .before .finished .ensures) (c .both .ensures)
 
 pub step-down-spec : {M : Type 1} → statement M
 step-down-spec =
@@ -53,6 +57,7 @@ step-down-spec =
     element-copy-out-rule
     mul-under
     element-copy-out-under
+    acting-requires
     mul-share-of
     element-copy-out-share-of
     mul-share-of-2

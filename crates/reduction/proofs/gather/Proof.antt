@@ -5,7 +5,7 @@ use native.Mathlib.Omega.{arith}
 use mathlib.Core.Logic.{⊎-elim}
 use lib.ListN.{length}
 use denote.Ref.{now}
-use Rattle.reduction.proofs.Gathering.{GatheredTo, gathered-none, gathered-kept, gathered-passed, gathered-end}
+use Rattle.reduction.proofs.Gathering.{GatheredTo, gather-none, gather-kept, gather-passed, gather-end}
 use Rattle.reduction.proofs.gather.Statement.{statement}
 use Rattle.reduction.proofs.gather.Tie as tie
 
@@ -22,7 +22,7 @@ smaller-requires-2 : tie.Need-smaller-requires-2 Inv-loop μ-loop
 smaller-requires-2 c κs = search needs
 
 loop-holds : tie.Need-loop-holds Inv-loop μ-loop
-loop-holds c = (search needs, gathered-none _ _)
+loop-holds c = (search needs, gather-none _ _)
 
 shared-slice-read-if1 : tie.Need-shared-slice-read-if1 Inv-loop μ-loop
 shared-slice-read-if1 c = search needs
@@ -53,15 +53,15 @@ loop-again c =
     let few : loop .i < 32 = omega arith in (
       search needs,
       ⊎-elim
-          (λ w. gathered-kept bytes list _ _ _ (loop .inv .1) there listed _ _ few (w .0 .taken) (w .2) (w .3))
-          (λ w. gathered-passed bytes list _ _ _ (loop .inv .1) there listed _ _ (w .0 .left) (w .1) (w .2))
+          (λ w. gather-kept bytes list _ _ _ (loop .inv .1) there listed _ _ few (w .0 .taken) (w .2) (w .3))
+          (λ w. gather-passed bytes list _ _ _ (loop .inv .1) there listed _ _ (w .0 .left) (w .1) (w .2))
           (c .if1 .came),
     )
 
 returns : tie.Need-returns Inv-loop μ-loop
 returns c =
     let loop = c .before .loop in
-    gathered-end _ _ _ _ _ (loop .inv .1) (omega arith) (omega arith)
+    gather-end _ _ _ _ _ (loop .inv .1) (omega arith) (omega arith)
 
 pub gather-spec : {M : Type 1} → statement M
 gather-spec =

@@ -5,7 +5,7 @@ use native.Mathlib.Omega.{arith}
 use mathlib.Core.Logic.{⊎-elim}
 use lib.ListN.{length}
 use denote.Ref.{now}
-use Rattle.reduction.proofs.Gathering.{SpreadTo, spread-none, spread-kept, spread-passed, spread-end}
+use Rattle.reduction.proofs.Spreading.{SpreadTo, spread-out-none, spread-out-kept, spread-out-passed, spread-out-end}
 use Rattle.reduction.proofs.spread_out.Statement.{statement}
 use Rattle.reduction.proofs.spread_out.Tie as tie
 
@@ -19,7 +19,7 @@ smaller-requires : tie.Need-smaller-requires Inv-loop μ-loop
 smaller-requires c κs = search needs
 
 loop-holds : tie.Need-loop-holds Inv-loop μ-loop
-loop-holds c = (search needs, spread-none _ _)
+loop-holds c = (search needs, spread-out-none _ _)
 
 shared-slice-read-if1 : tie.Need-shared-slice-read-if1 Inv-loop μ-loop
 shared-slice-read-if1 c = search needs
@@ -52,15 +52,15 @@ loop-again c =
     let left : loop .next < length (args .t2) = omega (arith, loop .inv .1 .few) in (
       search needs,
       ⊎-elim
-          (λ w. spread-passed bytes (args .t2) _ _ _ (loop .inv .1) there left few _ _ (w .0 .taken) (w .1) (w .2))
-          (λ w. spread-kept bytes (args .t2) _ _ _ (loop .inv .1) there left few _ _ (w .0 .left) (w .1) (w .2))
+          (λ w. spread-out-passed bytes (args .t2) _ _ _ (loop .inv .1) there left few _ _ (w .0 .taken) (w .1) (w .2))
+          (λ w. spread-out-kept bytes (args .t2) _ _ _ (loop .inv .1) there left few _ _ (w .0 .left) (w .1) (w .2))
           (c .if1 .came),
     )
 
 returns : tie.Need-returns Inv-loop μ-loop
 returns c =
     let loop = c .before .loop in
-    spread-end _ _ _ _ _ (loop .inv .1) (omega arith) (omega arith)
+    spread-out-end _ _ _ _ _ (loop .inv .1) (omega arith) (omega arith)
 
 pub spread-out-spec : {M : Type 1} → statement M
 spread-out-spec =

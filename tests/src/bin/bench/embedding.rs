@@ -1,5 +1,6 @@
 //! The search and the check, on pairs of several kinds.
 
+use linduvar_tests::generate::chain;
 use linduvar_tests::pairs;
 use linduvar_tests::random::Random;
 use linduvar_tests::topology::{SOURCE_NODES, TARGET_NODES};
@@ -41,7 +42,7 @@ pub fn run(random: &mut Random) {
         );
     }
 
-    search("chains", &[(bunch(8, 3), bunch(7, 8))]);
+    search("combs", &[(combs(8, 1), combs(7, 3))]);
     let stars = [vec![7], fan(8).repeat(3), vec![0; 4]].concat();
     let spine = [[8, 0, 0, 0, 0, 0, 0, 0].repeat(7), fan(7)].concat();
     let stalk = [vec![1; 6], vec![7], fan(8).repeat(6), fan(2)].concat();
@@ -63,8 +64,13 @@ pub fn run(random: &mut Random) {
 
 /// A root with that many chains below it.
 fn bunch(chains: usize, nodes: usize) -> Vec<u8> {
-    let chain = [vec![1; nodes - 1], vec![0]].concat();
-    [vec![chains as u8], chain.repeat(chains)].concat()
+    [vec![chains as u8], chain(nodes).repeat(chains)].concat()
+}
+
+/// A root with that many combs below it: a comb's node has a leaf and the next.
+fn combs(combs: usize, teeth: usize) -> Vec<u8> {
+    let comb = [[2, 0].repeat(teeth), vec![0]].concat();
+    [vec![combs as u8], comb.repeat(combs)].concat()
 }
 
 /// A node with that many leaves.

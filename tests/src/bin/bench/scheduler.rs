@@ -1,7 +1,8 @@
 //! A tree with disciplines: a pop and a push in turn, to a leaf and by path, and
 //! one push of each kind alone.
 //!
-//! All inner nodes are weighted. A push by path has the largest ranks, so that
+//! All inner nodes are weighted, and none has one child: such a node would be
+//! passed over. A push by path has the largest ranks, so that
 //! its entries go behind all others, as those of a push to a leaf do; then the
 //! two differ by what the disciplines take.
 
@@ -15,7 +16,7 @@ use linduvar_tests::topology::TARGET_NODES;
 use linduvar_tests::translator::Path;
 use std::hint::black_box;
 
-const CHAINS: usize = 4;
+const COMBS: usize = 4;
 const LENGTH: u16 = 300;
 
 pub fn run() {
@@ -72,7 +73,7 @@ fn singles(weighted: &Weighted) {
     );
 }
 
-/// A tree of some chains that holds packets, its last leaf and the path there,
+/// A tree of some combs that holds packets, its last leaf and the path there,
 /// and what crosses the boundary to Rattle.
 pub struct Weighted {
     tree: Tree,
@@ -86,8 +87,8 @@ pub struct Weighted {
 
 impl Weighted {
     pub fn new(depth: usize, packets: usize) -> Weighted {
-        let chain = [vec![1; depth - 1], vec![0]].concat();
-        let topology = [vec![CHAINS as u8], chain.repeat(CHAINS)].concat();
+        let comb = [[2, 0].repeat(depth - 1), vec![0]].concat();
+        let topology = [vec![COMBS as u8], comb.repeat(COMBS)].concat();
         let mut rules = [Rule {
             discipline: ARRIVAL,
             weight: 3,
@@ -102,14 +103,14 @@ impl Weighted {
         let mut tree =
             Tree::open(&topology, MOST_PACKETS, &rules).expect("a valid tree and right rules");
         for packet in 0..packets {
-            let leaf = (packet % CHAINS + 1) * depth;
+            let leaf = (packet % COMBS + 1) * comb.len();
             let held = tree.push_to_leaf(leaf, 0, LENGTH, packet as u32);
             assert_eq!(held, Ok(packet + 1));
         }
         let mut less = tree.clone();
         less.pop().expect("a packet is held");
         let step = |at: usize| Step {
-            child: if at == 0 { CHAINS } else { 1 } as u8,
+            child: if at == 0 { COMBS } else { 2 } as u8,
             rank: u32::MAX,
         };
         let steps: Vec<Step> = (0..depth).map(step).collect();
@@ -118,7 +119,7 @@ impl Weighted {
             less: PlainTree::write(&less),
             plain_path: PlainPath::write(&steps, 0),
             tree,
-            leaf: CHAINS * depth,
+            leaf: COMBS * comb.len(),
             path: Path {
                 steps,
                 leaf_rank: 0,
