@@ -47,7 +47,7 @@ fn head(height: usize) -> String {
     let style = [
         "svg{background:white}text{font:10px sans-serif;text-anchor:middle}path{fill:none;stroke:black}circle{fill:white;stroke:black}",
         ".title,.note{font-size:14px;text-anchor:start}.child{font-size:9px}.joins path{stroke:skyblue}",
-        ".image{fill:skyblue}.between{stroke-dasharray:3}.unused{fill:lightgrey}",
+        ".passed{stroke:lightgrey}.image{fill:skyblue}.between{stroke-dasharray:3}.unused{fill:lightgrey}",
     ];
     format!(
         "<svg xmlns=\"http://www.w3.org/2000/svg\" width=\"800\" height=\"{height}\"><style>\n{}</style>\n",
@@ -76,9 +76,11 @@ fn pair(source: &[u8], target: &[u8], images: &[u8]) -> String {
         writeln!(text, "<path d=\"M{x},{y}H320L456,{down}H{over}\"/>").expect("a string");
     }
     text += "</g>\n";
-    text += &tree(SOURCE_LEFT, &source, &[]);
+    text += &tree(SOURCE_LEFT, &source, |node| source_class(&source, node));
     let images: Vec<usize> = joined.iter().map(|&(_, image)| image).collect();
-    text + &tree(CHIP_LEFT, &target, &images)
+    text + &tree(CHIP_LEFT, &target, |node| {
+        chip_class(&target, &images, node)
+    })
 }
 
 fn column(left: usize, tree: &Topology, node: usize) -> usize {
@@ -89,19 +91,26 @@ fn row(node: usize) -> usize {
     40 + 24 * node
 }
 
-fn tree(left: usize, tree: &Topology, images: &[usize]) -> String {
+/// A tree; `class` gives each node its look.
+fn tree(left: usize, tree: &Topology, class: impl Fn(usize) -> &'static str) -> String {
     let mut text = "<g>\n".to_string();
-    branch(left, tree, images, 0, &mut text);
+    branch(left, tree, &class, 0, &mut text);
     text + "</g>\n"
 }
 
 /// A node, then its children's branches, each with the line to it before it.
-fn branch(left: usize, tree: &Topology, images: &[usize], node: usize, text: &mut String) {
+fn branch(
+    left: usize,
+    tree: &Topology,
+    class: &impl Fn(usize) -> &'static str,
+    node: usize,
+    text: &mut String,
+) {
     let (x, y) = (column(left, tree, node), row(node));
-    let class = class(tree, images, node);
+    let look = class(node);
     write!(
         text,
-        "<circle class=\"{class}\" cx=\"{x}\" cy=\"{y}\" r=\"9\"/>"
+        "<circle class=\"{look}\" cx=\"{x}\" cy=\"{y}\" r=\"9\"/>"
     )
     .expect("a string");
     writeln!(text, "<text x=\"{x}\" y=\"{y}\" dy=\"4\">{node}</text>").expect("a string");
@@ -111,11 +120,20 @@ fn branch(left: usize, tree: &Topology, images: &[usize], node: usize, text: &mu
         write!(text, "<path d=\"M{x},{y}m0,9V{down}h32\"/>").expect("a string");
         let place = format!("x=\"{x}\" y=\"{down}\" dx=\"15\" dy=\"-3\"");
         writeln!(text, "<text class=\"child\" {place}>{number}</text>").expect("a string");
-        branch(left, tree, images, child, text);
+        branch(left, tree, class, child, text);
     }
 }
 
-fn class(tree: &Topology, images: &[usize], node: usize) -> &'static str {
+/// An inner source node with one child is passed over.
+fn source_class(tree: &Topology, node: usize) -> &'static str {
+    if tree.child_count(node) == 1 {
+        "passed"
+    } else {
+        "plain"
+    }
+}
+
+fn chip_class(tree: &Topology, images: &[usize], node: usize) -> &'static str {
     if images.is_empty() {
         "plain"
     } else if images.contains(&node) {

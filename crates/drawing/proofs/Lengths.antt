@@ -3,6 +3,7 @@
 -- An element is longest at its largest numbers. A node lies at most 8 steps down and is at most child 8 of its parent; a source that is
 -- drawn has nodes 0 to 31, a target nodes 0 to 63. So columns go to 296 in the source and to 736 in the target, rows to 784 and 1,552.
 use mathlib.Core.Path.{_≡_, refl, sym, _∙_}
+use mathlib.Core.Logic.{_≢_}
 use Prim.Native.Nat.{ℕ, zero, suc, _+_, _*_, _≤_, _<_, max}
 use native.Mathlib.Nat.{not-suc-le-zero}
 use native.Mathlib.Omega.{arith}
@@ -14,11 +15,13 @@ use borrow.Author.Tests.{eqb-false}
 use Rattle.text.specs.Text.{decimalLast, decimal}
 use Rattle.templates.specs.Template.{bytes, filled}
 use Rattle.templates.proofs.Lengths.{filled-most}
-use Rattle.topology.specs.Reader.{pick, fault}
+use Rattle.topology.specs.Tree.{size}
+use Rattle.topology.specs.Reader.{pick, fault, tree}
 use Rattle.topology.proofs.Lookup.{valid-length, valid-size}
-use Rattle.places.specs.Places.{parent, childNumber, roleOf}
+use Rattle.reduction.specs.Reduced.{passedOver}
+use Rattle.places.specs.Places.{parent, childNumber, sourceRole, roleOf}
 use Rattle.places.specs.declared.Role.{Role}
-use Rattle.places.specs.declared.Role.the-variants.{Plain, Image, Between, Unused}
+use Rattle.places.specs.declared.Role.the-variants.{Plain, Passed, Image, Between, Unused}
 use Rattle.places.proofs.Counting.{parent-most}
 use Rattle.places.proofs.Addresses.{depth-limit, number-limit}
 use Rattle.embedding_laws.specs.Least.{searchMap}
@@ -34,7 +37,7 @@ use Rattle.gathering.proofs.Endings.{Inside, ends-inside}
 use Rattle.gathering.specs.declared.Ending.{Ending}
 use Rattle.gathering.specs.declared.Ending.the-variants.{End, Refused, Compile}
 use Rattle.drawing.specs.Elements.{opening, head, limb, numbered, mark, join, note}
-use Rattle.drawing.specs.Sheet.{column, row, each, limbOf, className, nodeOf, treeOf, joinOf, joinsOf, titles, pairOf}
+use Rattle.drawing.specs.Sheet.{column, row, each, limbOf, className, nodeOf, treeOf, sourceOf, chipOf, joinOf, joinsOf, titles, pairOf}
 use Rattle.drawing.specs.Sheet.{foot, refusedEnd, refusal, refusedSheet, nothing, sheet, limitIn, sheetBy, scriptSheet}
 use Rattle.drawing.proofs.Sheets.{unmapped-trees, sheet-mapped, sheet-refused}
 
@@ -87,12 +90,13 @@ largest =
       note-is = refl;
     }
 
-head-length : (height : ℕ) → height ≤ 1576 → length (head height) ≤ 375
+head-length : (height : ℕ) → height ≤ 1576 → length (head height) ≤ 400
 unfolding head
 head-length height h = rw length-append (omega (arith, opening-most height h, largest .opening-is))
 
 class-length : (r : Role) → length (className r) ≤ 7
 class-length Plain = omega arith
+class-length Passed = omega arith
 class-length Image = omega arith
 class-length Between = omega arith
 class-length Unused = omega arith
@@ -106,7 +110,7 @@ each-length text most (suc n) h =
 
 -- A tree whose root is at `left`, with no node behind node `last`. Each node takes at most `most` bytes: for the line to it, and for its
 -- circle with its number, where 22 bytes are the circle's start with the longest class.
-module _ (left last most : ℕ) (tree images : List ℕ) (e : fault (suc last) tree ≡ 0)
+module _ (left last most : ℕ) (tree : List ℕ) (role : ℕ → Role) (e : fault (suc last) tree ≡ 0)
     (m : length (limb (left + 256) (row last) (row last) 8) + length (numbered (left + 256) (row last) last) + 22 ≡ most) where
   column-most : (k : ℕ) → k < length tree → column left tree k ≤ left + 256
   column-most k h = omega (arith, depth-limit (suc last) tree e k h)
@@ -128,48 +132,54 @@ module _ (left last most : ℕ) (tree images : List ℕ) (e : fault (suc last) t
           (column-most (parent tree k) up) (row-most (parent tree k) up) (row-most k h)
           (number-limit (suc last) tree e k h (omega arith))
 
-  node-length : (k : ℕ) → k < length tree → length (nodeOf left tree images k) ≤ most
+  node-length : (k : ℕ) → k < length tree → length (nodeOf left tree (role k) k) ≤ most
   unfolding nodeOf mark
   node-length k h =
-      let class = className (roleOf tree images k) in
+      let class = className (role k) in
       let here = numbered (column left tree k) (row k) k in
       omega (
         arith,
         length-append (limbOf left tree k) (mark class (column left tree k) (row k) k),
         length-append class here,
         limb-of-length k h,
-        class-length (roleOf tree images k),
+        class-length (role k),
         numbered-most (left + 256) (row last) (column left tree k) (row k) k last (column-most k h) (row-most k h)
             (omega (arith, valid-length (suc last) tree e)),
         m,
       )
 
-  tree-length : length (treeOf left tree images) ≤ 9 + most * length tree
-  unfolding treeOf
+  tree-length : length (treeOf left tree role) ≤ 9 + most * length tree
   tree-length =
+      let nodes = each (λ k. nodeOf left tree (role k) k) (length tree) in
       omega (
         arith,
-        length-append (each (nodeOf left tree images) (length tree)) (bytes "</g>\n"),
-        each-length (nodeOf left tree images) most (length tree) node-length,
+        length-append nodes (bytes "</g>\n"),
+        each-length (λ k. nodeOf left tree (role k) k) most (length tree) node-length,
       )
 
 -- ---- both trees
 
 module _ (source target images : List ℕ) (e : fault 32 source ≡ 0) (f : fault 64 target ≡ 0) (few : length images ≤ length source)
-    (nodes : (a : ℕ) → a < length images → getD images a 0 < length target) where
+    (nodes : (a : ℕ) → a < length images → getD images a 0 ≢ passedOver → getD images a 0 < length target) where
   join-length : (a : ℕ) → a < length images → length (joinOf source target a (getD images a 0)) ≤ 38
   unfolding joinOf
-  join-length a h =
-      let image = getD images a 0 in
-      let inside : a < length source = omega arith in
-      let s = depth-limit 32 source e a inside in
-      let t = depth-limit 64 target f image (nodes a h) in
-      omega (
-        arith,
-        join-most (column 40 source a) (row a) (column 480 target image) (row image) (omega (arith, s))
-            (omega (arith, valid-length 32 source e)) (omega (arith, t)) (omega (arith, nodes a h, valid-length 64 target f)),
-        largest .join-is,
-      )
+  join-length a h = by-test (eqb (getD images a 0) passedOver) refl
+    where
+      line-length : (image : ℕ) → image < length target → length (join (column 40 source a) (row a) (column 480 target image) (row image)) ≤ 38
+      line-length image there =
+          let inside : a < length source = omega arith in
+          omega (
+            arith,
+            join-most (column 40 source a) (row a) (column 480 target image) (row image)
+                (omega (arith, depth-limit 32 source e a inside)) (omega (arith, valid-length 32 source e))
+                (omega (arith, depth-limit 64 target f image there)) (omega (arith, valid-length 64 target f)),
+            largest .join-is,
+          )
+
+      by-test : (b : Bool) → eqb (getD images a 0) passedOver ≡ b
+          → length (pick b [] (join (column 40 source a) (row a) (column 480 target (getD images a 0)) (row (getD images a 0)))) ≤ 38
+      by-test true q = omega arith
+      by-test false q = line-length (getD images a 0) (nodes a h (eqb-false (getD images a 0) passedOver q))
 
   joins-length : length (joinsOf source target images) ≤ 23 + 38 * length images
   unfolding joinsOf
@@ -181,23 +191,23 @@ module _ (source target images : List ℕ) (e : fault 32 source ≡ 0) (f : faul
         each-length (λ a. joinOf source target a (getD images a 0)) 38 (length images) join-length,
       )
 
-  -- 375 bytes for the beginning, 94 for the titles, 23 around the lines, 9 around each tree with 180 or 185 for each node
-  pair-length : length (pairOf source target images) ≤ 18110 + 38 * length images
-  unfolding pairOf
+  -- 400 bytes for the beginning, 94 for the titles, 23 around the lines, 9 around each tree with 180 or 185 for each node
+  pair-length : length (pairOf source target images) ≤ 18135 + 38 * length images
+  unfolding pairOf sourceOf chipOf
   pair-length =
       let s = valid-length 32 source e in
       let t = valid-length 64 target f in
       let top = head (row (max (length source) (length target))) in
-      let trees = treeOf 40 source [] ++ treeOf 480 target images in
+      let trees = sourceOf source ++ chipOf target images in
       omega (
         arith,
         length-append top (titles ++ (joinsOf source target images ++ trees)),
         length-append (joinsOf source target images) trees,
-        length-append (treeOf 40 source []) (treeOf 480 target images),
+        length-append (sourceOf source) (chipOf target images),
         head-length (row (max (length source) (length target))) (omega (arith, s, t)),
         joins-length,
-        tree-length 40 31 180 source [] e (omega (arith, largest .source-limb, largest .source-numbered)),
-        tree-length 480 63 185 target images f (omega (arith, largest .target-limb, largest .target-numbered)),
+        tree-length 40 31 180 source (λ k. sourceRole (getD source k 0)) e (omega (arith, largest .source-limb, largest .source-numbered)),
+        tree-length 480 63 185 target (roleOf target images) f (omega (arith, largest .target-limb, largest .target-numbered)),
       )
 
 -- ---- the whole drawing
@@ -206,26 +216,27 @@ refused-length : (number offset : ℕ) → number ≤ 22 → offset < 65536 → 
 refused-length number offset h g =
     omega (arith, length-append (note number offset) foot, note-most number offset h (omega arith), largest .note-is)
 
-refusal-length : (number offset : ℕ) → number ≤ 22 → offset < 65536 → length (refusal number offset) ≤ 435
+refusal-length : (number offset : ℕ) → number ≤ 22 → offset < 65536 → length (refusal number offset) ≤ 460
 unfolding refusal
 refusal-length number offset h g =
     omega (arith, length-append (head 64) (refusedEnd number offset), head-length 64 (omega arith), refused-length number offset h g)
 
-nothing-length : length nothing ≤ 439
+nothing-length : length nothing ≤ 464
 unfolding nothing
 nothing-length = rw length-append (omega (arith, head-length 64 (omega arith)))
 
 module _ (source target : List ℕ) (limit offset : ℕ) (h : offset < 65536) where
   mapped-length : bothFault source target limit ≡ 0
-      → length (pairOf source target (take (length source) (searchMap source target)) ++ foot) ≤ 19333
+      → length (pairOf source target (take (length source) (searchMap source target)) ++ foot) ≤ 19358
   mapped-length z =
       let found = both-found source target limit z in
       let fine = faultless source target found in
       let E = images-pass source target found in
       let images = take (length source) (searchMap source target) in
       let few : length images ≡ length source = E .long ∙ valid-size 32 source (fine .0) in
-      let nodes : (a : ℕ) → a < length images → getD images a 0 < length target =
-      λ a l. omega (arith, E .within a (omega (arith, E .long)), valid-size 64 target (fine .1)) in
+      let nodes : (a : ℕ) → a < length images → getD images a 0 ≢ passedOver → getD images a 0 < length target =
+      λ a l n. let node : a < size (tree source) = omega (arith, E .long) in
+      omega (arith, E .within a node (λ w. n (E .passed a node w)), valid-size 64 target (fine .1)) in
       omega (
         arith,
         length-append (pairOf source target images) foot,
@@ -235,37 +246,37 @@ module _ (source target : List ℕ) (limit offset : ℕ) (h : offset < 65536) wh
       )
 
   unmapped-length : (number : ℕ) → number ≤ 22 → outcome source target ≡ NoMap
-      → length (pairOf source target [] ++ refusedEnd number offset) ≤ 19333
+      → length (pairOf source target [] ++ refusedEnd number offset) ≤ 19358
   unmapped-length number n q =
       let fine = unmapped-trees source target q in
       omega (
         arith,
         length-append (pairOf source target []) (refusedEnd number offset),
-        pair-length source target [] (fine .0) (fine .1) (omega arith) (λ a l. absurd (not-suc-le-zero l)),
+        pair-length source target [] (fine .0) (fine .1) (omega arith) (λ a l n. absurd (not-suc-le-zero l)),
         refused-length number offset n h,
       )
 
-  sheet-length : length (sheet source target limit offset) ≤ 19333
+  sheet-length : length (sheet source target limit offset) ≤ 19358
   sheet-length = by-number (bothFault source target limit) refl
     where
       refused-sheet : (number : ℕ) → number ≤ 22 → (o : Outcome) → outcome source target ≡ o
-          → length (refusedSheet o source target number offset) ≤ 19333
+          → length (refusedSheet o source target number offset) ≤ 19358
       refused-sheet number n Map q = omega (arith, refusal-length number offset n h)
       refused-sheet number n NoMap q = unmapped-length number n q
       refused-sheet number n (AtFault f) q = omega (arith, refusal-length number offset n h)
 
-      by-number : (number : ℕ) → bothFault source target limit ≡ number → length (sheet source target limit offset) ≤ 19333
+      by-number : (number : ℕ) → bothFault source target limit ≡ number → length (sheet source target limit offset) ≤ 19358
       by-number zero z = rw (← (sheet-mapped source target limit 0 (sym z) offset refl (searchMap source target) refl)) (mapped-length z)
       by-number (suc n) z =
           rw (← (sheet-refused source target limit (suc n) (sym z) offset (omega arith) (outcome source target) refl))
           (refused-sheet (suc n) (omega (arith, z, both-most source target limit)) (outcome source target) refl)
 
--- No drawing is longer than 19,333 bytes.
-pub sheet-fits : (script : List ℕ) → length script ≤ 65536 → length (scriptSheet script) ≤ 19333
+-- No drawing is longer than 19,358 bytes.
+pub sheet-fits : (script : List ℕ) → length script ≤ 65536 → length (scriptSheet script) ≤ 19358
 unfolding scriptSheet
 sheet-fits script h = by-ending (gathered script .ending) (ends-inside script)
   where
-    by-ending : (e : Ending) → Inside (length script) e → length (sheetBy e (gathered script)) ≤ 19333
+    by-ending : (e : Ending) → Inside (length script) e → length (sheetBy e (gathered script)) ≤ 19358
     by-ending End i = omega (arith, nothing-length)
     by-ending (Refused n offset) i = omega (arith, refusal-length n offset (i .0) (omega (arith, i .1)))
     by-ending (Compile at) i =

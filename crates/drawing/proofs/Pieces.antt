@@ -7,7 +7,8 @@ use mathlib.Core.List.{List, []}
 use borrow.Author.Tests.{eq-eqb, ne-eqb}
 use Rattle.text.specs.Text.{Puts}
 use Rattle.text.proofs.Writing.{puts-as, puts-then}
-use Rattle.places.specs.Places.{parent, childNumber, roleOf}
+use Rattle.reduction.specs.Reduced.{passedOver}
+use Rattle.places.specs.Places.{parent, childNumber}
 use Rattle.places.specs.declared.Role.{Role}
 use Rattle.drawing.specs.Elements.{limb, mark, join}
 use Rattle.drawing.specs.Sheet.{column, row, each, limbOf, className, nodeOf, joinOf}
@@ -28,13 +29,18 @@ module _ (left : ℕ) (tree : List ℕ) (k : ℕ) where
       → y ≡ row k → child ≡ childNumber tree k → limb x top y child ≡ limbOf left tree k
   limb-below n above x top y child a b c d e = rw (ne-eqb k 0 n, b, c, d, e, a)
 
-  pub node-parts : {before middle after : List ℕ} {at place end : ℕ} (images : List ℕ) (x y : ℕ) (kind : Role) → Puts before at (limbOf left tree k) middle place
-      → kind ≡ roleOf tree images k → x ≡ column left tree k → y ≡ row k → Puts middle place (mark (className kind) x y k) after end
-      → Puts before at (nodeOf left tree images k) after end
+  pub node-parts : {before middle after : List ℕ} {at place end : ℕ} (role : Role) (x y : ℕ) → Puts before at (limbOf left tree k) middle place
+      → x ≡ column left tree k → y ≡ row k → Puts middle place (mark (className role) x y k) after end
+      → Puts before at (nodeOf left tree role k) after end
   unfolding nodeOf
-  node-parts images x y kind p a b c q = puts-then p (rw (a, b, c) at q)
+  node-parts role x y p a b q = puts-then p (rw (a, b) at q)
 
-pub join-parts : (source target : List ℕ) (a image x y over down : ℕ) → x ≡ column 40 source a → y ≡ row a → over ≡ column 480 target image
-    → down ≡ row image → join x y over down ≡ joinOf source target a image
-unfolding joinOf
-join-parts source target a image x y over down b c d e = rw (b, c, d, e)
+module _ (source target : List ℕ) (a image : ℕ) where
+  pub join-none : image ≡ passedOver → [] ≡ joinOf source target a image
+  unfolding joinOf
+  join-none e = rw (eq-eqb image passedOver e)
+
+  pub join-drawn : (image ≡ passedOver → ⊥) → (node x y over down : ℕ) → node ≡ image → x ≡ column 40 source a → y ≡ row a
+      → over ≡ column 480 target node → down ≡ row node → join x y over down ≡ joinOf source target a image
+  unfolding joinOf
+  join-drawn n node x y over down b c d e f = rw (ne-eqb image passedOver n, c, d, e, f, b)

@@ -12,7 +12,7 @@ use Rattle.topology.specs.Reader.{orElse, fault}
 use Rattle.topology.proofs.Cases.{clash}
 use Rattle.topology.proofs.Lookup.{valid-length}
 use Rattle.topology.proofs.Refusals.{orElse-none}
-use Rattle.embedding_laws.specs.Least.{Found, leastMap, searchMap}
+use Rattle.embedding_laws.specs.Least.{Found, leastOf, searchMap}
 use Rattle.embedding_search.specs.Outcomes.{outcomeBy, outcome}
 use Rattle.embedding_search.specs.declared.Outcome.{Outcome}
 use Rattle.embedding_search.specs.declared.Outcome.the-variants.{Map, NoMap, Refused as AtFault}
@@ -33,7 +33,7 @@ pub record Small (source target : List ℕ) : Type 0 where
 -- where there is no map, both are trees
 pub unmapped-trees : (source target : List ℕ) → outcome source target ≡ NoMap → (fault 32 source ≡ 0) × (fault 64 target ≡ 0)
 unfolding outcome
-unmapped-trees source target e = orElse-none (fault 32 source) (fault 64 target) (by-fault (orElse (fault 32 source) (fault 64 target)) (leastMap source target) e)
+unmapped-trees source target e = orElse-none (fault 32 source) (fault 64 target) (by-fault (orElse (fault 32 source) (fault 64 target)) (leastOf source target) e)
   where
     by-fault : (f : ℕ) (a : Found) → outcomeBy f a ≡ NoMap → f ≡ 0
     by-fault zero a q = refl

@@ -13,7 +13,7 @@ head height =
     opening height
     ++ (bytes "svg{background:white}text{font:10px sans-serif;text-anchor:middle}path{fill:none;stroke:black}circle{fill:white;stroke:black}\n"
     ++ (bytes ".title,.note{font-size:14px;text-anchor:start}.child{font-size:9px}.joins path{stroke:skyblue}\n"
-    ++ bytes ".image{fill:skyblue}.between{stroke-dasharray:3}.unused{fill:lightgrey}</style>\n"))
+    ++ bytes ".passed{stroke:lightgrey}.image{fill:skyblue}.between{stroke-dasharray:3}.unused{fill:lightgrey}</style>\n"))
 
 -- The line from a node's parent, at x and `above`, down to the node's row y and right to its column; and the node's child number at it.
 unfoldable pub limb : ℕ → ℕ → ℕ → ℕ → List ℕ

@@ -6,14 +6,15 @@ use mathlib.Core.Option.{Option, none, some}
 use lib.ListN.{length, getD, take}
 use lib.Dec.{eqb}
 use Rattle.topology.specs.Reader.{pick}
+use Rattle.reduction.specs.Reduced.{passedOver}
 use Rattle.embedding_laws.specs.Least.{searchMap}
 use Rattle.embedding_search.specs.Outcomes.{outcome}
 use Rattle.embedding_search.specs.declared.Outcome.{Outcome}
 use Rattle.embedding_search.specs.declared.Outcome.the-variants.{Map, NoMap, Refused as AtFault}
 use Rattle.pair_state.specs.Opening.{bothFault}
-use Rattle.places.specs.Places.{depth, parent, childNumber, roleOf}
+use Rattle.places.specs.Places.{depth, parent, childNumber, sourceRole, roleOf}
 use Rattle.places.specs.declared.Role.{Role}
-use Rattle.places.specs.declared.Role.the-variants.{Plain, Image, Between, Unused}
+use Rattle.places.specs.declared.Role.the-variants.{Plain, Passed, Image, Between, Unused}
 use Rattle.gathering.specs.Gathering.{Given, gathered}
 use Rattle.gathering.specs.declared.Ending.{Ending}
 use Rattle.gathering.specs.declared.Ending.the-variants.{End, Refused, Compile}
@@ -40,20 +41,29 @@ limbOf left tree k =
 
 abbrev pub className : Role → List ℕ
 className Plain = bytes "plain"
+className Passed = bytes "passed"
 className Image = bytes "image"
 className Between = bytes "between"
 className Unused = bytes "unused"
 
--- node k of a tree, in the look of its role to the images
-unfoldable pub nodeOf : ℕ → List ℕ → List ℕ → ℕ → List ℕ
-nodeOf left tree images k = limbOf left tree k ++ mark (className (roleOf tree images k)) (column left tree k) (row k) k
+-- node k of a tree, in the look of its role
+unfoldable pub nodeOf : ℕ → List ℕ → Role → ℕ → List ℕ
+nodeOf left tree role k = limbOf left tree k ++ mark (className role) (column left tree k) (row k) k
 
-unfoldable pub treeOf : ℕ → List ℕ → List ℕ → List ℕ
-treeOf left tree images = bytes "<g>\n" ++ (each (nodeOf left tree images) (length tree) ++ bytes "</g>\n")
+-- a tree whose nodes have these roles
+abbrev pub treeOf : ℕ → List ℕ → (ℕ → Role) → List ℕ
+treeOf left tree role = bytes "<g>\n" ++ (each (λ k. nodeOf left tree (role k) k) (length tree) ++ bytes "</g>\n")
 
--- the line from a source node to its image
+unfoldable pub sourceOf : List ℕ → List ℕ
+sourceOf source = treeOf 40 source (λ k. sourceRole (getD source k 0))
+
+unfoldable pub chipOf : List ℕ → List ℕ → List ℕ
+chipOf target images = treeOf 480 target (roleOf target images)
+
+-- the line from a source node to its image; none from a node that is passed over
 unfoldable pub joinOf : List ℕ → List ℕ → ℕ → ℕ → List ℕ
-joinOf source target a image = join (column 40 source a) (row a) (column 480 target image) (row image)
+joinOf source target a image =
+    pick (eqb image passedOver) [] (join (column 40 source a) (row a) (column 480 target image) (row image))
 
 unfoldable pub joinsOf : List ℕ → List ℕ → List ℕ → List ℕ
 joinsOf source target images =
@@ -66,7 +76,7 @@ titles = bytes "<text class=\"title\" x=\"40\" y=\"20\">source</text><text class
 unfoldable pub pairOf : List ℕ → List ℕ → List ℕ → List ℕ
 pairOf source target images =
     head (row (max (length source) (length target)))
-    ++ (titles ++ (joinsOf source target images ++ (treeOf 40 source [] ++ treeOf 480 target images)))
+    ++ (titles ++ (joinsOf source target images ++ (sourceOf source ++ chipOf target images)))
 
 abbrev pub foot : List ℕ
 foot = bytes "</svg>\n"

@@ -27,7 +27,7 @@ pub(crate) fn put_head(out: &mut [u8], at: usize, height: usize) -> usize
     put_word(
         out,
         joins,
-        b".image{fill:skyblue}.between{stroke-dasharray:3}.unused{fill:lightgrey}</style>\n",
+        b".passed{stroke:lightgrey}.image{fill:skyblue}.between{stroke-dasharray:3}.unused{fill:lightgrey}</style>\n",
     )
 }
 

@@ -15,6 +15,8 @@ use places::child_number;
 use places::depth;
 use places::parent;
 use places::role_of;
+use places::source_role;
+use reduction::PASSED_OVER;
 use text::put_word;
 use topology::wide;
 ghost use mathlib.Core.Path.{_≡_};
@@ -22,7 +24,7 @@ ghost use Prim.Native.Nat.{_<_, _≤_, max};
 ghost use lib.ListN.{length, take};
 ghost use Rattle.text.specs.Text.{Puts};
 ghost use Rattle.drawing.specs.Elements.{mark};
-ghost use Rattle.drawing.specs.Sheet.{className, column, row, limbOf, nodeOf, treeOf, joinOf, joinsOf, pairOf, refusedEnd, refusal, nothing, sheet, scriptSheet};
+ghost use Rattle.drawing.specs.Sheet.{className, column, row, limbOf, nodeOf, sourceOf, chipOf, joinOf, joinsOf, pairOf, refusedEnd, refusal, nothing, sheet, scriptSheet};
 
 const SOURCE_LEFT: usize = 40;
 
@@ -65,65 +67,78 @@ fn put_role(out: &mut [u8], at: usize, role: Role, x: usize, y: usize, node: usi
 {
     match role {
         Role::Plain => put_mark(out, at, b"plain", x, y, node),
+        Role::Passed => put_mark(out, at, b"passed", x, y, node),
         Role::Image => put_mark(out, at, b"image", x, y, node),
         Role::Between => put_mark(out, at, b"between", x, y, node),
         Role::Unused => put_mark(out, at, b"unused", x, y, node),
     }
 }
 
-// A node with the line to it.
-fn put_node(
-    out: &mut [u8],
-    at: usize,
-    left: usize,
-    bytes: &[u8],
-    images: &[u8],
-    node: usize,
-) -> usize
+// A node in the look of a role, with the line to it.
+fn put_node(out: &mut [u8], at: usize, left: usize, bytes: &[u8], role: Role, node: usize) -> usize
     requires { ⌜ (left ≤ 480) × (node < 256) ⌝ }
-    ensures { λ r. ⌜ Puts (now (out .entry)) at (nodeOf left (now (bytes .entry)) (now (images .entry)) node) (now (out .exit)) r ⌝ }
+    ensures { λ r. ⌜ Puts (now (out .entry)) at (nodeOf left (now (bytes .entry)) role node) (now (out .exit)) r ⌝ }
 {
     let limb = put_limb_of(out, at, left, bytes, node);
-    let kind = role_of(bytes, images, node);
     let x = column_of(left, bytes, node);
     let y = row_of(node);
-    put_role(out, limb, kind, x, y, node)
+    put_role(out, limb, role, x, y, node)
 }
 
-// A tree, node by node.
-fn put_tree(out: &mut [u8], at: usize, left: usize, bytes: &[u8], images: &[u8]) -> usize
-    requires { ⌜ (left ≤ 480) × (length (now bytes) ≤ 64) ⌝ }
-    ensures { λ r. ⌜ Puts (now (out .entry)) at (treeOf left (now (bytes .entry)) (now (images .entry))) (now (out .exit)) r ⌝ }
+// The source's tree, node by node.
+fn put_source(out: &mut [u8], at: usize, source: &[u8]) -> usize
+    requires { ⌜ length (now source) ≤ 64 ⌝ }
+    ensures { λ r. ⌜ Puts (now (out .entry)) at (sourceOf (now (source .entry))) (now (out .exit)) r ⌝ }
 {
     let mut place = put_word(out, at, b"<g>\n");
     let mut k = 0;
-    while k < bytes.len() {
-        place = put_node(out, place, left, bytes, images, k);
+    while k < source.len() {
+        let role = source_role(source[k]);
+        place = put_node(out, place, SOURCE_LEFT, source, role, k);
         k += 1;
     }
     put_word(out, place, b"</g>\n")
 }
 
-// The line from a source node to its image.
+// The chip's tree, node by node.
+fn put_chip(out: &mut [u8], at: usize, target: &[u8], images: &[u8]) -> usize
+    requires { ⌜ length (now target) ≤ 64 ⌝ }
+    ensures { λ r. ⌜ Puts (now (out .entry)) at (chipOf (now (target .entry)) (now (images .entry))) (now (out .exit)) r ⌝ }
+{
+    let mut place = put_word(out, at, b"<g>\n");
+    let mut k = 0;
+    while k < target.len() {
+        let role = role_of(target, images, k);
+        place = put_node(out, place, CHIP_LEFT, target, role, k);
+        k += 1;
+    }
+    put_word(out, place, b"</g>\n")
+}
+
+// The line from a source node to its image; nothing for a node that is passed over.
 fn put_join_of(
     out: &mut [u8],
     at: usize,
     source: &[u8],
     target: &[u8],
     node: usize,
-    image: usize,
+    image: u8,
 ) -> usize
-    requires { ⌜ (node < 256) × (image < 256) ⌝ }
+    requires { ⌜ node < 256 ⌝ }
     ensures { λ r. ⌜ Puts (now (out .entry)) at (joinOf (now (source .entry)) (now (target .entry)) node image) (now (out .exit)) r ⌝ }
 {
+    if image == PASSED_OVER {
+        return put_word(out, at, &source[..0]);
+    }
     let x = column_of(SOURCE_LEFT, source, node);
     let y = row_of(node);
-    let over = column_of(CHIP_LEFT, target, image);
-    let down = row_of(image);
+    let chip_node = wide(image);
+    let over = column_of(CHIP_LEFT, target, chip_node);
+    let down = row_of(chip_node);
     put_join(out, at, x, y, over, down)
 }
 
-// The lines from all source nodes to their images.
+// The lines from the source nodes to their images.
 fn put_joins(out: &mut [u8], at: usize, source: &[u8], target: &[u8], images: &[u8]) -> usize
     requires { ⌜ length (now images) ≤ 64 ⌝ }
     ensures { λ r. ⌜ Puts (now (out .entry)) at (joinsOf (now (source .entry)) (now (target .entry)) (now (images .entry))) (now (out .exit)) r ⌝ }
@@ -131,7 +146,7 @@ fn put_joins(out: &mut [u8], at: usize, source: &[u8], target: &[u8], images: &[
     let mut place = put_word(out, at, b"<g class=\"joins\">\n");
     let mut a = 0;
     while a < images.len() {
-        place = put_join_of(out, place, source, target, a, wide(images[a]));
+        place = put_join_of(out, place, source, target, a, images[a]);
         a += 1;
     }
     put_word(out, place, b"</g>\n")
@@ -156,8 +171,8 @@ fn put_pair(out: &mut [u8], at: usize, source: &[u8], target: &[u8], images: &[u
         b"<text class=\"title\" x=\"40\" y=\"20\">source</text><text class=\"title\" x=\"480\" y=\"20\">chip</text>\n",
     );
     let joins = put_joins(out, titles, source, target, images);
-    let left = put_tree(out, joins, SOURCE_LEFT, source, &images[..0]);
-    put_tree(out, left, CHIP_LEFT, target, images)
+    let left = put_source(out, joins, source);
+    put_chip(out, left, target, images)
 }
 
 // The end of a drawing, with a refusal before it.

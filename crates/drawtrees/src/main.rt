@@ -9,6 +9,6 @@ fn walk(input: &mut [u8], text: &mut [u8]) {
 // The drawing fits (`sheet-fits` in drawing/proofs/Lengths).
 fn main() {
     let mut input = [0u8; 65536];
-    let mut text = [0u8; 19333];
+    let mut text = [0u8; 19358];
     walk(&mut input, &mut text);
 }

@@ -87,6 +87,16 @@ module _ (m : List ℕ) where
   unfolding rule1
   apart-end a = all-end (λ a. all a (λ b. not (eqb (image m b) (image m a)))) a (length m)
 
+-- rule 2
+module _ (s m : List ℕ) where
+  pub root-kept : image m 0 ≡ 0 → true ≡ rule2 s m
+  unfolding rule2
+  root-kept e = rw e
+
+  pub root-moved : (image m 0 ≡ 0 → ⊥) → eqb (getD s 0 0) 0 ≡ rule2 s m
+  unfolding rule2
+  root-moved n = rw (ne-eqb (image m 0) 0 n)
+
 -- rule 3
 pub kept-leaf : (s t : ℕ) → s ≡ 0 → eqb t 0 ≡ leafKept s t
 unfolding leafKept
@@ -179,16 +189,6 @@ tabled source target m z =
       places = omega (arith, z .long, z .source-fits);
       images = λ b h. omega (arith, node-at target m b (z .nodes) h, z .target-fits);
     }
-
--- rule 2
-module _ (s m : List ℕ) where
-  pub root-kept : image m 0 ≡ 0 → true ≡ rule2 s m
-  unfolding rule2
-  root-kept e = rw e
-
-  pub root-moved : (image m 0 ≡ 0 → ⊥) → eqb (getD s 0 0) 0 ≡ rule2 s m
-  unfolding rule2
-  root-moved n = rw (ne-eqb (image m 0) 0 n)
 
 -- The refusals of a list of images, in the order of the tests.
 module _ (s t m : List ℕ) (long : length m ≡ length s) where

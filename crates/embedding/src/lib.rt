@@ -64,6 +64,14 @@ fn keeps_apart(map: &[u8]) -> bool
     true
 }
 
+// Rule 2: the root goes to the root. The rule lapses where the root is a leaf, which is then alone.
+fn keeps_root(source: &[u8], map: &[u8]) -> bool
+    requires { ⌜ (0 < length (now source)) × (0 < length (now map)) ⌝ }
+    ensures { λ r. ⌜ r ≡ rule2 (now (source .entry)) (now (map .entry)) ⌝ }
+{
+    if map[0] == 0 { true } else { source[0] == 0 }
+}
+
 // Whether rule 3 lets a node with `source` children go to one with `target`.
 fn leaf_kept(source: u8, target: u8) -> bool
     ensures { λ r. ⌜ r ≡ leafKept source target ⌝ }
@@ -133,14 +141,6 @@ fn keeps_order(source: &[u8], target: &[u8], map: &[u8]) -> bool
         a += 1;
     }
     true
-}
-
-// Rule 2: the root goes to the root. The rule lapses where the root is a leaf, which is then alone.
-fn keeps_root(source: &[u8], map: &[u8]) -> bool
-    requires { ⌜ (0 < length (now source)) × (0 < length (now map)) ⌝ }
-    ensures { λ r. ⌜ r ≡ rule2 (now (source .entry)) (now (map .entry)) ⌝ }
-{
-    if map[0] == 0 { true } else { source[0] == 0 }
 }
 
 // The refusal of a list of images, one for each node of a drawing without passed nodes, in the order of the tests; or 0.

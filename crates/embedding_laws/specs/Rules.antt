@@ -31,14 +31,14 @@ pub record Passes (source target : Topo) (m : List ℕ) : Type 0 where
 
 -- The same for a drawing without passed nodes, such as a reduced one. The check and the search go by these; `embeds-passes` and `passes-reduced` in
 -- proofs/Maps lead from the one to the other.
-pub record Embeds (source target : Topo) (m : List ℕ) : Type 0 where
-  pub long : length m ≡ size source
-  pub within : (a : ℕ) → a < size source → image m a < size target
-  pub once : (a b : ℕ) → a < size source → b < size source → image m a ≡ image m b → a ≡ b
-  pub root : width source ≢ 0 → image m 0 ≡ 0
-  pub leaf : (a : ℕ) → a < size source → width (subtree source a) ≡ 0 → width (subtree target (image m a)) ≡ 0
-  pub order : (a b : ℕ) → a < size source → b < size source
-      → (Above (addr source a) (addr source b) ↔ Above (addr target (image m a)) (addr target (image m b)))
+pub record Embeds (drawing target : Topo) (m : List ℕ) : Type 0 where
+  pub long : length m ≡ size drawing
+  pub within : (a : ℕ) → a < size drawing → image m a < size target
+  pub once : (a b : ℕ) → a < size drawing → b < size drawing → image m a ≡ image m b → a ≡ b
+  pub root : width drawing ≢ 0 → image m 0 ≡ 0
+  pub leaf : (a : ℕ) → a < size drawing → width (subtree drawing a) ≡ 0 → width (subtree target (image m a)) ≡ 0
+  pub order : (a b : ℕ) → a < size drawing → b < size drawing
+      → (Above (addr drawing a) (addr drawing b) ↔ Above (addr target (image m a)) (addr target (image m b)))
 
 -- One list comes before another of the same length: it has the smaller number at the first difference. Lists that pass differ at kept nodes alone.
 abbrev pub Before : List ℕ → List ℕ → Type 0

@@ -6,7 +6,7 @@ fn walk(input: &mut [u8], text: &mut [u8]) {
     stream::print(&text[..end]);
 }
 
-// The text fits: at most 13 bytes for each command, and 100 for a map (`output-fits` in script/proofs/Lengths).
+// The text fits: at most 13 bytes for each command, and 132 for a map (`output-fits` in script/proofs/Lengths).
 fn main() {
     let mut input = [0u8; 65536];
     let mut text = [0u8; 852100];

@@ -1,4 +1,4 @@
--- The chip of samples/garden.hex and the images of its map, from the definitions.
+-- The chip of samples/garden.hex and the images of its map, and a chip with a lone leaf's image, from the definitions.
 use mathlib.Core.Path.{_≡_, refl}
 use Prim.Native.Nat.{ℕ}
 use mathlib.Core.List.{List, [], _∷_, map}
@@ -20,7 +20,9 @@ pub record Placed : Type 0 where
   pub between : roleOf chip (0 ∷ 2 ∷ 4 ∷ 5 ∷ 6 ∷ 3 ∷ []) 1 ≡ Between
   pub image : roleOf chip (0 ∷ 2 ∷ 4 ∷ 5 ∷ 6 ∷ 3 ∷ []) 3 ≡ Image
   pub unused : roleOf chip (0 ∷ 2 ∷ []) 3 ≡ Unused
+  -- a node over the image of a lone leaf, the source's node 1; node 0 is passed over
+  pub over-leaf : roleOf (1 ∷ 1 ∷ 0 ∷ []) (255 ∷ 2 ∷ []) 1 ≡ Between
 
 pub placed : Placed
 unfolding branchEnd isAbove depth parent childNumber imagesAt imagesUnder roleOf
-placed = record { depths = refl; parents = refl; children = refl; between = refl; image = refl; unused = refl }
+placed = record { depths = refl; parents = refl; children = refl; between = refl; image = refl; unused = refl; over-leaf = refl }

@@ -1,11 +1,19 @@
--- What a node is to the images, by what the code counts: one law for each answer.
+-- What a node is to a map, by what the code tests and counts: one law for each answer.
 use mathlib.Core.Path.{_≡_, sym, _∙_}
 use Prim.Native.Nat.{ℕ}
 use mathlib.Core.List.{List}
 use lib.ListN.{length}
 use borrow.Author.Tests.{eq-eqb, ne-eqb}
-use Rattle.places.specs.Places.{imagesAt, imagesUnder, roleOf}
-use Rattle.places.specs.declared.Role.the-variants.{Plain, Image, Between, Unused}
+use Rattle.places.specs.Places.{sourceRole, imagesAt, imagesUnder, roleOf}
+use Rattle.places.specs.declared.Role.the-variants.{Plain, Passed, Image, Between, Unused}
+
+pub role-passed : (children : ℕ) → children ≡ 1 → Passed ≡ sourceRole children
+unfolding sourceRole
+role-passed children e = rw (eq-eqb children 1 e)
+
+pub role-kept : (children : ℕ) → (children ≡ 1 → ⊥) → Plain ≡ sourceRole children
+unfolding sourceRole
+role-kept children n = rw (ne-eqb children 1 n)
 
 module _ (bytes images : List ℕ) (k : ℕ) where
   pub role-plain : length images ≡ 0 → Plain ≡ roleOf bytes images k

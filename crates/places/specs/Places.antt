@@ -1,4 +1,4 @@
--- Where a node stands in a tree, and what it is to the images of a map, read off the bytes of a topology. `proofs/Addresses.antt` and
+-- Where a node stands in a tree, and what it is to a map, read off the bytes of a topology. `proofs/Addresses.antt` and
 -- `proofs/Images.antt` show what they are where the bytes are a tree's.
 use Prim.Native.Nat.{ℕ, zero, suc, _+_}
 use mathlib.Core.List.{List}
@@ -8,7 +8,7 @@ use lib.Dec.{eqb}
 use Rattle.topology.specs.Reader.{pick}
 use Rattle.topology.specs.Branch.{isAbove}
 use Rattle.places.specs.declared.Role.{Role}
-use Rattle.places.specs.declared.Role.the-variants.{Plain, Image, Between, Unused}
+use Rattle.places.specs.declared.Role.the-variants.{Plain, Passed, Image, Between, Unused}
 
 -- how many of the numbers below n pass a test
 abbrev pub counted : (ℕ → Bool) → ℕ → ℕ
@@ -32,6 +32,10 @@ parent bytes k = lastOf (λ a. isAbove bytes a k) k
 unfoldable pub childNumber : List ℕ → ℕ → ℕ
 childNumber bytes k = counted (λ j. eqb (parent bytes (j + 1)) (parent bytes k)) k
 
+-- What a source node with so many children is: an inner node with one child is passed over.
+unfoldable pub sourceRole : ℕ → Role
+sourceRole children = pick (eqb children 1) Passed Plain
+
 -- how many of the images are node k; are it or lie below it
 unfoldable pub imagesAt : List ℕ → ℕ → ℕ
 imagesAt images k = counted (λ a. eqb (getD images a 0) k) (length images)
@@ -39,8 +43,7 @@ imagesAt images k = counted (λ a. eqb (getD images a 0) k) (length images)
 unfoldable pub imagesUnder : List ℕ → List ℕ → ℕ → ℕ
 imagesUnder bytes images k = counted (λ a. isAbove bytes k (getD images a 0)) (length images)
 
--- What node k is to the images: there are none; it is one; it lies above one, and so, since the root is the root's image, between two; or
--- it is of no use.
+-- What node k of a chip is to the images: there are none; it is one; it lies above one; or it is of no use.
 unfoldable pub roleOf : List ℕ → List ℕ → ℕ → Role
 roleOf bytes images k =
     let used = pick (eqb (imagesUnder bytes images k) 0) Unused Between in

@@ -1,15 +1,17 @@
-// Where a node stands in a tree, how deep, under which node and as which child of it, and what it is to the images of a map.
+// Where a node stands in a tree, how deep, under which node and as which child of it, and what it is to a map.
 use branches::is_above;
 use topology::wide;
 ghost use mathlib.Core.Path.{_≡_};
 ghost use Prim.Native.Nat.{_≤_};
 ghost use Rattle.topology.specs.Reader.{pick};
-ghost use Rattle.places.specs.Places.{imagesAt, imagesUnder, childNumber};
+ghost use Rattle.places.specs.Places.{imagesAt, imagesUnder, childNumber, sourceRole};
 ghost use Rattle.places.specs.Places.{depth as Places·depth, parent as Places·parent, roleOf};
 
-// What a node of a chip is to the images of a map: there are no images, it is one, one lies below it, or none does.
+// What a node is to a map. A source node is plain or passed over; for a chip node there are no images, which leaves it plain, or it is one, or
+// one lies below it, or none does.
 pub enum Role {
     Plain,
+    Passed,
     Image,
     Between,
     Unused,
@@ -68,6 +70,16 @@ pub fn child_number(bytes: &[u8], node: usize) -> usize
     count
 }
 
+// What a source node with so many children is: an inner node with one child is passed over.
+pub fn source_role(children: u8) -> Role
+    ensures { λ r. ⌜ r ≡ sourceRole children ⌝ }
+{
+    if children == 1 {
+        return Role::Passed;
+    }
+    Role::Plain
+}
+
 // How many of the images are `node`.
 fn images_at(images: &[u8], node: usize) -> usize
     ensures { λ r. ⌜ r ≡ imagesAt (now (images .entry)) node ⌝ }
@@ -94,7 +106,7 @@ fn images_under(bytes: &[u8], images: &[u8], node: usize) -> usize
     count
 }
 
-// What `node` is to the images.
+// What `node` of a chip is to the images.
 pub fn role_of(bytes: &[u8], images: &[u8], node: usize) -> Role
     ensures { λ r. ⌜ r ≡ roleOf (now (bytes .entry)) (now (images .entry)) node ⌝ }
 {

@@ -5,7 +5,7 @@ use mathlib.Core.List.{List, [], _∷_}
 use Rattle.topology.specs.Reader.{fault, tree}
 use Rattle.topology.specs.Branch.{branchEnd, isAbove}
 use Rattle.embedding_laws.specs.Check.{areNodes, rule1, rule2, rule3, rule4}
-use Rattle.embedding_laws.specs.Least.{obeys, leastMap, searchFault, searchMap}
+use Rattle.embedding_laws.specs.Least.{obeys, leastMap, leastOf, searchFault, searchMap}
 use Rattle.pair_state.specs.Opening.{bothFault}
 use Rattle.text.specs.Text.{decimalLast, decimal, hexDigit, hexLast, hex8}
 use Rattle.lines.specs.Lines.{inLine, outLine, noLine, mapLine}
@@ -26,5 +26,5 @@ text =
     109 ∷ 97 ∷ 112 ∷ 32 ∷ 48 ∷ 32 ∷ 50 ∷ 32 ∷ 51 ∷ 32 ∷ 52 ∷ 10 ∷ 105 ∷ 110 ∷ 32 ∷ 49 ∷ 10 ∷ 105 ∷ 110 ∷ 32 ∷ 50 ∷ 10 ∷ 110 ∷ 111 ∷ 32 ∷ 49 ∷ 53 ∷ 32 ∷ 53 ∷ 56 ∷ 10 ∷ 111 ∷ 117 ∷ 116 ∷ 32 ∷ 48 ∷ 48 ∷ 48 ∷ 48 ∷ 48 ∷ 48 ∷ 48 ∷ 65 ∷ 10 ∷ 105 ∷ 110 ∷ 32 ∷ 50 ∷ 10 ∷ 111 ∷ 117 ∷ 116 ∷ 32 ∷ 48 ∷ 48 ∷ 48 ∷ 48 ∷ 48 ∷ 48 ∷ 48 ∷ 67 ∷ 10 ∷ 111 ∷ 117 ∷ 116 ∷ 32 ∷ 48 ∷ 48 ∷ 48 ∷ 48 ∷ 48 ∷ 48 ∷ 48 ∷ 66 ∷ 10 ∷ 110 ∷ 111 ∷ 32 ∷ 49 ∷ 54 ∷ 32 ∷ 56 ∷ 53 ∷ 10 ∷ []
 
 pub worked : output script ≡ text
-unfolding output reads readAt nextAt commandBy sized operand obey bothFault searchMap decimalLast decimal hexDigit hexLast hex8 inLine outLine noLine mapLine searchFault fault leastMap obeys areNodes rule1 rule2 rule3 rule4 isAbove branchEnd tree
+unfolding output reads readAt nextAt commandBy sized operand obey bothFault searchMap decimalLast decimal hexDigit hexLast hex8 inLine outLine noLine mapLine searchFault fault leastOf leastMap obeys areNodes rule1 rule2 rule3 rule4 isAbove branchEnd tree
 worked = refl

@@ -1,7 +1,7 @@
--- How long the text of a script is: each command prints at most 13 bytes, but for one line of a map, at most 100. So gatewalk's buffer
+-- How long the text of a script is: each command prints at most 13 bytes, but for one line of a map, at most 132. So gatewalk's buffer
 -- holds the text of every script of at most 65,536 bytes (`output-fits`).
 --
--- The bound goes from the last command back. A sheet on which both trees are still to be opened has 100 bytes to come for the map; the
+-- The bound goes from the last command back. A sheet on which both trees are still to be opened has 132 bytes to come for the map; the
 -- machine of an opened one is sound, so that a count of packets has at most three digits.
 use mathlib.Core.Path.{_≡_, refl}
 use Prim.Native.Nat.{ℕ, zero, suc, _+_, _-_, _*_, _≤_, _<_}

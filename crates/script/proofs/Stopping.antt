@@ -9,7 +9,7 @@ use lib.Dec.{leb}
 use borrow.Author.Tests.{lt-leb}
 use Rattle.topology.specs.Reader.{pick, orElse, fault}
 use Rattle.topology.proofs.Refusals.{fault-most}
-use Rattle.embedding_laws.specs.Least.{Found, nothing, list, noneFault, leastMap, searchFault}
+use Rattle.embedding_laws.specs.Least.{Found, nothing, list, noneFault, leastOf, searchFault}
 use Rattle.queue_state.specs.Opening.{limitFault}
 use Rattle.pair_state.specs.Opening.{bothFault}
 use Rattle.script.specs.Sheet.{no-by, stops}
@@ -46,5 +46,5 @@ unfolding bothFault searchFault
 stops-opening s t limit =
     stops-beside _
     (beside-or (searchFault s t) (limitFault limit)
-    (beside-or (fault 32 s) _ (beside-fault 32 s) (beside-or (fault 64 t) _ (beside-fault 64 t) (beside-none (leastMap s t))))
+    (beside-or (fault 32 s) _ (beside-fault 32 s) (beside-or (fault 64 t) _ (beside-fault 64 t) (beside-none (leastOf s t))))
     (beside-pick (leb 1 limit && leb limit 256) 0 17 (inl (omega arith)) (inr (omega arith))))

@@ -1,12 +1,12 @@
 -- `put_joins` meets its contract. The lines from the nodes before a are drawn.
-use mathlib.Core.Path.{ap, _∙_}
+use mathlib.Core.Path.{_∙_}
 use Prim.Native.Nat.{ℕ, _≤_, _-_}
 use mathlib.Core.List.{List}
 use lib.ListN.{length, getD}
 use denote.Ref.{now}
 use native.Mathlib.Omega.{arith}
 use Rattle.text.specs.Text.{Puts}
-use Rattle.text.proofs.Writing.{puts-length, puts-still, puts-as, puts-then}
+use Rattle.text.proofs.Writing.{puts-length, puts-still, puts-then}
 use Rattle.drawing.specs.Sheet.{each, joinOf, joinsOf}
 use Rattle.drawing.proofs.Pieces.{each-next, each-all}
 use borrow.Author.Needs.{needs}
@@ -29,16 +29,13 @@ put-word-requires c κs = search needs
 loop-holds : tie.Need-loop-holds Inv-loop μ-loop
 loop-holds c = (omega arith, puts-still (c .before .before .put-word .ensures))
 
-shared-slice-read-wide : tie.Need-shared-slice-read-wide Inv-loop μ-loop
-shared-slice-read-wide c = search needs
-
-wide-requires : tie.Need-wide-requires Inv-loop μ-loop
-wide-requires c κs = search needs
+shared-slice-read-put-join-of : tie.Need-shared-slice-read-put-join-of Inv-loop μ-loop
+shared-slice-read-put-join-of c = search needs
 
 put-join-of-requires : tie.Need-put-join-of-requires Inv-loop μ-loop
 put-join-of-requires c κs =
-    let pre = c .before .before .before .before .before .before .before .before .before .before .before .before .before .before .pre in
-    (omega (arith, c .before .before .before .loop-test .taken, pre), c .wide .ensures .1)
+    let pre = c .before .before .before .before .before .before .before .before .before .before .before .before .before .pre in
+    omega (arith, c .before .before .loop-test .taken, pre)
 
 add-a : tie.Need-add-a Inv-loop μ-loop
 add-a c = search needs
@@ -49,15 +46,13 @@ loop-less c = search needs
 loop-again : tie.Need-loop-again Inv-loop μ-loop
 loop-again c =
     let line = c .before .before in
-    let image = line .before in
-    let at-test = image .before .before .before in
+    let at-test = line .before .before .before in
     let args = at-test .before .before .before .before .before .before .before .before .before .before .before .args in
     let source = now (args .source) in
     let target = now (args .target) in
     let images = now (args .images) in
     let within = at-test .loop-test .taken in
-    let join = puts-as (ap (joinOf source target _) (image .wide .ensures .0)) (line .put-join-of .ensures) in
-    (omega (arith, within), each-next (λ i. joinOf source target i (getD images i 0)) _ (at-test .before .loop .inv .1) join)
+    (omega (arith, within), each-next (λ i. joinOf source target i (getD images i 0)) _ (at-test .before .loop .inv .1) (line .put-join-of .ensures))
 
 slice-aggregate-put-word-2 : tie.Need-slice-aggregate-put-word-2 Inv-loop μ-loop
 slice-aggregate-put-word-2 c = search needs
@@ -93,8 +88,7 @@ put-joins-spec =
     slice-aggregate-put-word
     put-word-requires
     loop-holds
-    shared-slice-read-wide
-    wide-requires
+    shared-slice-read-put-join-of
     put-join-of-requires
     add-a
     loop-less

@@ -7,9 +7,6 @@ use Rattle.drawing.proofs.put_node.Tie as tie
 put-limb-of-requires : tie.Need-put-limb-of-requires
 put-limb-of-requires c κs = search needs
 
-role-of-requires : tie.Need-role-of-requires
-role-of-requires c κs = search needs
-
 column-of-requires : tie.Need-column-of-requires
 column-of-requires c κs = search needs
 
@@ -27,8 +24,7 @@ returns c =
     let mark = c .before .before in
     let y = mark .before .before in
     let x = y .before in
-    let kind = x .before in
-    let limb = kind .before .before .before in
+    let limb = x .before .before .before in
     node-parts
     _
     _
@@ -36,9 +32,7 @@ returns c =
     _
     _
     _
-    _
     (limb .put-limb-of .ensures)
-    (kind .role-of .ensures)
     (x .column-of .ensures)
     (y .row-of .ensures)
     (mark .put-role .ensures)
@@ -48,7 +42,6 @@ put-node-spec =
     tie.close
     (tie.spec
     put-limb-of-requires
-    role-of-requires
     column-of-requires
     row-of-requires
     put-role-requires

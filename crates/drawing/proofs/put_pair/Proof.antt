@@ -29,14 +29,11 @@ put-word-requires c κs = search needs
 put-joins-requires : tie.Need-put-joins-requires
 put-joins-requires c κs = c .before .before .before .before .before .before .before .before .before .before .before .before .before .before .before .before .pre .2
 
-slice-aggregate-put-tree : tie.Need-slice-aggregate-put-tree
-slice-aggregate-put-tree c = search needs
+put-source-requires : tie.Need-put-source-requires
+put-source-requires c κs = c .before .before .before .before .before .before .before .before .before .before .before .before .before .before .before .before .before .before .before .before .pre .0
 
-put-tree-requires : tie.Need-put-tree-requires
-put-tree-requires c κs = (omega arith, c .before .before .before .before .before .before .before .before .before .before .before .before .before .before .before .before .before .before .before .before .before .pre .0)
-
-put-tree-requires-2 : tie.Need-put-tree-requires-2
-put-tree-requires-2 c κs = (omega arith, c .before .before .before .before .before .before .before .before .before .before .before .before .before .before .before .before .before .before .before .before .before .before .before .before .before .pre .1)
+put-chip-requires : tie.Need-put-chip-requires
+put-chip-requires c κs = c .before .before .before .before .before .before .before .before .before .before .before .before .before .before .before .before .before .before .before .before .before .before .before .before .pre .1
 
 same-length : tie.Need-same-length
 same-length c = search needs
@@ -46,13 +43,13 @@ unfolding pairOf
 returns c =
     let chip = c .before .before in
     let source = chip .before .before .before .before in
-    let joins = source .before .before .before .before .before in
+    let joins = source .before .before .before .before in
     let titles = joins .before .before .before .before in
     let top = titles .before .before .before .before .before in
     let height = top .before .row-of .ensures ∙ ap (λ (n : ℕ). 40 + 24 * n) (top .before .before .before .larger .ensures) in
     puts-then (puts-as (ap head height) (top .put-head .ensures))
     (puts-then (titles .put-word .ensures)
-    (puts-then (joins .put-joins .ensures) (puts-then (source .put-tree .ensures) (chip .put-tree2 .ensures))))
+    (puts-then (joins .put-joins .ensures) (puts-then (source .put-source .ensures) (chip .put-chip .ensures))))
 
 pub put-pair-spec : {M : Type 1} → statement M
 put-pair-spec =
@@ -64,8 +61,7 @@ put-pair-spec =
     slice-aggregate-put-word
     put-word-requires
     put-joins-requires
-    slice-aggregate-put-tree
-    put-tree-requires
-    put-tree-requires-2
+    put-source-requires
+    put-chip-requires
     same-length
     returns)

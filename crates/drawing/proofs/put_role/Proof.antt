@@ -39,6 +39,15 @@ slice-aggregate-put-mark-4 c = search needs
 put-mark-requires-4 : tie.Need-put-mark-requires-4
 put-mark-requires-4 c κs = search needs
 
+enum-told-5 : tie.Need-enum-told-5
+enum-told-5 c = search needs
+
+slice-aggregate-put-mark-5 : tie.Need-slice-aggregate-put-mark-5
+slice-aggregate-put-mark-5 c = search needs
+
+put-mark-requires-5 : tie.Need-put-mark-requires-5
+put-mark-requires-5 c κs = search needs
+
 same-length : tie.Need-same-length
 same-length c = search needs
 
@@ -63,6 +72,12 @@ same-length-4 c = search needs
 returns-4 : tie.Need-returns-4
 returns-4 c = rw (c .before .before .before .before .before .enum-told4 .given .1) (c .before .before .put-mark4 .ensures)
 
+same-length-5 : tie.Need-same-length-5
+same-length-5 c = search needs
+
+returns-5 : tie.Need-returns-5
+returns-5 c = rw (c .before .before .before .before .before .enum-told5 .given .1) (c .before .before .put-mark5 .ensures)
+
 pub put-role-spec : {M : Type 1} → statement M
 put-role-spec =
     tie.close
@@ -79,6 +94,9 @@ put-role-spec =
     enum-told-4
     slice-aggregate-put-mark-4
     put-mark-requires-4
+    enum-told-5
+    slice-aggregate-put-mark-5
+    put-mark-requires-5
     same-length
     returns
     same-length-2
@@ -86,4 +104,6 @@ put-role-spec =
     same-length-3
     returns-3
     same-length-4
-    returns-4)
+    returns-4
+    same-length-5
+    returns-5)

@@ -1,22 +1,26 @@
--- `put_tree` meets its contract. The nodes before k are drawn.
-use mathlib.Core.Path.{_∙_}
-use Prim.Native.Nat.{_≤_, _-_}
-use lib.ListN.{length}
+-- `put_source` meets its contract. The nodes before k are drawn.
+use mathlib.Core.Path.{ap, _∙_}
+use Prim.Native.Nat.{ℕ, _≤_, _-_}
+use mathlib.Core.List.{List}
+use lib.ListN.{length, getD}
 use denote.Ref.{now}
 use native.Mathlib.Omega.{arith}
 use Rattle.text.specs.Text.{Puts}
-use Rattle.text.proofs.Writing.{puts-length, puts-still, puts-then}
-use Rattle.drawing.specs.Sheet.{each, nodeOf, treeOf}
+use Rattle.text.proofs.Writing.{puts-length, puts-still, puts-as, puts-then}
+use Rattle.places.specs.Places.{sourceRole}
+use Rattle.places.specs.declared.Role.{Role}
+use Rattle.drawing.specs.Sheet.{each, nodeOf, sourceOf}
 use Rattle.drawing.proofs.Pieces.{each-next, each-all}
 use borrow.Author.Needs.{needs}
-use Rattle.drawing.proofs.put_tree.Statement.{statement}
-use Rattle.drawing.proofs.put_tree.Tie as tie
+use Rattle.drawing.proofs.put_source.Statement.{statement}
+use Rattle.drawing.proofs.put_source.Tie as tie
 
 abbrev Inv-loop : tie.InvT-loop
-Inv-loop out₀ at left bytes images place₀ k₀ foot₀ out place k = (k ≤ length bytes) × Puts out₀ place₀ (each (nodeOf left bytes images) k) out place
+Inv-loop out₀ at source place₀ k₀ foot₀ out place k =
+    (k ≤ length source) × Puts out₀ place₀ (each (λ i. nodeOf 40 source (sourceRole (getD source i 0)) i) k) out place
 
 abbrev μ-loop : tie.MeasureT-loop
-μ-loop out₀ at left bytes images place₀ k₀ foot₀ out place k = length bytes - k
+μ-loop out₀ at source place₀ k₀ foot₀ out place k = length source - k
 
 slice-aggregate-put-word : tie.Need-slice-aggregate-put-word Inv-loop μ-loop
 slice-aggregate-put-word c = search needs
@@ -27,10 +31,16 @@ put-word-requires c κs = search needs
 loop-holds : tie.Need-loop-holds Inv-loop μ-loop
 loop-holds c = (omega arith, puts-still (c .before .before .put-word .ensures))
 
+shared-slice-read-source-role : tie.Need-shared-slice-read-source-role Inv-loop μ-loop
+shared-slice-read-source-role c = search needs
+
+source-role-requires : tie.Need-source-role-requires Inv-loop μ-loop
+source-role-requires c κs = search needs
+
 put-node-requires : tie.Need-put-node-requires Inv-loop μ-loop
 put-node-requires c κs =
-    let pre = c .before .before .before .before .before .before .before .before .before .before .before .pre in
-    (pre .0, omega (arith, c .before .loop-test .taken, pre .1))
+    let pre = c .before .before .before .before .before .before .before .before .before .before .before .before .pre in
+    (omega arith, omega (arith, c .before .before .before .loop-test .taken, pre))
 
 add-k : tie.Need-add-k Inv-loop μ-loop
 add-k c = search needs
@@ -41,11 +51,13 @@ loop-less c = search needs
 loop-again : tie.Need-loop-again Inv-loop μ-loop
 loop-again c =
     let node = c .before .before in
-    let at-test = node .before .before in
-    let args = at-test .before .before .before .before .before .before .before .before .before .before .args in
-    let text = nodeOf (args .left) (now (args .bytes)) (now (args .images)) in
+    let role = node .before .before in
+    let at-test = role .before .before in
+    let args = at-test .before .before .before .before .before .before .before .before .before .args in
+    let source = now (args .source) in
     let within = at-test .loop-test .taken in
-    (omega (arith, within), each-next text _ (at-test .before .loop .inv .1) (node .put-node .ensures))
+    let drawn = puts-as (ap (λ (r : Role). nodeOf 40 source r (at-test .before .loop .k)) (role .source-role .ensures)) (node .put-node .ensures) in
+    (omega (arith, within), each-next (λ i. nodeOf 40 source (sourceRole (getD source i 0)) i) _ (at-test .before .loop .inv .1) drawn)
 
 slice-aggregate-put-word-2 : tie.Need-slice-aggregate-put-word-2 Inv-loop μ-loop
 slice-aggregate-put-word-2 c = search needs
@@ -61,19 +73,19 @@ same-length c =
     puts-length (end .put-word2 .ensures) ∙ puts-length (loop .loop .inv .1) ∙ puts-length (start .put-word .ensures)
 
 returns : tie.Need-returns Inv-loop μ-loop
-unfolding treeOf
+unfolding sourceOf
 returns c =
     let end = c .before .before in
     let after = end .before .before .before in
     let loop = after .before in
     let start = loop .before .before .before in
-    let args = start .before .before .before .before .before .before .args in
-    let text = nodeOf (args .left) (now (args .bytes)) (now (args .images)) in
+    let args = start .before .before .before .before .before .args in
+    let text : ℕ → List ℕ = λ i. nodeOf 40 (now (args .source)) (sourceRole (getD (now (args .source)) i 0)) i in
     puts-then (start .put-word .ensures)
     (puts-then (each-all text _ _ (loop .loop .inv .0) (after .loop-test .left) (loop .loop .inv .1)) (end .put-word2 .ensures))
 
-pub put-tree-spec : {M : Type 1} → statement M
-put-tree-spec =
+pub put-source-spec : {M : Type 1} → statement M
+put-source-spec =
     tie.close
     (tie.spec
     Inv-loop
@@ -81,6 +93,8 @@ put-tree-spec =
     slice-aggregate-put-word
     put-word-requires
     loop-holds
+    shared-slice-read-source-role
+    source-role-requires
     put-node-requires
     add-k
     loop-less
