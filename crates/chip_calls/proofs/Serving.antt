@@ -7,7 +7,6 @@ use native.Mathlib.Omega.{arith}
 use mathlib.Core.List.{List, []}
 use mathlib.Core.Bool.{Bool, true, false}
 use mathlib.Core.Option.{Option, none, some}
-use lib.ListN.{length}
 use Rattle.topology.specs.Tree.{Topo}
 use Rattle.topology.specs.Address.{addr}
 use Rattle.topology.specs.Reader.{pick, orElse, fault, tree}

@@ -1,8 +1,8 @@
 -- The maps of a drawing are the embeddings of its reduced drawing, with 255 at the nodes that are passed over; and the least of the one is the least of
 -- the other.
 use mathlib.Core.Path.{_≡_, refl, sym, ap, ap₂, _∙_, subst, subst₂}
-use mathlib.Core.Logic.{_↔_, _≢_, _⊎_, inl, inr}
-use Prim.Native.Nat.{ℕ, zero, suc, _+_, _≤_, _<_}
+use mathlib.Core.Logic.{_↔_, _≢_, inl, inr}
+use Prim.Native.Nat.{ℕ, suc, _+_, _≤_, _<_}
 use native.Mathlib.Decide.{decLt, ℕ-discrete}
 use native.Mathlib.Omega.{arith}
 use mathlib.Core.List.{List, [], _∷_, _++_, append-nil}
@@ -10,7 +10,7 @@ use mathlib.Core.Bool.{Bool, true, false}
 use lib.ListN.{length, take, getD}
 use lib.Dec.{eqb}
 use Rattle.topology.specs.Tree.{Topo, Forest, node, fnil, fcons, count, width, code, codes, size}
-use Rattle.topology.specs.Address.{Addr, sub, Above, addr, num, subtree}
+use Rattle.topology.specs.Address.{sub, num, subtree}
 use Rattle.topology.specs.Reader.{pick}
 use Rattle.topology.proofs.Decoding.{length-code, byte-width}
 use Rattle.topology.proofs.Numbering.{addr-root}

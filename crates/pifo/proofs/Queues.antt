@@ -10,10 +10,10 @@ use mathlib.Core.Option.{Option, none, some}
 use lib.ListN.{length}
 use lib.Dec.{eqb, eqb·zero-suc, eqb·suc-zero, eqb·suc-suc}
 use borrow.Author.Tests.{eq-eqb}
-use Rattle.topology.specs.Tree.{Topo, Forest, node, fnil, fcons, count, width}
+use Rattle.topology.specs.Tree.{Topo, Forest, node, fnil, fcons, count}
 use Rattle.topology.specs.Address.{Addr, nth, In}
 use Rattle.topology.specs.Reader.{pick}
-use Rattle.pifo.specs.Queue.{Entry, child, packet, entry, risesFrom, allowed, every}
+use Rattle.pifo.specs.Queue.{Entry, child, packet, entry, risesFrom}
 use Rattle.pifo.specs.Tree.{Step, step, pathFault, PTree, PForest, pnode, pnil, pcons, shape, shapes, push, pushAt, pop, popAt, with-queue, with-later, with-elder, empty, empties, held, well, wells}
 use Rattle.pifo.specs.Addressed.{queueAt, queueIn, along, put, atop}
 use Rattle.pifo.specs.Way.{takes, takesIn}
@@ -230,9 +230,6 @@ module _ {P : Type 0} where
     queues-rise (pcons t ts) zero a h = queue-rises t a (both (well t) (wells ts) h .0)
     queues-rise (pcons t ts) (suc i) a h = queues-rise ts i a (both (well t) (wells ts) h .1)
 
-  -- The root's queue of a well-formed tree is as long as there are packets, and its items are the root's own.
+  -- The root's queue of a well-formed tree is as long as there are packets.
   pub root-held : (t : PTree P) → well t ≡ true → length (queueAt t []) ≡ held t
   root-held (pnode q ts) h = length-held q ts h
-
-  pub root-own : (t : PTree P) → well t ≡ true → every (allowed (width (shape t))) (queueAt t []) ≡ true
-  root-own (pnode q ts) h = well-parts q ts h .own

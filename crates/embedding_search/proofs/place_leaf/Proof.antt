@@ -1,6 +1,6 @@
 -- `place_leaf` meets its contract: the first leaf of the target is the least image of a lone leaf.
 use borrow.Author.Needs.{needs}
-use mathlib.Core.Path.{_≡_, ap}
+use mathlib.Core.Path.{ap}
 use native.Mathlib.Omega.{arith}
 use Prim.Native.Nat.{ℕ}
 use mathlib.Core.List.{[], _∷_}
