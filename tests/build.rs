@@ -10,6 +10,7 @@ const CRATES: [&str; 9] = [
     "exports_queue_state",
     "exports_queue_tree",
     "exports_tree",
+    "exports_chip_state",
     "exports_chip",
     "exports_bench",
     "exports_tree_bench",

@@ -1,9 +1,9 @@
 -- The opening of both, as plain numbers.
 use borrow.Author.Needs.{needs}
 use mathlib.Core.Path.{ap, _∙_}
-use Rattle.exports_chip.specs.Answers.{plainBoth}
-use Rattle.exports_chip.proofs.linduvar_pair_open.Statement.{statement}
-use Rattle.exports_chip.proofs.linduvar_pair_open.Tie as tie
+use Rattle.exports_chip_state.specs.Answers.{plainBoth}
+use Rattle.exports_chip_state.proofs.linduvar_pair_open.Statement.{statement}
+use Rattle.exports_chip_state.proofs.linduvar_pair_open.Tie as tie
 
 open-both-requires : tie.Need-open-both-requires
 open-both-requires c κs = search needs

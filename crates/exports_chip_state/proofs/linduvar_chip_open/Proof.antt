@@ -2,8 +2,8 @@
 use borrow.Author.Needs.{needs}
 use mathlib.Core.Path.{ap, _∙_}
 use Rattle.plain_tree.specs.Answers.{plainOpened}
-use Rattle.exports_chip.proofs.linduvar_chip_open.Statement.{statement}
-use Rattle.exports_chip.proofs.linduvar_chip_open.Tie as tie
+use Rattle.exports_chip_state.proofs.linduvar_chip_open.Statement.{statement}
+use Rattle.exports_chip_state.proofs.linduvar_chip_open.Tie as tie
 
 open-requires : tie.Need-open-requires
 open-requires c κs = search needs

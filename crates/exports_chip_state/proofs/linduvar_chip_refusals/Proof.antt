@@ -5,8 +5,8 @@ use Rattle.tree_state.specs.declared.Tree.{Tree}
 use Rattle.chip_counts.specs.Counts.{chipAmount}
 use Rattle.plain_answers.specs.Answers.{plainAmount}
 use denote.Ref.{now}
-use Rattle.exports_chip.proofs.linduvar_chip_refusals.Statement.{statement}
-use Rattle.exports_chip.proofs.linduvar_chip_refusals.Tie as tie
+use Rattle.exports_chip_state.proofs.linduvar_chip_refusals.Statement.{statement}
+use Rattle.exports_chip_state.proofs.linduvar_chip_refusals.Tie as tie
 
 tree-of-requires : tie.Need-tree-of-requires
 tree-of-requires c κs = search needs
