@@ -199,6 +199,7 @@ module _ (bytes : List ℕ) (d : Disciplines) (leaf class len : ℕ) where
         pub walking-down : (node < c) × (c ≤ leaf)
         walking-down = toward-between bytes node leaf i c (sym e ∙ q)
 
+        -- past the bytes there is no child
         pub walking-inside : node < length bytes
         walking-inside = by-length (decLt node (length bytes))
           where

@@ -36,7 +36,7 @@ fn added(length: u16, weight: u8) -> Rank
     (length as Rank) * 256 / (weight as Rank)
 }
 
-// Figure 1 of document 002: by the discipline as which the node acts, its virtual time, and the child's last finish and weight.
+// Figure 1 of document 002: by the discipline that the node acts by, its virtual time, and the child's last finish and weight.
 pub(crate) fn share_of(
     discipline: u8,
     virtual_time: Rank,

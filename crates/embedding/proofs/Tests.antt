@@ -12,11 +12,11 @@ use Rattle.topology.specs.Reader.{pick, orElse, fault}
 use Rattle.topology.specs.Branch.{branchEnd, isAbove}
 use Rattle.embedding_laws.specs.Rules.{image}
 use Rattle.reduction.specs.Reduced.{passedOver, keptBytes, gathered}
-use Rattle.embedding_laws.specs.Check.{all, same, areNodes, rule1, rule2, rule3, rule4, imagesFault, areMarked, listFault, mapFault}
+use Rattle.embedding_laws.specs.Check.{all, same, areNodes, rule1, rule2, rule3, rule4, imagesFault, marked, areMarked, listFault, mapFault}
 use Rattle.embedding_laws.proofs.All.{and-both, all-below, all-false, all-cong}
 use Rattle.embedding.specs.Answers.{checked}
 use Rattle.two_trees.specs.Trees.{treesFault, branchEnds}
-use Rattle.embedding.specs.Tests.{fresh, leafKept, aboveBy, alike, rows, marked, markedTo, Sized, Tabled}
+use Rattle.embedding.specs.Tests.{fresh, leafKept, aboveBy, alike, rows, markedTo, Sized, Tabled}
 use Rattle.embedding.specs.declared.Checked.the-variants.{Passes}
 use Rattle.embedding.specs.declared.Checked.the-variants as answer
 use Rattle.two_trees.proofs.Trees.{orElse-both, tree-fits}
@@ -86,6 +86,16 @@ module _ (m : List ℕ) where
   pub apart-end : (a : ℕ) → a ≤ length m → length m ≤ a → rule1 a m ≡ true → true ≡ rule1 (length m) m
   unfolding rule1
   apart-end a = all-end (λ a. all a (λ b. not (eqb (image m b) (image m a)))) a (length m)
+
+-- rule 2
+module _ (s m : List ℕ) where
+  pub root-kept : image m 0 ≡ 0 → true ≡ rule2 s m
+  unfolding rule2
+  root-kept e = rw e
+
+  pub root-moved : (image m 0 ≡ 0 → ⊥) → eqb (getD s 0 0) 0 ≡ rule2 s m
+  unfolding rule2
+  root-moved n = rw (ne-eqb (image m 0) 0 n)
 
 -- rule 3
 pub kept-leaf : (s t : ℕ) → s ≡ 0 → eqb t 0 ≡ leafKept s t
@@ -180,16 +190,6 @@ tabled source target m z =
       images = λ b h. omega (arith, node-at target m b (z .nodes) h, z .target-fits);
     }
 
--- rule 2
-module _ (s m : List ℕ) where
-  pub root-kept : image m 0 ≡ 0 → true ≡ rule2 s m
-  unfolding rule2
-  root-kept e = rw e
-
-  pub root-moved : (image m 0 ≡ 0 → ⊥) → eqb (getD s 0 0) 0 ≡ rule2 s m
-  unfolding rule2
-  root-moved n = rw (ne-eqb (image m 0) 0 n)
-
 -- The refusals of a list of images, in the order of the tests.
 module _ (s t m : List ℕ) (long : length m ≡ length s) where
   pub refuse-7 : (x : Bool) → x ≡ areNodes t (length m) m → x ≡ false → 7 ≡ imagesFault s t m
@@ -237,16 +237,16 @@ module _ (s m : List ℕ) where
   marks-none = refl
 
   pub marks-next : (a : ℕ) (x : Bool) → markedTo s m a ≡ true → x ≡ marked (getD s a 0) (image m a) → x ≡ true → markedTo s m (a + 1) ≡ true
-  unfolding markedTo marked
-  marks-next a x e f h = all-next (λ a. not (eqb (getD s a 0) 1) || eqb (image m a) passedOver) a e (sym f ∙ h)
+  unfolding markedTo
+  marks-next a x e f h = all-next (λ a. marked (getD s a 0) (image m a)) a e (sym f ∙ h)
 
   pub marks-stop : (a : ℕ) (x : Bool) → a < length s → x ≡ marked (getD s a 0) (image m a) → x ≡ false → false ≡ areMarked s m
-  unfolding areMarked marked
-  marks-stop a x l f h = sym (all-false (length s) (λ a. not (eqb (getD s a 0) 1) || eqb (image m a) passedOver) a l (sym f ∙ h))
+  unfolding areMarked
+  marks-stop a x l f h = sym (all-false (length s) (λ a. marked (getD s a 0) (image m a)) a l (sym f ∙ h))
 
   pub marks-end : (a : ℕ) → a ≤ length s → length s ≤ a → markedTo s m a ≡ true → true ≡ areMarked s m
   unfolding areMarked markedTo
-  marks-end a = all-end (λ a. not (eqb (getD s a 0) 1) || eqb (image m a) passedOver) a (length s)
+  marks-end a = all-end (λ a. marked (getD s a 0) (image m a)) a (length s)
 
 -- The list's refusals, in the order of the tests.
 module _ (s t m : List ℕ) where

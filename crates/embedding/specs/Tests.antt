@@ -5,9 +5,8 @@ use mathlib.Core.List.{List}
 use mathlib.Core.Bool.{Bool, true, not, _&&_, _||_}
 use lib.ListN.{length, getD}
 use lib.Dec.{leb, ltb, eqb}
-use Rattle.reduction.specs.Reduced.{passedOver}
 use Rattle.embedding_laws.specs.Rules.{image}
-use Rattle.embedding_laws.specs.Check.{all, same, areNodes}
+use Rattle.embedding_laws.specs.Check.{all, same, areNodes, marked}
 
 -- whether no node below n has a's image
 unfoldable pub fresh : List ℕ → ℕ → ℕ → Bool
@@ -17,13 +16,9 @@ fresh m a n = all n (λ b. not (eqb (image m b) (image m a)))
 unfoldable pub leafKept : ℕ → ℕ → Bool
 leafKept s t = not (eqb s 0) || eqb t 0
 
--- whether a node with c children is kept or, where it is passed over, has the mark for it
-unfoldable pub marked : ℕ → ℕ → Bool
-marked c image = not (eqb c 1) || eqb image passedOver
-
 -- whether every node below n that is passed over has the mark
 unfoldable pub markedTo : List ℕ → List ℕ → ℕ → Bool
-markedTo source m n = all n (λ a. not (eqb (getD source a 0) 1) || eqb (image m a) passedOver)
+markedTo source m n = all n (λ a. marked (getD source a 0) (image m a))
 
 -- ancestry by a table of branch ends
 abbrev pub aboveBy : List ℕ → ℕ → ℕ → Bool

@@ -7,9 +7,9 @@ ghost use Prim.Native.Nat.{_≤_, _<_};
 ghost use mathlib.Core.Bool.{true};
 ghost use lib.ListN.{length};
 ghost use Rattle.topology.specs.Reader.{fault};
-ghost use Rattle.embedding_laws.specs.Check.{same, areNodes, rule1, rule2, rule3, rule4, imagesFault, areMarked, listFault, mapFault};
+ghost use Rattle.embedding_laws.specs.Check.{same, areNodes, rule1, rule2, rule3, rule4, imagesFault, marked, areMarked, listFault, mapFault};
 ghost use Rattle.embedding.specs.Answers.{checked};
-ghost use Rattle.embedding.specs.Tests.{fresh, leafKept, aboveBy, alike, marked, Sized, Tabled};
+ghost use Rattle.embedding.specs.Tests.{fresh, leafKept, aboveBy, alike, Sized, Tabled};
 use reduction::PASSED_OVER;
 use reduction::gather;
 use two_trees::branch_ends;
@@ -62,6 +62,14 @@ fn keeps_apart(map: &[u8]) -> bool
         a += 1;
     }
     true
+}
+
+// Rule 2: the root goes to the root. The rule lapses where the root is a leaf, which is then alone.
+fn keeps_root(source: &[u8], map: &[u8]) -> bool
+    requires { ⌜ (0 < length (now source)) × (0 < length (now map)) ⌝ }
+    ensures { λ r. ⌜ r ≡ rule2 (now (source .entry)) (now (map .entry)) ⌝ }
+{
+    if map[0] == 0 { true } else { source[0] == 0 }
 }
 
 // Whether rule 3 lets a node with `source` children go to one with `target`.
@@ -133,14 +141,6 @@ fn keeps_order(source: &[u8], target: &[u8], map: &[u8]) -> bool
         a += 1;
     }
     true
-}
-
-// Rule 2: the root goes to the root. The rule lapses where the root is a leaf, which is then alone.
-fn keeps_root(source: &[u8], map: &[u8]) -> bool
-    requires { ⌜ (0 < length (now source)) × (0 < length (now map)) ⌝ }
-    ensures { λ r. ⌜ r ≡ rule2 (now (source .entry)) (now (map .entry)) ⌝ }
-{
-    if map[0] == 0 { true } else { source[0] == 0 }
 }
 
 // The refusal of a list of images, one for each node of a drawing without passed nodes, in the order of the tests; or 0.

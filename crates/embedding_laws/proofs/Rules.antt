@@ -24,7 +24,7 @@ use Rattle.reduction.specs.Reduced.{passedOver, reduced, gathered, keptBytes}
 use Rattle.reduction.proofs.Reduced.{code-reduced, size-reduced}
 use Rattle.reduction.proofs.Spread.{spread-gathered}
 use Rattle.embedding_laws.specs.Rules.{image, Passes, Embeds}
-use Rattle.embedding_laws.specs.Check.{all, same, areNodes, rule1, rule2, rule3, rule4, imagesFault, areMarked, listFault, mapFault}
+use Rattle.embedding_laws.specs.Check.{all, same, areNodes, rule1, rule2, rule3, rule4, imagesFault, marked, areMarked, listFault, mapFault}
 use Rattle.topology.proofs.Cases.{clash}
 use Rattle.embedding_laws.proofs.All.{all-below, below-all}
 use Rattle.embedding_laws.proofs.Maps.{embeds-passes, passes-reduced}
@@ -197,21 +197,26 @@ embeds-images S T m p =
 -- every node that is passed over has its mark
 module _ (S : Topo) (m : List ℕ) where
   marked-from : areMarked (code S) m ≡ true → (a : ℕ) → a < length (code S) → getD (code S) a 0 ≡ 1 → image m a ≡ passedOver
-  unfolding areMarked
+  unfolding areMarked marked
   marked-from e a h q =
       eqb-true (image m a) passedOver
-      (rw (eq-eqb (getD (code S) a 0) 1 q) at (all-below (length (code S)) (λ a. not (eqb (getD (code S) a 0) 1) || eqb (image m a) passedOver) e a h))
+      (rw (eq-eqb (getD (code S) a 0) 1 q) at (all-below (length (code S)) (λ a. marked (getD (code S) a 0) (image m a)) e a h))
 
   marked-to : ((a : ℕ) → a < size S → width (subtree S a) ≡ 1 → image m a ≡ passedOver) → areMarked (code S) m ≡ true
-  unfolding areMarked
+  unfolding areMarked marked
   marked-to p =
-      below-all (length (code S)) (λ a. not (eqb (getD (code S) a 0) 1) || eqb (image m a) passedOver) (λ a h. by-test a h (eqb (getD (code S) a 0) 1) refl)
+      below-all (length (code S)) (λ a. marked (getD (code S) a 0) (image m a)) (λ a h. by-test a h (eqb (getD (code S) a 0) 1) refl)
     where
       by-test : (a : ℕ) → a < length (code S) → (x : Bool) → eqb (getD (code S) a 0) 1 ≡ x → not x || eqb (image m a) passedOver ≡ true
       by-test a h false e = refl
       by-test a h true e =
           let there : a < size S = omega (arith, h, length-code S) in
           eq-eqb (image m a) passedOver (p a there (sym (byte-width S a there) ∙ eqb-true (getD (code S) a 0) 1 e))
+
+-- 26 comes before 7 to 11: it is the number wherever a passed node lacks its mark, whatever stands at the other nodes.
+pub unmarked-26 : (source target m : List ℕ) → length m ≡ length source → areMarked source m ≡ false → listFault source target m ≡ 26
+unfolding listFault
+unmarked-26 source target m long e = rw (eq-eqb (length m) (length source) long, e)
 
 list-passes : (S T : Topo) (m : List ℕ) → listFault (code S) (code T) m ≡ 0 → Passes S T m
 unfolding listFault

@@ -47,9 +47,12 @@ imagesFault source target m =
     let f8 : ℕ = pick (rule1 n m) f9 8 in
     pick (areNodes target n m) f8 7
 
--- whether each node that is passed over has the mark for it
+-- whether a node with c children is kept or, where it is passed over, has the mark for that
+unfoldable pub marked : ℕ → ℕ → Bool
+marked c image = not (eqb c 1) || eqb image passedOver
+
 unfoldable pub areMarked : List ℕ → List ℕ → Bool
-areMarked source m = all (length source) (λ a. not (eqb (getD source a 0) 1) || eqb (image m a) passedOver)
+areMarked source m = all (length source) (λ a. marked (getD source a 0) (image m a))
 
 -- The number by which a list is refused as a map between two trees; 0: it passes. 7 to 11 are those of the images of the kept nodes, which are the
 -- nodes of the reduced drawing.

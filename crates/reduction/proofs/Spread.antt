@@ -11,6 +11,7 @@ use lib.Dec.{eqb}
 use borrow.Author.Tests.{eqb-true, eqb-false}
 use Rattle.topology.specs.Reader.{pick}
 use Rattle.reduction.specs.Reduced.{passedOver, keptBytes, place, spread, gathered}
+use Rattle.reduction.proofs.Gathering.{gathered-alike}
 
 pub spread-length : (bs l : List ℕ) → length l ≡ length (keptBytes bs) → length (spread bs l) ≡ length bs
 spread-length [] l e = refl
@@ -73,16 +74,18 @@ spread-mark b bs [] q = rw q
 spread-mark b bs (x ∷ l) q = rw q
 
 -- A list with the mark at every passed node is the spread of its numbers at the kept ones.
+gathered-back : (bs m : List ℕ) → length m ≡ length bs → ((n : ℕ) → n < length bs → getD bs n 0 ≡ 1 → getD m n 0 ≡ passedOver)
+    → spread bs (gathered bs m) ≡ m
+gathered-back [] [] l p = refl
+gathered-back [] (x ∷ m) l p = absurd (omega arith)
+gathered-back (b ∷ bs) [] l p = absurd (omega arith)
+gathered-back (b ∷ bs) (x ∷ m) l p =
+    by-test (eqb b 1) refl (gathered-back bs m (omega (arith, l)) (λ n h e. p (suc n) (omega arith) e))
+  where
+    by-test : (t : Bool) → eqb b 1 ≡ t → spread bs (gathered bs m) ≡ m → spread (b ∷ bs) (pick t (gathered bs m) (x ∷ gathered bs m)) ≡ x ∷ m
+    by-test true q r = spread-mark b bs (gathered bs m) q ∙ ap₂ (λ (y : ℕ) (k : List ℕ). y ∷ k) (sym (p 0 (omega arith) (eqb-true b 1 q))) r
+    by-test false q r = rw q (ap (λ (k : List ℕ). x ∷ k) r)
+
 pub spread-gathered : (bs m : List ℕ) → length m ≡ length bs → ((n : ℕ) → n < length bs → getD bs n 0 ≡ 1 → getD m n 0 ≡ passedOver)
     → (spread bs (gathered bs m) ≡ m) × (length (gathered bs m) ≡ length (keptBytes bs))
-spread-gathered [] [] l p = (refl, refl)
-spread-gathered [] (x ∷ m) l p = absurd (omega arith)
-spread-gathered (b ∷ bs) [] l p = absurd (omega arith)
-spread-gathered (b ∷ bs) (x ∷ m) l p =
-    by-test (eqb b 1) refl (spread-gathered bs m (omega (arith, l)) (λ n h e. p (suc n) (omega arith) e))
-  where
-    by-test : (t : Bool) → eqb b 1 ≡ t → (spread bs (gathered bs m) ≡ m) × (length (gathered bs m) ≡ length (keptBytes bs))
-        → (spread (b ∷ bs) (pick t (gathered bs m) (x ∷ gathered bs m)) ≡ x ∷ m) × (length (pick t (gathered bs m) (x ∷ gathered bs m)) ≡ length (pick t (keptBytes bs) (b ∷ keptBytes bs)))
-    by-test true q r =
-        (spread-mark b bs (gathered bs m) q ∙ ap₂ (λ (y : ℕ) (k : List ℕ). y ∷ k) (sym (p 0 (omega arith) (eqb-true b 1 q))) (r .0), r .1)
-    by-test false q r = (rw q (ap (λ (k : List ℕ). x ∷ k) (r .0)), ap suc (r .1))
+spread-gathered bs m l p = (gathered-back bs m l p, gathered-alike bs m bs l)

@@ -37,7 +37,7 @@ spread [] l = []
 spread (b ∷ bs) [] = pick (eqb b 1) (passedOver ∷ spread bs []) []
 spread (b ∷ bs) (x ∷ l) = pick (eqb b 1) (passedOver ∷ spread bs (x ∷ l)) (x ∷ spread bs l)
 
--- the bytes of the reduced drawing (`code-reduced` in proofs/Reduced)
+-- the bytes of the reduced drawing: the drawing's own at its kept nodes (`code-reduced` in proofs/Reduced)
 abbrev pub keptBytes : List ℕ → List ℕ
 keptBytes bytes = gathered bytes bytes
 

@@ -50,10 +50,7 @@ pub fn gather(bytes: &[u8], list: &[u8]) -> Gathered
         }
         i += 1;
     }
-    Gathered {
-        numbers: numbers,
-        count: count,
-    }
+    Gathered { numbers, count }
 }
 
 // A map for the first 32 nodes: the images by turns at the kept nodes, and the mark at those passed over.

@@ -50,12 +50,11 @@ fn path_fault(source: &[u8], path: Path) -> u8
     requires { ⌜ fault 32 (now source) ≡ 0 ⌝ }
     ensures { λ r. ⌜ r ≡ pathFault (tree (now (source .entry))) (stepsOf path) ⌝ }
 {
-    let steps = path.steps;
     let count = path.count;
     let mut node = 0;
     let mut i = 0;
     while i < count {
-        let step = steps[i];
+        let step = path.steps[i];
         let Found::Node(child) = branches::child(source, node, step.child as usize) else {
             return 13;
         };
@@ -73,20 +72,18 @@ fn walk(source: &[u8], target: &[u8], map: &[u8], path: Path) -> Path
     requires { ⌜ (mapFault (now source) (now target) (now map) ≡ 0) × (pathFault (tree (now source)) (stepsOf path) ≡ 0) ⌝ }
     ensures { λ r. ⌜ r ≡ pathOf (Carrying·carry (tree (now (source .entry))) (tree (now (target .entry))) (now (map .entry)) (stepsOf path)) (path .«leaf_rank») ⌝ }
 {
-    let steps = path.steps;
     let count = path.count;
-    let leaf_rank = path.leaf_rank;
     let empty = Path {
         steps: [Step { child: 0, rank: 0 }; 9],
         count: 0,
-        leaf_rank,
+        leaf_rank: path.leaf_rank,
     };
     let mut from = map[reduction::next_kept(source, 0)] as usize;
     let mut carried = descend(target, empty, 0, from, 0);
     let mut node = 0;
     let mut i = 0;
     while i < count {
-        let step = steps[i];
+        let step = path.steps[i];
         let Found::Node(child) = branches::child(source, node, step.child as usize) else {
             return carried;
         };

@@ -104,7 +104,8 @@ pub fn push_to_leaf(tree: Tree, leaf: usize, class: u8, length: u16, packet: Pac
     }
 }
 
-// Pops the packet at the head; virtual times become the ranks that it took on its way: 18 and 16 are tested in this order.
+// Pops the packet at the head; virtual times become the ranks that it took on its way: 18 and 16 are tested in this order. The refusal by 18 stands
+// last, as in `push`, so that the compiler copies the tree as it came only there.
 pub fn pop(tree: Tree) -> TreeServed
     ensures { λ r. ⌜ OwnServes tree (calling popping) (answerOf (r .answer)) (r .tree) ⌝ }
 {
@@ -114,22 +115,22 @@ pub fn pop(tree: Tree) -> TreeServed
     let topology = frame.topology;
     let nodes = frame.nodes;
     let rules = disciplines.rules;
-    if !are_sound(topology, nodes, rules) {
+    if are_sound(topology, nodes, rules) {
+        let popped = queue_pop::pop(state);
+        let way = popped.way;
+        let served = popped.served;
+        let after = served.state;
+        let answer = served.answer;
         return TreeServed {
-            tree,
-            answer: Answer::Refused(18),
+            tree: Tree {
+                state: after,
+                disciplines: after_pop(disciplines, &topology[..nodes], way, &own_images()),
+            },
+            answer,
         };
     }
-    let popped = queue_pop::pop(state);
-    let way = popped.way;
-    let served = popped.served;
-    let after = served.state;
-    let answer = served.answer;
     TreeServed {
-        tree: Tree {
-            state: after,
-            disciplines: after_pop(disciplines, &topology[..nodes], way, &own_images()),
-        },
-        answer,
+        tree,
+        answer: Answer::Refused(18),
     }
 }

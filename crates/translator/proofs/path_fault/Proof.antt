@@ -8,28 +8,24 @@ use Rattle.lists.proofs.Map.{length-map}
 use Rattle.translator.proofs.Standing.{Standing, standing-start, standing-few, standing-in, standing-lost, standing-next, standing-above, standing-leaf}
 use Rattle.translator.proofs.path_fault.Statement.{statement}
 use Rattle.translator.proofs.path_fault.Tie as tie
-use Rattle.translator.proofs.path_fault.Reads as reads
-use Rattle.translator.proofs.path_fault.Lts as lts
-use Rattle.branches.proofs.child.Reads as child-reads
 
--- of the path, its steps alone
 abbrev Inv-loop : tie.InvT-loop
-Inv-loop source steps count node₀ i₀ node i = Standing source (record { steps = steps; count = count; «leaf_rank» = 0 }) node i
+Inv-loop source path count node₀ i₀ node i = Standing source path node i
 
 abbrev μ-loop : tie.MeasureT-loop
-μ-loop source steps count node₀ i₀ node i = count - i
+μ-loop source path count node₀ i₀ node i = count - i
 
-places : (c : lts.Start (child-reads.Asked, child-reads.Learnt) reads.Pre reads.Post Inv-loop μ-loop) → length (c .args .path .steps) ≡ 9
-places c = sym (length-map _ (c .args .path .steps)) ∙ c .good .1 .0 .1 .1 .0 .1 .0 .1
+places : (c : tie.Start Inv-loop μ-loop) → length (c .args .t2 .steps) ≡ 9
+places c = sym (length-map _ (c .args .t2 .steps)) ∙ c .good .1 .0 .1 .1 .0 .1 .0 .1
 
 loop-holds : tie.Need-loop-holds Inv-loop μ-loop
-loop-holds c = standing-start _ (c .before .before .pre) _
+loop-holds c = standing-start _ (c .before .pre) _
 
 mul-step : tie.Need-mul-step Inv-loop μ-loop
-mul-step c = omega (arith, standing-few _ (c .before .before .before .before .pre) _ _ _ (c .before .loop .inv))
+mul-step c = omega (arith, standing-few _ (c .before .before .before .pre) _ _ _ (c .before .loop .inv))
 
-array-copy-out-step : tie.Need-array-copy-out-step Inv-loop μ-loop
-array-copy-out-step c = omega (arith, standing-few _ (c .before .before .before .before .pre) _ _ _ (c .before .loop .inv))
+element-copy-out-step : tie.Need-element-copy-out-step Inv-loop μ-loop
+element-copy-out-step c = omega (arith, standing-few _ (c .before .before .before .pre) _ _ _ (c .before .loop .inv))
 
 cast-child : tie.Need-cast-child Inv-loop μ-loop
 cast-child c = omega (arith, c .struct-known .given)
@@ -45,7 +41,7 @@ enum-told c = search needs
 
 returns : tie.Need-returns Inv-loop μ-loop
 returns c =
-    let s = c .before .before .before .before .before .before .before .before .before in
+    let s = c .before .before .before .before .before .before .before .before in
     sym (standing-lost _ (s .pre) _ _ _ (c .before .before .before .before .before .before .loop .inv) (c .before .before .before .before .before .loop-test .taken) (places s) _ (c .before .before .child .ensures) (c .enum-told .given .1))
 
 add-i : tie.Need-add-i Inv-loop μ-loop
@@ -56,17 +52,17 @@ loop-less c = search needs
 
 loop-again : tie.Need-loop-again Inv-loop μ-loop
 loop-again c =
-    let s = c .before .before .before .before .before .before .before .before .before .before in
+    let s = c .before .before .before .before .before .before .before .before .before in
     standing-next _ (s .pre) _ _ _ (c .before .before .before .before .before .before .before .loop .inv) (c .before .before .before .before .before .before .loop-test .taken) (places s) _ (c .before .before .before .child .ensures) _ (c .before .child2 .given .1)
 
 shared-slice-read-if1 : tie.Need-shared-slice-read-if1 Inv-loop μ-loop
-shared-slice-read-if1 c = standing-in _ (c .before .before .before .before .before .pre) _ _ _ (c .before .before .loop .inv)
+shared-slice-read-if1 c = standing-in _ (c .before .before .before .before .pre) _ _ _ (c .before .before .loop .inv)
 
 returns-2 : tie.Need-returns-2 Inv-loop μ-loop
-returns-2 c = sym (standing-above _ (c .before .before .before .before .before .before .pre) _ _ _ (c .before .before .before .loop .inv) (c .before .before .loop-test .left) (c .if1 .taken))
+returns-2 c = sym (standing-above _ (c .before .before .before .before .before .pre) _ _ _ (c .before .before .before .loop .inv) (c .before .before .loop-test .left) (c .if1 .taken))
 
 returns-3 : tie.Need-returns-3 Inv-loop μ-loop
-returns-3 c = sym (standing-leaf _ (c .before .before .before .before .before .before .pre) _ _ _ (c .before .before .before .loop .inv) (c .before .before .loop-test .left) (c .if1 .left))
+returns-3 c = sym (standing-leaf _ (c .before .before .before .before .before .pre) _ _ _ (c .before .before .before .loop .inv) (c .before .before .loop-test .left) (c .if1 .left))
 
 pub path-fault-spec : {M : Type 1} → statement M
 path-fault-spec =
@@ -76,7 +72,7 @@ path-fault-spec =
     μ-loop
     loop-holds
     mul-step
-    array-copy-out-step
+    element-copy-out-step
     cast-child
     child-requires
     enum-known-child
