@@ -1,9 +1,9 @@
 // The search for the least map between two trees.
 //
-// It goes by the reduced drawing of the source (paper 02, 2.2). A lone leaf goes to the first leaf of the target. For any other drawing the search fills
-// a table from the last source node to the first. Its entry for a source node s and a target node t is the least list of images
-// of s's children below t, packed into one number with the first child in the highest place, so that the order of the numbers is the
-// order of the lists. The branches of unrelated nodes are stretches of node numbers without a common node. So a scan over the target
+// It goes by the reduced drawing of the source (paper 02, 2.2). A lone leaf goes to the first leaf of the target. For any other drawing
+// the search fills a table from the last source node to the first. Its entry for a source node s and a target node t is the least list of
+// images of s's children below t, packed into one number with the first child in the highest place, so that the order of the numbers is
+// the order of the lists. The branches of unrelated nodes are stretches of node numbers without a common node. So a scan over the target
 // nodes p, from the end of t's branch down to t + 1, meets the children's images one after the other: for each set of children p is
 // skipped, or one child of the set goes to p and the others go where p's branch has ended. The map is read off from the root.
 //

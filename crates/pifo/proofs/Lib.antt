@@ -7,6 +7,7 @@ pub mod Runs
 pub mod Times
 pub mod Examples
 pub mod Queues
+pub mod Chains
 pub mod Answers
 pub mod Drained
 pub mod Append

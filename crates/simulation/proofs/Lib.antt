@@ -3,7 +3,6 @@ pub mod Images
 pub mod Turning
 pub mod Owners
 pub mod Carried
-pub mod Chains
 pub mod Mirrored
 pub mod Chip
 pub mod Keeping

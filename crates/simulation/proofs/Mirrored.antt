@@ -32,7 +32,7 @@ use Rattle.simulation.proofs.Images.{Keeps}
 use Rattle.simulation.proofs.Turning.{turn-rank, after, turned-atop, turned-put}
 use Rattle.simulation.proofs.Owners.{owner}
 use Rattle.simulation.proofs.Carried.{fault-steps, along-behind, along-on, along-off, carried-fault, carried-along}
-use Rattle.simulation.proofs.Chains.{chain-held, queue-own}
+use Rattle.pifo.proofs.Chains.{chain-held, queue-own}
 
 -- only the root lies above the root
 above-root : (a : Addr) → Above a [] → a ≡ []
