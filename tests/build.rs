@@ -3,7 +3,7 @@
 use std::path::Path;
 use std::{env, fs};
 
-const CRATES: [&str; 9] = [
+const CRATES: [&str; 10] = [
     "exports_topology",
     "exports_embedding",
     "exports_translator",
