@@ -206,8 +206,6 @@ fn class(random: &mut Random) -> u8 {
 /// Some leaf of a drawing.
 pub fn some_leaf(drawing: &Topology, random: &mut Random) -> usize {
     let nodes = 0..drawing.node_count();
-    let leaves: Vec<usize> = nodes
-        .filter(|&node| drawing.is_leaf(node))
-        .collect();
+    let leaves: Vec<usize> = nodes.filter(|&node| drawing.is_leaf(node)).collect();
     random.pick(&leaves)
 }

@@ -234,7 +234,11 @@ impl Tree {
     /// Opens a tree by itself.
     pub fn open(bytes: &[u8], limit: usize, rules: &Rules) -> Result<Tree, Refusal> {
         let queues = QueueTree::open(bytes, limit)?;
-        let drawing = read(bytes, TARGET_NODES)?;
+        Tree::opened(queues, read(bytes, TARGET_NODES)?, rules)
+    }
+
+    /// A tree of empty queues whose disciplines go by a drawing.
+    fn opened(queues: QueueTree, drawing: Topology, rules: &Rules) -> Result<Tree, Refusal> {
         let fresh = Disciplines::fresh(rules);
         let scheduler = Scheduler::new(drawing, &fresh).ok_or(Refusal::Rules)?;
         Ok(Tree {
@@ -264,14 +268,7 @@ impl Tree {
         rules: &Rules,
     ) -> Result<Tree, Refusal> {
         let drawing = read(source, SOURCE_NODES)?;
-        let queues = QueueTree::open(target, limit)?;
-        let fresh = Disciplines::fresh(rules);
-        let scheduler = Scheduler::new(drawing, &fresh).ok_or(Refusal::Rules)?;
-        Ok(Tree {
-            queues,
-            scheduler,
-            translator: None,
-        })
+        Tree::opened(QueueTree::open(target, limit)?, drawing, rules)
     }
 
     /// The chip's tree in a state behind a map.

@@ -13,7 +13,9 @@ use linduvar_tests::queue_tree::{Step, MOST_PACKETS};
 use linduvar_tests::random::{seeded, Random};
 use linduvar_tests::rattle_chip::{self, Behind};
 use linduvar_tests::rattle_tree;
-use linduvar_tests::requests::{any_push, passed_over, refused, Answer, Request, PASSED_OVER_KINDS};
+use linduvar_tests::requests::{
+    any_push, passed_over, refused, Answer, Request, PASSED_OVER_KINDS,
+};
 use linduvar_tests::rules::{any_rules, break_rules, keep_anything, right_rules, RULE_FAULTS};
 use linduvar_tests::scheduler::{Pair, Rule, Rules, Tree, ARRIVAL, STRICT, WEIGHTED};
 use linduvar_tests::states::{any_topology, damage, dressed, Habits, DAMAGES, DRESSES, LIMITS};
@@ -611,7 +613,11 @@ fn require_everything(kinds: &Kinds) {
             kinds.require(&format!("open: {number} of the {of}"), OFTEN_ENOUGH);
         }
     }
-    for kind in RULE_FAULTS.iter().chain(&OCCASIONS).chain(&PASSED_OVER_KINDS) {
+    for kind in RULE_FAULTS
+        .iter()
+        .chain(&OCCASIONS)
+        .chain(&PASSED_OVER_KINDS)
+    {
         kinds.require(kind, OFTEN_ENOUGH);
     }
     let never = "a virtual time moved at a node that is passed over";

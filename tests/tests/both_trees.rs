@@ -51,8 +51,12 @@ fn every_limit(seed: u64) {
         }
         assert!(full, "limit {limit} was not met");
     }
-    println!("{lists} lists, in {shared} of them branches share a chip node, in {passing} nodes are");
-    println!("passed over, in {lone_leaves} down to a leaf; {calls} calls, each limit met; how many met");
+    println!(
+        "{lists} lists, in {shared} of them branches share a chip node, in {passing} nodes are"
+    );
+    println!(
+        "passed over, in {lone_leaves} down to a leaf; {calls} calls, each limit met; how many met"
+    );
     println!("each answer:");
     for lists in [shared, passing, lone_leaves] {
         assert!(lists >= OFTEN_ENOUGH, "only {lists} lists of a kind");

@@ -69,7 +69,12 @@ fn examples(seed: u64) {
         search(&[0], &bytes, refusal, &[]);
     }
     let passed = 255;
-    search(&chain(9), &chain(9), 0, &[[passed; 8].as_slice(), &[8]].concat());
+    search(
+        &chain(9),
+        &chain(9),
+        0,
+        &[[passed; 8].as_slice(), &[8]].concat(),
+    );
     search(&[1, 0], &chain(9), 0, &[passed, 8]);
 
     // The source is read first, each under its own limit.
@@ -91,12 +96,7 @@ fn examples(seed: u64) {
     );
     // Both children of the root go below one child of the target's root.
     search(&[2, 0, 0], &[1, 2, 0, 0], 0, &[0, 2, 3]);
-    search(
-        &[2, 2, 0, 0, 0],
-        &[1, 2, 0, 2, 0, 0],
-        0,
-        &[0, 3, 4, 5, 2],
-    );
+    search(&[2, 2, 0, 0, 0], &[1, 2, 0, 2, 0, 0], 0, &[0, 3, 4, 5, 2]);
     // Only siblings one above the other would fit.
     search(&[2, 0, 0], &[1, 1, 1, 0], 12, &[]);
     search(&[2, 2, 0, 0, 2, 0, 0], &[2, 2, 0, 2, 0, 0, 0], 12, &[]);
@@ -394,7 +394,11 @@ impl Comparison {
         let mut map = [238; SOURCE_NODES];
         let rattle = rattle_embedding::search(source, target, &mut map);
         let (rust, least) = embedding::search(source, target);
-        let written = if rust == 0 { least } else { [238; SOURCE_NODES] };
+        let written = if rust == 0 {
+            least
+        } else {
+            [238; SOURCE_NODES]
+        };
         self.agree(format_args!("search"), source, target, rattle, rust);
         self.agree(format_args!("least map"), source, target, map, written);
         *self.search_answers.entry(rust).or_default() += 1;

@@ -107,7 +107,12 @@ fn lost_streams() {
     let long = [opening(&[0], &[0], 1).concat(), vec![POP; 60_000]].concat();
     for script in [&paper::EXAMPLE[..], &long] {
         assert_eq!(end(script, "", 0).0.signal(), Some(GONE));
-        for (streams, says) in [("<&-", ""), (">&-", LOST), ("<&- >&-", ""), (">/dev/full", LOST)] {
+        for (streams, says) in [
+            ("<&-", ""),
+            (">&-", LOST),
+            ("<&- >&-", ""),
+            (">/dev/full", LOST),
+        ] {
             let (status, said) = end(script, streams, 0);
             assert!(status.success(), "{streams}");
             assert_eq!(said, says, "{streams}");

@@ -867,7 +867,10 @@ impl Comparison {
         }
         for &node in &finishes {
             let parent = drawing.parent(node).expect("the root has no finish");
-            assert!(!drawing.is_passed_over(parent), "node {parent} keeps nothing");
+            assert!(
+                !drawing.is_passed_over(parent),
+                "node {parent} keeps nothing"
+            );
             let by_time = old.virtual_time[parent] > old.finish[node];
             let from = if by_time {
                 "virtual time"

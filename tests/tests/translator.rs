@@ -127,7 +127,11 @@ fn examples(seed: u64) {
     // The path as drawn is tested, where nodes are passed over too.
     carry(passing, &[(2, 4)], Err(13));
     carry(passing, &[(1, 9), (2, 4), (2, 8), (2, 3)], Err(13));
-    carry(passing, &[(1, 9), (2, 4), (1, 8), (1, 3), (1, 7), (1, 1)], Err(13));
+    carry(
+        passing,
+        &[(1, 9), (2, 4), (1, 8), (1, 3), (1, 7), (1, 1)],
+        Err(13),
+    );
     carry(passing, &[], Err(14));
     carry(passing, &[(1, 9), (2, 4)], Err(14));
     carry(passing, &[(1, 9), (2, 4), (1, 8), (1, 3)], Err(14));
@@ -247,7 +251,10 @@ fn every_chain(seed: u64) {
         require("a chain", &comparison.answers, (answer, ""));
     }
     require("a chain", &comparison.answers, (5, "source"));
-    println!("every chain in every small chip: {} paths", comparison.paths);
+    println!(
+        "every chain in every small chip: {} paths",
+        comparison.paths
+    );
 }
 
 /// What is worth to be met besides the answers and the kinds of paths.
