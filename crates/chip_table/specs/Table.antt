@@ -1,0 +1,50 @@
+-- The text of buychip, for a script: a line for each d from 2 to 8, with the least depth of a chip and how large that chip is, or a refusal.
+use mathlib.Core.Path.{_≡_}
+use Prim.Native.Nat.{ℕ, zero, suc, _≤_}
+use mathlib.Core.List.{List, [], _∷_, _++_}
+use lib.ListN.{length, getD}
+use lib.Dec.{eqb}
+use Rattle.topology.specs.Tree.{size}
+use Rattle.topology.specs.Reader.{pick, fault, tree}
+use Rattle.regular_laws.specs.Regular.{complete, leaves}
+use Rattle.regular_laws.specs.Depth.{LeastDepth}
+use Rattle.templates.specs.Template.{bytes, filled}
+use Rattle.lines.specs.Lines.{noLine}
+use Rattle.gathering.specs.declared.Ending.{Ending}
+use Rattle.gathering.specs.declared.Ending.the-variants.{End, Refused, Compile}
+use Rattle.gathering.specs.Gathering.{gathered}
+
+-- the line of the complete tree of depth k with d children at each inner node
+unfoldable pub chipLine : ℕ → ℕ → List ℕ
+chipLine d k = filled (bytes "d #: depth #, # nodes, # leaves\n") (d ∷ k ∷ size (complete d k) ∷ leaves (complete d k) ∷ []) 0
+
+-- the lines of so many d, from the given one on, by the depth for each
+abbrev pub chipLines : ℕ → ℕ → (ℕ → ℕ) → List ℕ
+chipLines zero d depth = []
+chipLines (suc n) d depth = chipLine d (depth d) ++ chipLines n (suc d) depth
+
+-- The text for a source that ends at an offset, by its fault. The depths are determined (`depth-once` in regular_laws/proofs/Depth), and so is the
+-- text (`table-once` in proofs/Once).
+abbrev pub TableBy : ℕ → List ℕ → ℕ → List ℕ → Type 0
+TableBy zero source at text =
+    (depth : ℕ → ℕ) × ((d : ℕ) → 2 ≤ d → d ≤ 8 → LeastDepth (tree source) d (depth d)) × (text ≡ chipLines 7 2 depth)
+TableBy (suc f) source at text = text ≡ noLine (suc f) at
+
+abbrev pub Table : List ℕ → ℕ → List ℕ → Type 0
+Table source at text = TableBy (fault 32 source) source at text
+
+-- How the commands before 04 end here. Gatewalk refuses an 04 without a limit, and no other 04; a buyer has none, so that 04 counts.
+abbrev pub ending : List ℕ → Ending → Ending
+ending script End = End
+ending script (Refused n at) = pick (eqb (getD script at 0) 4) (Compile at) (Refused n at)
+ending script (Compile at) = Compile at
+
+-- The text by how they end. Without an 04 the source ends with the script.
+abbrev pub TextBy : Ending → List ℕ → List ℕ → List ℕ → Type 0
+TextBy End script source text = Table source (length script) text
+TextBy (Refused n at) script source text = text ≡ noLine n at
+TextBy (Compile at) script source text = Table source at text
+
+-- the whole text of buychip
+abbrev pub Prints : List ℕ → List ℕ → Type 0
+Prints script text = TextBy (ending script (gathered script .ending)) script (gathered script .source) text
