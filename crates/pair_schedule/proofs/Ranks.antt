@@ -19,7 +19,7 @@ use Rattle.simulation.specs.Mirror.{toward, Owns, ranked, turn}
 use Rattle.simulation.specs.Sheet.{Paired}
 use Rattle.simulation.proofs.Images.{Keeps}
 use Rattle.simulation.proofs.Keeping.{keeps, kept-owns}
-use Rattle.simulation.proofs.Prefixes.{toward-over}
+use Rattle.simulation.proofs.Toward.{toward-over}
 use Rattle.simulation.proofs.Turning.{after}
 use Rattle.simulation.proofs.Owners.{lower}
 use Rattle.simulation.proofs.Mirrored.{mirrors-pop}

@@ -1,14 +1,17 @@
 -- `enough d s` is the least exponent k with s ≤ d ^ k, for every d from 2 on.
-use mathlib.Core.Path.{_≡_, refl, sym, ap, _∙_, subst}
-use Prim.Native.Nat.{ℕ, zero, suc, _+_, _*_, _^_, _≤_, _<_}
+use mathlib.Core.Path.{_≡_, refl, ap, subst}
+use Prim.Native.Nat.{ℕ, zero, suc, _+_, _^_, _≤_, _<_}
 use native.Mathlib.Nat.{mul-le-mul-right, pow-zero, pow-succ', pow-le-pow-right}
-use native.Mathlib.Decide.{decLe, decLt}
+use native.Mathlib.Decide.{decLt}
 use native.Mathlib.Omega.{arith}
 use mathlib.Core.Bool.{Bool, true, false}
 use lib.Dec.{leb}
 use borrow.Author.Tests.{leb-true, leb-false}
 use Rattle.topology.specs.Reader.{pick}
 use Rattle.regular_laws.specs.Need.{enoughFrom, enough}
+
+pub power-pos : (d n : ℕ) → 0 < d → 1 ≤ d ^ n
+power-pos d n z = omega (arith, pow-zero d, pow-le-pow-right {n = d} z {i = 0} {j = n} (omega arith))
 
 -- n is less than 2 to the n, and so is less than d to the n
 pub power-above : (d n : ℕ) → 2 ≤ d → n < d ^ n
@@ -17,7 +20,7 @@ power-above d (suc n) z = omega (arith, power-above d n z, pow-succ' d n, mul-le
 
 pub power-rises : (d j k : ℕ) → 2 ≤ d → j < k → d ^ j < d ^ k
 power-rises d j k z h =
-    omega (arith, power-above d 0 z, pow-succ' d j, mul-le-mul-right {m = 2} {n = d} (d ^ j) z, pow-le-pow-right {n = d} (omega arith) {i = suc j} {j = k} h, pow-le-pow-right {n = d} (omega arith) {i = 0} {j = j} (omega arith))
+    omega (arith, power-pos d j (omega arith), pow-succ' d j, mul-le-mul-right {m = 2} {n = d} (d ^ j) z, pow-le-pow-right {n = d} (omega arith) {i = suc j} {j = k} h)
 
 from-holds : (fuel d s k : ℕ) → s ≤ d ^ (fuel + k) → s ≤ d ^ enoughFrom fuel d s k
 from-holds zero d s k h = subst (λ (n : ℕ). s ≤ d ^ n) (omega arith) h

@@ -1,1 +1,5 @@
 pub mod Enough
+pub mod Kraft
+pub mod Placement
+pub mod Fitting
+pub mod Depth

@@ -10,12 +10,12 @@ use Rattle.topology.specs.Tree.{Topo, width, size}
 use Rattle.topology.specs.Address.{Addr, In, sub, Above, addr, num}
 use Rattle.topology.proofs.Numbering.{addr-in, num-lt, addr-num}
 use Rattle.topology.proofs.Ancestry.{in-join}
+use Rattle.topology.proofs.Order.{above-strict}
 use Rattle.reduction.specs.Kept.{descent, keptAt}
 use Rattle.reduction.proofs.Kept.{kept-in, kept-is, kept-self, kept-down, kept-child}
 use Rattle.embedding_laws.specs.Rules.{image, Passes}
 use Rattle.simulation.specs.Embedding.{imageAt}
 use Rattle.simulation.specs.Mirror.{Owns}
-use Rattle.simulation.proofs.Prefixes.{above-strict}
 use Rattle.simulation.proofs.Images.{Keeps}
 
 module _ (S T : Topo) (m : List ℕ) (E : Passes S T m) where

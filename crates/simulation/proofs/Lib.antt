@@ -1,4 +1,4 @@
-pub mod Prefixes
+pub mod Toward
 pub mod Images
 pub mod Turning
 pub mod Owners

@@ -16,6 +16,7 @@ use Rattle.lists.proofs.Prefix.{Meet, below, over, apart, meet}
 use Rattle.topology.specs.Tree.{Topo, width}
 use Rattle.topology.specs.Address.{Addr, In, sub, Above}
 use Rattle.topology.proofs.Ancestry.{in-front, in-below, in-join}
+use Rattle.topology.proofs.Order.{above-trans}
 use Rattle.pifo.specs.Queue.{Entry, child, packet, entry, rank, insert, allowed, every}
 use Rattle.pifo.specs.Tree.{Step, pathFault, PTree, shape, empty, push, pop, held, well}
 use Rattle.pifo.specs.Addressed.{queueAt, along, put, atop}
@@ -27,7 +28,6 @@ use Rattle.pifo.proofs.Push.{push-held}
 use Rattle.pifo.proofs.Pop.{child-own, pop-some}
 use Rattle.simulation.specs.Mirror.{toward, Owns, ranked, turn, turned, Mirrors}
 use Rattle.simulation.specs.Carrying.{steps, carryFrom, carryBy}
-use Rattle.simulation.proofs.Prefixes.{above-trans}
 use Rattle.simulation.proofs.Images.{Keeps}
 use Rattle.simulation.proofs.Turning.{turn-rank, after, turned-atop, turned-put}
 use Rattle.simulation.proofs.Owners.{owner}

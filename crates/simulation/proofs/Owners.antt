@@ -11,8 +11,8 @@ use Rattle.lists.proofs.Prefix.{Meet, below, over, apart, meet}
 use Rattle.topology.specs.Tree.{Topo, width, height}
 use Rattle.topology.specs.Address.{Addr, In, sub, Above}
 use Rattle.topology.proofs.Ancestry.{in-front, in-below, in-join, in-height}
+use Rattle.topology.proofs.Order.{above-trans, above-either, above-dec}
 use Rattle.simulation.specs.Mirror.{Owns}
-use Rattle.simulation.proofs.Prefixes.{above-trans, above-either, above-dec}
 use Rattle.simulation.proofs.Images.{Keeps}
 
 module _ {S T : Topo} {F : Addr → Addr} (K : Keeps S T F) where

@@ -1,5 +1,6 @@
 pub mod Numbering
 pub mod Ancestry
+pub mod Order
 pub mod Children
 pub mod Decoding
 pub mod Reader

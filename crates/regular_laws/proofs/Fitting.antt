@@ -1,0 +1,290 @@
+-- By address: a drawing without passed nodes has an embedding into the complete tree of the depth that it needs (`fits`), and a drawing has one
+-- into none that is less deep (`bound`).
+--
+-- It fits, since the children's branches are placed side by side (proofs/Placement), each in a complete tree of the depth that the child needs. Nothing
+-- less deep will do: the children's images are unrelated nodes, what is left below each is at least what that child needs, and so Kraft's
+-- inequality bounds the sum that the need is taken from.
+use mathlib.Core.Path.{_≡_, refl, sym, ap, ap₂, _∙_, subst}
+use mathlib.Core.Logic.{_≢_, _⊎_, inl, inr}
+use Prim.Native.Nat.{ℕ, zero, suc, _+_, _-_, _^_, _≤_, _<_}
+use native.Mathlib.Nat.{not-suc-le-zero, le-of-suc-le-suc}
+use native.Mathlib.Decide.{ℕ-discrete}
+use native.Mathlib.Omega.{arith}
+use mathlib.Core.List.{List, [], _∷_, _++_, append-assoc, append-cancel-left}
+use lib.ListN.{length, getD, drop, length-append}
+use lib.Seq.{drop-length, drop-append-seam}
+use Rattle.topology.specs.Tree.{Topo, Forest, node, fnil, fcons, count, kids, width}
+use Rattle.topology.specs.Address.{Addr, nth, In, sub, Above}
+use Rattle.topology.proofs.Ancestry.{in-below, in-join, sub-append}
+use Rattle.topology.proofs.Order.{above-trans, above-either}
+use Rattle.regular_laws.specs.Regular.{complete}
+use Rattle.regular_laws.specs.Need.{enough, powers, sum, need, needs}
+use Rattle.regular_laws.proofs.Enough.{enough-holds, enough-least}
+use Rattle.regular_laws.proofs.Kraft.{Item, item, weight, FromAll, Unrelated, Inside, kraft, child-complete, width-complete}
+use Rattle.regular_laws.proofs.Placement.{wayTo, slot, placed-in, placed-length, placed-apart, placed-lower}
+
+length-needs : (d : ℕ) (ts : Forest) → length (needs d ts) ≡ count ts
+length-needs d fnil = refl
+length-needs d (fcons t ts) = ap suc (length-needs d ts)
+
+needs-nth : (d : ℕ) (ts : Forest) (i : ℕ) → i < count ts → getD (needs d ts) i 0 ≡ need d (nth ts i)
+needs-nth d fnil i l = absurd (not-suc-le-zero l)
+needs-nth d (fcons t ts) zero l = refl
+needs-nth d (fcons t ts) (suc i) l = needs-nth d ts i (le-of-suc-le-suc l)
+
+-- an embedding by address, root to root (Definition 5.2 of document 001)
+pub record Fits (R T : Topo) (F : Addr → Addr) : Type 0 where
+  pub root : F [] ≡ []
+  pub there : (a : Addr) → In R a → In T (F a)
+  pub leaf : (a : Addr) → In R a → width (sub R a) ≡ 0 → width (sub T (F a)) ≡ 0
+  pub down : (a b : Addr) → In R a → In R b → Above a b → Above (F a) (F b)
+  pub up : (a b : Addr) → In R a → In R b → Above (F a) (F b) → Above a b
+
+-- ---- it fits
+
+-- No node has one child, so that none is passed over.
+abbrev mutual
+  pub Forked : Topo → Type 0
+  Forked (node ts) = (count ts ≢ 1) × AllForked ts
+
+  pub AllForked : Forest → Type 0
+  AllForked fnil = Unit
+  AllForked (fcons t ts) = Forked t × AllForked ts
+
+forked-nth : (ts : Forest) → AllForked ts → (i : ℕ) → i < count ts → Forked (nth ts i)
+forked-nth fnil f i l = absurd (not-suc-le-zero l)
+forked-nth (fcons t ts) f zero l = f .0
+forked-nth (fcons t ts) f (suc i) l = forked-nth ts (f .1) i (le-of-suc-le-suc l)
+
+-- the way down to child i's branch, where the children need hs
+abbrev wayOf : ℕ → List ℕ → ℕ → Addr
+wayOf d hs i = wayTo d (enough d (sum (powers d hs)) - getD hs i 0) (slot d hs i)
+
+-- where address a goes: each step down by the way of the child's branch
+abbrev pub put : ℕ → Topo → Addr → Addr
+put d t [] = []
+put d t (zero ∷ a) = []
+put d t (suc i ∷ a) = wayOf d (needs d (kids t)) i ++ put d (nth (kids t) i) a
+
+module _ (d : ℕ) (z : 2 ≤ d) where
+  -- the laws of the placement at one node with children
+  module _ (ts : Forest) (i : ℕ) (l : i < count ts) where
+    enough-room : sum (powers d (needs d ts)) ≤ d ^ need d (node ts)
+    enough-room = enough-holds d z (sum (powers d (needs d ts)))
+
+    in-list : (j : ℕ) → j < count ts → j < length (needs d ts)
+    in-list j g = omega (arith, length-needs d ts)
+
+    way-there : In (complete d (need d (node ts))) (wayOf d (needs d ts) i)
+    way-there = placed-in d z (needs d ts) (need d (node ts)) enough-room i (in-list i l) .0
+
+    way-sub : sub (complete d (need d (node ts))) (wayOf d (needs d ts) i) ≡ complete d (need d (nth ts i))
+    way-sub = placed-in d z (needs d ts) (need d (node ts)) enough-room i (in-list i l) .1 ∙ ap (complete d) (needs-nth d ts i l)
+
+    way-apart : (j : ℕ) → j < count ts → i ≢ j → Above (wayOf d (needs d ts) i) (wayOf d (needs d ts) j) → ⊥
+    way-apart j g n u = placed-apart d z (needs d ts) (need d (node ts)) enough-room i j (in-list i l) (in-list j g) n u
+
+    -- where there is another child, the way is not empty
+    way-strict : count ts ≢ 1 → 0 < length (wayOf d (needs d ts) i)
+    way-strict n = by-index (ℕ-discrete i 0)
+      where
+        beside : (j : ℕ) → j < count ts → i ≢ j → 0 < length (wayOf d (needs d ts) i)
+        beside j g ne =
+            omega (
+              arith,
+              placed-length d z (needs d ts) (need d (node ts)) enough-room i,
+              placed-lower d z (needs d ts) (need d (node ts)) enough-room i j (in-list i l) (in-list j g) ne,
+            )
+
+        by-index : Dec (i ≡ 0) → 0 < length (wayOf d (needs d ts) i)
+        by-index (yes e) = beside 1 (omega (arith, n)) (λ q. omega arith)
+        by-index (no e) = beside 0 (omega arith) e
+
+  put-there : (a : Addr) (t : Topo) → In t a → In (complete d (need d t)) (put d t a)
+  put-there [] t i = tt
+  put-there (zero ∷ a) t i = absurd (not-suc-le-zero (i .0))
+  put-there (suc k ∷ a) (node ts) (p, l, i) =
+      in-join (complete d (need d (node ts))) (wayOf d (needs d ts) k) (put d (nth ts k) a) (way-there ts k l)
+      (subst (λ (u : Topo). In u (put d (nth ts k) a)) (sym (way-sub ts k l)) (put-there a (nth ts k) i))
+
+  put-leaf : (a : Addr) (t : Topo) → In t a → width (sub t a) ≡ 0 → width (sub (complete d (need d t)) (put d t a)) ≡ 0
+  unfolding enough
+  put-leaf [] (node fnil) i e = refl
+  put-leaf [] (node (fcons t ts)) i e = absurd (omega arith)
+  put-leaf (zero ∷ a) t i e = absurd (not-suc-le-zero (i .0))
+  put-leaf (suc k ∷ a) (node ts) (p, l, i) e =
+      ap width (sub-append (complete d (need d (node ts))) (wayOf d (needs d ts) k) (put d (nth ts k) a))
+      ∙ ap (λ (u : Topo). width (sub u (put d (nth ts k) a))) (way-sub ts k l)
+      ∙ put-leaf a (nth ts k) i e
+
+  put-down : (a e : Addr) (t : Topo) → In t a → Above (put d t a) (put d t (a ++ e))
+  put-down [] e t i = (put d t e, refl)
+  put-down (zero ∷ a) e t i = absurd (not-suc-le-zero (i .0))
+  put-down (suc k ∷ a) e (node ts) (p, l, i) =
+      let r = put-down a e (nth ts k) i in
+      (r .0, ap (λ (x : Addr). wayOf d (needs d ts) k ++ x) (r .1) ∙ sym (append-assoc (wayOf d (needs d ts) k) (put d (nth ts k) a) (r .0)))
+
+  put-up : (a b : Addr) (t : Topo) → Forked t → In t a → In t b → Above (put d t a) (put d t b) → Above a b
+  put-up [] b t f i j u = (b, refl)
+  put-up (zero ∷ a) b t f i j u = absurd (not-suc-le-zero (i .0))
+  put-up (suc k ∷ a) [] (node ts) f i j u =
+      let w = wayOf d (needs d ts) k in
+      let p = put d (nth ts k) a in
+      absurd (omega (arith, ap length (u .1), length-append (w ++ p) (u .0), length-append w p, way-strict ts k (i .1) (f .0)))
+  put-up (suc k ∷ a) (zero ∷ b) t f i j u = absurd (not-suc-le-zero (j .0))
+  put-up (suc k ∷ a) (suc n ∷ b) (node ts) f (p, l, i) (q, g, j) u = by-child (ℕ-discrete k n) (λ h. put-up a b (nth ts k) (forked-nth ts (f .1) k l) i h)
+    where
+      by-child : Dec (k ≡ n) → (In (nth ts k) b → Above (put d (nth ts k) a) (put d (nth ts k) b) → Above a b) → Above (suc k ∷ a) (suc n ∷ b)
+      by-child (yes e) r =
+          let v : Above (wayOf d (needs d ts) k ++ put d (nth ts k) a) (wayOf d (needs d ts) k ++ put d (nth ts k) b) =
+          subst (λ (x : ℕ). Above (wayOf d (needs d ts) k ++ put d (nth ts k) a) (wayOf d (needs d ts) x ++ put d (nth ts x) b)) (sym e) u in
+          let w : put d (nth ts k) b ≡ put d (nth ts k) a ++ v .0 =
+          append-cancel-left (wayOf d (needs d ts) k) (put d (nth ts k) b) (put d (nth ts k) a ++ v .0) (v .1 ∙ append-assoc (wayOf d (needs d ts) k) (put d (nth ts k) a) (v .0)) in
+          let s = r (subst (λ (x : ℕ). In (nth ts x) b) (sym e) j) (v .0, w) in
+          (s .0, ap₂ (λ (x : ℕ) (c : Addr). suc x ∷ c) (sym e) (s .1))
+      by-child (no e) r = absurd (by-order (above-either (wayOf d (needs d ts) k) (wayOf d (needs d ts) n) (wayOf d (needs d ts) n ++ put d (nth ts n) b) over (put d (nth ts n) b, refl)))
+        where
+          over : Above (wayOf d (needs d ts) k) (wayOf d (needs d ts) n ++ put d (nth ts n) b)
+          over = above-trans (wayOf d (needs d ts) k) (wayOf d (needs d ts) k ++ put d (nth ts k) a) (wayOf d (needs d ts) n ++ put d (nth ts n) b) (put d (nth ts k) a, refl) u
+
+          by-order : Above (wayOf d (needs d ts) k) (wayOf d (needs d ts) n) ⊎ Above (wayOf d (needs d ts) n) (wayOf d (needs d ts) k) → ⊥
+          by-order (inl v) = way-apart ts k l n g e v
+          by-order (inr v) = way-apart ts n g k l (λ x. e (sym x)) v
+
+  pub fits : (t : Topo) → Forked t → Fits t (complete d (need d t)) (put d t)
+  fits t f =
+      record {
+        root = refl;
+        there = λ a i. put-there a t i;
+        leaf = λ a i e. put-leaf a t i e;
+        down = λ a b i j u. subst (λ (c : Addr). Above (put d t a) (put d t c)) (sym (u .1)) (put-down a (u .0) t i);
+        up = λ a b i j u. put-up a b t f i j u;
+      }
+
+-- ---- nothing less deep will do
+
+sub-complete : (d : ℕ) (x : Addr) (k : ℕ) → In (complete d k) x → (length x ≤ k) × (sub (complete d k) x ≡ complete d (k - length x))
+sub-complete d [] k i =
+    let q : k ≡ k - 0 = omega arith in
+    (omega arith, ap (complete d) q)
+sub-complete d (y ∷ x) zero i = absurd (omega (arith, i .0, i .1))
+sub-complete d (y ∷ x) (suc k) (p, l, i) =
+    let c = child-complete d k y p (omega (arith, l, width-complete d k)) in
+    let r = sub-complete d x k (subst (λ (t : Topo). In t x) c i) in
+    let q : k - length x ≡ suc k - suc (length x) = omega arith in
+    (omega (arith, r .0), ap (λ (t : Topo). sub t x) c ∙ r .1 ∙ ap (complete d) q)
+
+module _ (d : ℕ) (z : 2 ≤ d) where
+  module _ (ts : Forest) (k : ℕ) (F : Addr → Addr) (E : Fits (node ts) (complete d k) F) where
+    abbrev at : ℕ → Addr
+    at i = F (suc i ∷ [])
+
+    module _ (i : ℕ) (l : i < count ts) where
+      has : (a : Addr) → In (nth ts i) a → In (node ts) (suc i ∷ a)
+      has a j = (omega arith, l, j)
+
+      rest : (a : Addr) → In (nth ts i) a → F (suc i ∷ a) ≡ at i ++ drop (length (at i)) (F (suc i ∷ a))
+      rest a j =
+          let u = E .down (suc i ∷ []) (suc i ∷ a) (has [] tt) (has a j) (a, refl) in
+          u .1 ∙ ap (λ (x : Addr). at i ++ x) (sym (ap (drop (length (at i))) (u .1) ∙ drop-append-seam (at i) (u .0)))
+
+      place : (length (at i) ≤ k) × (sub (complete d k) (at i) ≡ complete d (k - length (at i)))
+      place = sub-complete d (at i) k (E .there (suc i ∷ []) (has [] tt))
+
+      child-fits : Fits (nth ts i) (complete d (k - length (at i))) (λ a. drop (length (at i)) (F (suc i ∷ a)))
+      child-fits =
+          record {
+            root = drop-length (at i);
+            there = λ a j. subst (λ (t : Topo). In t (drop (length (at i)) (F (suc i ∷ a)))) (place .1)
+                (in-below (complete d k) (at i) (drop (length (at i)) (F (suc i ∷ a))) (subst (In (complete d k)) (rest a j) (E .there (suc i ∷ a) (has a j))));
+            leaf = λ a j e.
+                ap (λ (t : Topo). width (sub t (drop (length (at i)) (F (suc i ∷ a))))) (sym (place .1))
+                ∙ ap width (sym (ap (sub (complete d k)) (rest a j) ∙ sub-append (complete d k) (at i) (drop (length (at i)) (F (suc i ∷ a)))))
+                ∙ E .leaf (suc i ∷ a) (has a j) e;
+            down = λ a b j g u.
+                let v = E .down (suc i ∷ a) (suc i ∷ b) (has a j) (has b g) (u .0, ap (λ (x : Addr). suc i ∷ x) (u .1)) in (
+                  v .0,
+                  append-cancel-left (at i) (drop (length (at i)) (F (suc i ∷ b))) (drop (length (at i)) (F (suc i ∷ a)) ++ v .0)
+                      (sym (rest b g) ∙ v .1 ∙ ap (λ (x : Addr). x ++ v .0) (rest a j) ∙ append-assoc (at i) (drop (length (at i)) (F (suc i ∷ a))) (v .0)),
+                );
+            up = λ a b j g u.
+                let v = E .up (suc i ∷ a) (suc i ∷ b) (has a j) (has b g) (
+                  u .0,
+                  rest b g ∙ ap (λ (x : Addr). at i ++ x) (u .1) ∙ sym (append-assoc (at i) (drop (length (at i)) (F (suc i ∷ a))) (u .0))
+                      ∙ ap (λ (x : Addr). x ++ u .0) (sym (rest a j)),
+                ) in
+                (v .0, cc (v .1));
+          }
+
+      unrelated : (j : ℕ) → j < count ts → i ≢ j → Above (at i) (at j) → ⊥
+      unrelated j g n u =
+          let v = E .up (suc i ∷ []) (suc j ∷ []) (has [] tt) (omega arith, g, tt) u in
+          n (first (v .1))
+        where
+          first : {e : Addr} → suc j ∷ [] ≡ suc i ∷ e → i ≡ j
+          first q = cc
+
+  -- the children's branches as items, from child j + 1 on
+  abbrev itemsOf : (Addr → Addr) → Forest → ℕ → List Item
+  itemsOf F fnil j = []
+  itemsOf F (fcons t us) j = item (F (suc j ∷ [])) (need d t) ∷ itemsOf F us (suc j)
+
+  items-weight : (F : Addr → Addr) (us : Forest) (j : ℕ) → weight d (itemsOf F us j) ≡ sum (powers d (needs d us))
+  items-weight F fnil j = refl
+  items-weight F (fcons t us) j = ap (λ (x : ℕ). d ^ need d t + x) (items-weight F us (suc j))
+
+  -- what is shown of each child goes over to the list
+  from-all : (F : Addr → Addr) (a : Addr) (us : Forest) (j n : ℕ) → n ≡ j + count us
+      → ((i : ℕ) → j ≤ i → i < n → (Above a (F (suc i ∷ [])) → ⊥) × (Above (F (suc i ∷ [])) a → ⊥)) → FromAll a (itemsOf F us j)
+  from-all F a fnil j n e f = tt
+  from-all F a (fcons t us) j n e f =
+      let here = f j (omega arith) (omega (arith, e)) in
+      (here .0, here .1, from-all F a us (suc j) n (omega (arith, e)) (λ i l g. f i (omega arith) g))
+
+  all-unrelated : (F : Addr → Addr) (us : Forest) (j n : ℕ) → n ≡ j + count us
+      → ((i h : ℕ) → i < n → h < n → i ≢ h → Above (F (suc i ∷ [])) (F (suc h ∷ [])) → ⊥) → Unrelated (itemsOf F us j)
+  all-unrelated F fnil j n e f = tt
+  all-unrelated F (fcons t us) j n e f = (
+    from-all F (F (suc j ∷ [])) us (suc j) n (omega (arith, e))
+        (λ i l g. (f j i (omega (arith, e)) g (omega arith), f i j g (omega (arith, e)) (omega arith))),
+    all-unrelated F us (suc j) n (omega (arith, e)) f,
+  )
+
+  all-inside : (F : Addr → Addr) (k : ℕ) (us : Forest) (j n : ℕ) → n ≡ j + count us
+      → ((i : ℕ) → i < count us → In (complete d k) (F (suc (j + i) ∷ [])) × (length (F (suc (j + i) ∷ [])) + need d (nth us i) ≤ k))
+      → Inside d k (itemsOf F us j)
+  all-inside F k fnil j n e f = tt
+  all-inside F k (fcons t us) j n e f =
+      let q : j + 0 ≡ j = omega arith in
+      let here = subst (λ (x : ℕ). In (complete d k) (F (suc x ∷ [])) × (length (F (suc x ∷ [])) + need d t ≤ k)) q (f 0 (omega arith)) in (
+        here .0,
+        here .1,
+        all-inside F k us (suc j) n (omega (arith, e))
+            (λ i l. let r : j + suc i ≡ suc j + i = omega arith in
+            subst (λ (x : ℕ). In (complete d k) (F (suc x ∷ [])) × (length (F (suc x ∷ [])) + need d (nth us i) ≤ k)) r (f (suc i) (omega arith))),
+      )
+
+  node-bound : (ts : Forest) (k : ℕ) (F : Addr → Addr) (E : Fits (node ts) (complete d k) F)
+      → ((i : ℕ) → i < count ts → need d (nth ts i) ≤ k - length (F (suc i ∷ []))) → need d (node ts) ≤ k
+  node-bound ts k F E h =
+      enough-least d z (sum (powers d (needs d ts))) k (omega (arith, items-weight F ts 0, kraft d k (omega arith) (itemsOf F ts 0) inside apart))
+    where
+      inside : Inside d k (itemsOf F ts 0)
+      inside =
+          all-inside F k ts 0 (count ts) (omega arith)
+          (λ i l. let r : i ≡ 0 + i = omega arith in
+          subst (λ (x : ℕ). In (complete d k) (F (suc x ∷ [])) × (length (F (suc x ∷ [])) + need d (nth ts i) ≤ k)) r
+          (E .there (suc i ∷ []) (omega arith, l, tt), omega (arith, h i l, place ts k F E i l .0)))
+
+      apart : Unrelated (itemsOf F ts 0)
+      apart = all-unrelated F ts 0 (count ts) (omega arith) (λ i j l g n u. unrelated ts k F E i l j g n u)
+
+  mutual
+    -- A drawing has no map into a complete tree that is less deep than it needs.
+    pub bound : (t : Topo) (k : ℕ) (F : Addr → Addr) → Fits t (complete d k) F → need d t ≤ k
+    bound (node ts) k F E = node-bound ts k F E (λ i l. bounds ts i l (k - length (F (suc i ∷ []))) (λ a. drop (length (F (suc i ∷ []))) (F (suc i ∷ a))) (child-fits ts k F E i l))
+
+    bounds : (ts : Forest) (i : ℕ) → i < count ts → (k : ℕ) (F : Addr → Addr) → Fits (nth ts i) (complete d k) F → need d (nth ts i) ≤ k
+    bounds fnil i l k F E = absurd (not-suc-le-zero l)
+    bounds (fcons t ts) zero l k F E = bound t k F E
+    bounds (fcons t ts) (suc i) l k F E = bounds ts i (le-of-suc-le-suc l) k F E

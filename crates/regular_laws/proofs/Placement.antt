@@ -1,0 +1,341 @@
+-- Branches of given heights placed side by side in a complete tree.
+--
+-- The branches are laid along the leaves, the highest first, and those of one height in their order. A branch of height h takes d ^ h leaves. All
+-- that are laid before it are no lower, so it begins at a multiple of d ^ h, as the branch of a node does. No two have a leaf in common, so
+-- none lies above another; and all have room where they take no more leaves than there are, d ^ k at depth k.
+use mathlib.Core.Path.{_≡_, refl, sym, ap, ap₂, _∙_, subst}
+use mathlib.Core.Logic.{_≢_, _⊎_, inl, inr}
+use Prim.Native.Nat.{ℕ, zero, suc, _+_, _-_, _*_, _/_, _%_, _^_, _≤_, _<_}
+use native.Mathlib.Nat.{not-suc-le-zero, le-of-suc-le-suc, mod-lt, div-add-mod, add-mul, suc-mul, mul-suc, mul-assoc, mul-comm, mul-le-mul-left, lt-of-mul-lt-mul-right, le-of-mul-le-mul-right, pow-zero, pow-succ', pow-le-pow-right}
+use native.Mathlib.Decide.{decLe, decLt}
+use native.Mathlib.Omega.{arith}
+use mathlib.Core.List.{List, [], _∷_, _++_, append-assoc, append-nil}
+use mathlib.Core.Bool.{Bool, true, false, _&&_, _||_}
+use lib.ListN.{length, getD, length-append}
+use lib.Pow.{pow-add}
+use lib.Dec.{eqb, ltb}
+use borrow.Author.Tests.{eq-eqb, lt-ltb, le-ltb, eqb-true, ltb-true}
+use Rattle.lists.proofs.Last.{last-unique}
+use Rattle.topology.specs.Tree.{Topo, width}
+use Rattle.topology.specs.Address.{Addr, child, In, sub, Above}
+use Rattle.topology.specs.Reader.{pick}
+use Rattle.topology.proofs.Ancestry.{in-join, sub-append}
+use Rattle.topology.proofs.Cases.{clash}
+use Rattle.regular_laws.specs.Regular.{complete}
+use Rattle.regular_laws.specs.Need.{powers, sum}
+use Rattle.regular_laws.proofs.Enough.{power-pos, power-rises}
+use Rattle.regular_laws.proofs.Kraft.{child-complete, width-complete}
+
+-- ---- nodes by their number among those of one level, from the left
+
+-- the address of the node with number s, n steps down
+abbrev pub wayTo : ℕ → ℕ → ℕ → Addr
+wayTo d zero s = []
+wayTo d (suc n) s = wayTo d n (s / d) ++ (suc (s % d) ∷ [])
+
+-- the number of the node n steps above
+abbrev lift : ℕ → ℕ → ℕ → ℕ
+lift d zero s = s
+lift d (suc n) s = lift d n (s / d)
+
+way-length : (d n s : ℕ) → length (wayTo d n s) ≡ n
+way-length d zero s = refl
+way-length d (suc n) s = omega (arith, length-append (wayTo d n (s / d)) (suc (s % d) ∷ []), way-length d n (s / d))
+
+way-in : (d h n s : ℕ) → 0 < d → lift d n s ≡ 0 → In (complete d (n + h)) (wayTo d n s) × (sub (complete d (n + h)) (wayTo d n s) ≡ complete d h)
+way-in d h zero s z e =
+    let q : 0 + h ≡ h = omega arith in
+    (tt, ap (complete d) q)
+way-in d h (suc n) s z e =
+    let r = way-in d (suc h) n (s / d) z e in
+    let q : n + suc h ≡ suc n + h = omega arith in
+    let u = wayTo d n (s / d) in
+    let last : Addr = suc (s % d) ∷ [] in
+    let small : s % d < d = mod-lt s z in
+    let high : suc (s % d) ≤ width (complete d (suc h)) = omega (arith, small, width-complete d h) in
+    let there : In (complete d (n + suc h)) (u ++ last) =
+    in-join (complete d (n + suc h)) u last (r .0) (subst (λ (t : Topo). In t last) (sym (r .1)) (omega arith, high, tt)) in
+    let low : sub (complete d (n + suc h)) (u ++ last) ≡ complete d h =
+    sub-append (complete d (n + suc h)) u last
+    ∙ ap (λ (t : Topo). child t (suc (s % d))) (r .1)
+    ∙ child-complete d h (suc (s % d)) (omega arith) small in
+    subst (λ (k : ℕ). In (complete d k) (u ++ last) × (sub (complete d k) (u ++ last) ≡ complete d h)) q (there, low)
+
+-- a way goes by way of each node above
+way-split : (d m n s : ℕ) → (g : Addr) × (wayTo d (n + m) s ≡ wayTo d m (lift d n s) ++ g)
+way-split d m zero s =
+    let q : 0 + m ≡ m = omega arith in
+    ([], ap (λ (k : ℕ). wayTo d k s) q ∙ sym (append-nil (wayTo d m s)))
+way-split d m (suc n) s =
+    let r = way-split d m n (s / d) in
+    let last : Addr = suc (s % d) ∷ [] in
+    let q : suc n + m ≡ suc (n + m) = omega arith in (
+      r .0 ++ last,
+      ap (λ (k : ℕ). wayTo d k s) q ∙ ap (λ (a : Addr). a ++ last) (r .1) ∙ append-assoc (wayTo d m (lift d n (s / d))) (r .0) last,
+    )
+
+way-inj : (d m s u : ℕ) → lift d m s ≡ lift d m u → wayTo d m s ≡ wayTo d m u → s ≡ u
+way-inj d zero s u e w = e
+way-inj d (suc m) s u e w =
+    let l = last-unique (wayTo d m (s / d)) (wayTo d m (u / d)) (suc (s % d)) (suc (u % d)) w in
+    let q = way-inj d m (s / d) (u / d) e (l .0) in
+    omega (arith, l .1, ap (λ (x : ℕ). d * x) q, div-add-mod s d, div-add-mod u d)
+
+prefix-same : (x y g f : Addr) → length x ≡ length y → y ++ g ≡ x ++ f → x ≡ y
+prefix-same [] [] g f l e = refl
+prefix-same [] (b ∷ y) g f l e = absurd (omega arith)
+prefix-same (a ∷ x) [] g f l e = absurd (omega arith)
+prefix-same (a ∷ x) (b ∷ y) g f l e =
+    let r = prefix-same x y g f (omega (arith, l)) (cc) in
+    let q : a ≡ b = cc in
+    ap₂ (λ (z : ℕ) (c : Addr). z ∷ c) q r
+
+-- a node lies above another only where it has the number of the node above that one
+way-above : (d m n s u : ℕ) → lift d n s ≢ u → lift d m (lift d n s) ≡ lift d m u → Above (wayTo d m u) (wayTo d (n + m) s) → ⊥
+way-above d m n s u ne e (f, q) =
+    let r = way-split d m n s in
+    let same = prefix-same (wayTo d m u) (wayTo d m (lift d n s)) (r .0) f (way-length d m u ∙ sym (way-length d m (lift d n s))) (sym (r .1) ∙ q) in
+    ne (way-inj d m (lift d n s) u e (sym same))
+
+lift-sum : (d n m s : ℕ) → lift d (n + m) s ≡ lift d m (lift d n s)
+lift-sum d zero m s =
+    let q : 0 + m ≡ m = omega arith in
+    ap (λ (x : ℕ). lift d x s) q
+lift-sum d (suc n) m s =
+    let q : suc n + m ≡ suc (n + m) = omega arith in
+    ap (λ (x : ℕ). lift d x s) q ∙ lift-sum d n m (s / d)
+
+-- The node n steps above has d ^ n numbers below it.
+lift-suc : (d n l : ℕ) → l * d ^ suc n ≡ d * (l * d ^ n)
+lift-suc d n l =
+    ap (λ (x : ℕ). l * x) (pow-succ' d n) ∙ sym (mul-assoc l d (d ^ n)) ∙ ap (λ (x : ℕ). x * d ^ n) (mul-comm l d) ∙ mul-assoc d l (d ^ n)
+
+lift-least : (d n s : ℕ) → lift d n s * d ^ n ≤ s
+lift-least d zero s = omega (arith, ap (λ (x : ℕ). s * x) (pow-zero d))
+lift-least d (suc n) s =
+    let l = lift d n (s / d) in
+    omega (arith, lift-suc d n l, mul-le-mul-left {m = l * d ^ n} {n = s / d} d (lift-least d n (s / d)), div-add-mod s d)
+
+lift-most : (d n s : ℕ) → 0 < d → s < suc (lift d n s) * d ^ n
+lift-most d zero s z = omega (arith, ap (λ (x : ℕ). suc s * x) (pow-zero d))
+lift-most d (suc n) s z =
+    let l = suc (lift d n (s / d)) in
+    omega (arith, lift-suc d n l, mul-le-mul-left {m = suc (s / d)} {n = l * d ^ n} d (lift-most d n (s / d) z), mul-suc d (s / d), div-add-mod s d, mod-lt s z)
+
+lift-none : (d n s : ℕ) → s < d ^ n → lift d n s ≡ 0
+lift-none d n s h = by-number (lift d n s) refl
+  where
+    by-number : (x : ℕ) → lift d n s ≡ x → x ≡ 0
+    by-number zero e = refl
+    by-number (suc x) e = absurd (omega (arith, lift-least d n s, ap (λ (y : ℕ). y * d ^ n) e, suc-mul x (d ^ n)))
+
+-- ---- the order in which the branches are laid
+
+-- whether the branch at place j is laid before the one at place i
+abbrev earlier : List ℕ → ℕ → ℕ → Bool
+earlier hs i j = ltb (getD hs i 0) (getD hs j 0) || (eqb (getD hs i 0) (getD hs j 0) && ltb j i)
+
+abbrev Earlier : List ℕ → ℕ → ℕ → Type 0
+Earlier hs i j = (getD hs i 0 < getD hs j 0) ⊎ ((getD hs i 0 ≡ getD hs j 0) × (j < i))
+
+differ : false ≡ true → ⊥
+differ e = clash (cc)
+
+earlier-is : (hs : List ℕ) (i j : ℕ) → earlier hs i j ≡ true → Earlier hs i j
+earlier-is hs i j e = by-tests (ltb (getD hs i 0) (getD hs j 0)) (eqb (getD hs i 0) (getD hs j 0)) (ltb j i) refl refl refl e
+  where
+    by-tests : (a b c : Bool) → ltb (getD hs i 0) (getD hs j 0) ≡ a → eqb (getD hs i 0) (getD hs j 0) ≡ b → ltb j i ≡ c → a || (b && c) ≡ true → Earlier hs i j
+    by-tests true b c p q r e = inl (ltb-true (getD hs i 0) (getD hs j 0) p)
+    by-tests false true true p q r e = inr (eqb-true (getD hs i 0) (getD hs j 0) q, ltb-true j i r)
+    by-tests false true false p q r e = absurd (differ e)
+    by-tests false false c p q r e = absurd (differ e)
+
+is-earlier : (hs : List ℕ) (i j : ℕ) → Earlier hs i j → earlier hs i j ≡ true
+is-earlier hs i j (inl l) = rw (lt-ltb (getD hs i 0) (getD hs j 0) l)
+is-earlier hs i j (inr (e, l)) =
+    rw (le-ltb (getD hs i 0) (getD hs j 0) (omega (arith, e)), eq-eqb (getD hs i 0) (getD hs j 0) e, lt-ltb j i l)
+
+not-itself : (hs : List ℕ) (i : ℕ) → earlier hs i i ≡ false
+not-itself hs i = rw (le-ltb (getD hs i 0) (getD hs i 0) (omega arith), eq-eqb (getD hs i 0) (getD hs i 0) refl, le-ltb i i (omega arith))
+
+earlier-trans : (hs : List ℕ) (i j l : ℕ) → Earlier hs i j → Earlier hs j l → Earlier hs i l
+earlier-trans hs i j l (inl p) (inl q) = inl (omega arith)
+earlier-trans hs i j l (inl p) (inr q) = inl (omega (arith, q .0))
+earlier-trans hs i j l (inr p) (inl q) = inl (omega (arith, p .0))
+earlier-trans hs i j l (inr p) (inr q) = inr (p .0 ∙ q .0, omega (arith, p .1, q .1))
+
+earlier-either : (hs : List ℕ) (i j : ℕ) → i ≢ j → Earlier hs i j ⊎ Earlier hs j i
+earlier-either hs i j n = by-height (decLt (getD hs i 0) (getD hs j 0)) (decLt (getD hs j 0) (getD hs i 0)) (decLt j i)
+  where
+    by-height : Dec (getD hs i 0 < getD hs j 0) → Dec (getD hs j 0 < getD hs i 0) → Dec (j < i) → Earlier hs i j ⊎ Earlier hs j i
+    by-height (yes l) g o = inl (inl l)
+    by-height (no l) (yes g) o = inr (inl g)
+    by-height (no l) (no g) (yes o) = inl (inr (omega arith, o))
+    by-height (no l) (no g) (no o) = inr (inr (omega arith, omega arith))
+
+-- ---- the leaves that they take
+
+-- how many branches of height h have as many leaves as those that the test chooses have together
+abbrev room : ℕ → ℕ → (ℕ → Bool) → List ℕ → ℕ
+room d h test [] = 0
+room d h test (x ∷ hs) = pick (test 0) (d ^ (x - h)) 0 + room d h (λ i. test (suc i)) hs
+
+room-all : (d : ℕ) (hs : List ℕ) → room d 0 (λ i. true) hs ≡ sum (powers d hs)
+room-all d [] = refl
+room-all d (x ∷ hs) =
+    let q : x - 0 ≡ x = omega arith in
+    rw q (ap (λ (s : ℕ). d ^ x + s) (room-all d hs))
+
+-- where none of those is lower than h, in leaves
+room-leaves : (d h : ℕ) (test : ℕ → Bool) (hs : List ℕ) → ((i : ℕ) → test i ≡ true → h ≤ getD hs i 0) → room d h test hs * d ^ h ≡ room d 0 test hs
+room-leaves d h test [] f = omega arith
+room-leaves d h test (x ∷ hs) f =
+    add-mul (pick (test 0) (d ^ (x - h)) 0) (room d h (λ i. test (suc i)) hs) (d ^ h)
+    ∙ ap₂ _+_ (one (test 0) (f 0)) (room-leaves d h (λ i. test (suc i)) hs (λ i e. f (suc i) e))
+  where
+    one : (b : Bool) → (b ≡ true → h ≤ x) → pick b (d ^ (x - h)) 0 * d ^ h ≡ pick b (d ^ (x - 0)) 0
+    one false g = omega arith
+    one true g = sym (pow-add d (x - h) h) ∙ ap (λ (n : ℕ). d ^ n) (omega (arith, g refl))
+
+pick-more : (n : ℕ) (a b : Bool) → (a ≡ true → b ≡ true) → pick a n 0 ≤ pick b n 0
+pick-more n false b g = omega arith
+pick-more n true true g = omega arith
+pick-more n true false g = absurd (differ (g refl))
+
+room-more : (d : ℕ) (p q : ℕ → Bool) (hs : List ℕ) → ((i : ℕ) → p i ≡ true → q i ≡ true) → room d 0 p hs ≤ room d 0 q hs
+room-more d p q [] f = omega arith
+room-more d p q (x ∷ hs) f = omega (arith, pick-more (d ^ (x - 0)) (p 0) (q 0) (f 0), room-more d (λ i. p (suc i)) (λ i. q (suc i)) hs (λ i e. f (suc i) e))
+
+-- and where one more is chosen
+room-one : (d : ℕ) (p q : ℕ → Bool) (hs : List ℕ) (j : ℕ) → j < length hs → ((i : ℕ) → p i ≡ true → q i ≡ true) → p j ≡ false → q j ≡ true
+    → room d 0 p hs + d ^ getD hs j 0 ≤ room d 0 q hs
+room-one d p q [] j l f e g = absurd (not-suc-le-zero l)
+room-one d p q (x ∷ hs) zero l f e g =
+    let same : x - 0 ≡ x = omega arith in
+    rw (e, g, same) (omega (arith, room-more d (λ i. p (suc i)) (λ i. q (suc i)) hs (λ i e. f (suc i) e)))
+room-one d p q (x ∷ hs) (suc j) l f e g =
+    omega (arith, room-one d (λ i. p (suc i)) (λ i. q (suc i)) hs j (le-of-suc-le-suc l) (λ i e. f (suc i) e) e g, pick-more (d ^ (x - 0)) (p 0) (q 0) (f 0))
+
+-- ---- where each branch goes
+
+-- the number of the branch at place i among the nodes of its height
+abbrev pub slot : ℕ → List ℕ → ℕ → ℕ
+slot d hs i = room d (getD hs i 0) (earlier hs i) hs
+
+module _ (d : ℕ) (z : 2 ≤ d) (hs : List ℕ) where
+  pos : 0 < d
+  pos = omega arith
+
+  -- no branch that is laid before another is lower, so what it has before it are whole branches of its height
+  slot-leaves : (i : ℕ) → slot d hs i * d ^ getD hs i 0 ≡ room d 0 (earlier hs i) hs
+  slot-leaves i = room-leaves d (getD hs i 0) (earlier hs i) hs (λ j e. no-lower j (earlier-is hs i j e))
+    where
+      no-lower : (j : ℕ) → Earlier hs i j → getD hs i 0 ≤ getD hs j 0
+      no-lower j (inl l) = omega arith
+      no-lower j (inr (e, l)) = omega (arith, e)
+
+  -- A branch begins where one that is laid before it has ended, or later.
+  slot-after : (i j : ℕ) → j < length hs → Earlier hs i j → suc (slot d hs j) * d ^ getD hs j 0 ≤ slot d hs i * d ^ getD hs i 0
+  slot-after i j l e =
+      omega (
+        arith,
+        suc-mul (slot d hs j) (d ^ getD hs j 0),
+        slot-leaves j,
+        slot-leaves i,
+        room-one d (earlier hs j) (earlier hs i) hs j l (λ n f. is-earlier hs i n (earlier-trans hs i j n e (earlier-is hs j n f))) (not-itself hs j) (is-earlier hs i j e),
+      )
+
+  module _ (k : ℕ) (fits : sum (powers d hs) ≤ d ^ k) where
+    slot-end : (i : ℕ) → i < length hs → suc (slot d hs i) * d ^ getD hs i 0 ≤ d ^ k
+    slot-end i l =
+        omega (
+          arith,
+          suc-mul (slot d hs i) (d ^ getD hs i 0),
+          slot-leaves i,
+          fits,
+          room-all d hs,
+          room-one d (earlier hs i) (λ n. true) hs i l (λ n e. refl) (not-itself hs i) refl,
+        )
+
+    -- no branch is higher than the tree
+    low : (i : ℕ) → i < length hs → getD hs i 0 ≤ k
+    low i l = by-order (decLe (getD hs i 0) k)
+      where
+        by-order : Dec (getD hs i 0 ≤ k) → getD hs i 0 ≤ k
+        by-order (yes o) = o
+        by-order (no o) = absurd (omega (arith, slot-end i l, suc-mul (slot d hs i) (d ^ getD hs i 0), power-rises d k (getD hs i 0) z (omega arith)))
+
+    -- and where there is another branch, none is as high
+    two-fit : (i j : ℕ) → i < length hs → j < length hs → Earlier hs i j → d ^ getD hs i 0 + d ^ getD hs j 0 ≤ d ^ k
+    two-fit i j l g e =
+        omega (arith, slot-after i j g e, slot-end i l, suc-mul (slot d hs i) (d ^ getD hs i 0), suc-mul (slot d hs j) (d ^ getD hs j 0))
+
+    pub placed-lower : (i j : ℕ) → i < length hs → j < length hs → i ≢ j → getD hs i 0 < k
+    placed-lower i j l g n = by-order (decLt (getD hs i 0) k) (earlier-either hs i j n)
+      where
+        by-order : Dec (getD hs i 0 < k) → Earlier hs i j ⊎ Earlier hs j i → getD hs i 0 < k
+        by-order (yes o) e = o
+        by-order (no o) e = absurd (omega (arith, two e, power-pos d (getD hs j 0) pos, pow-le-pow-right {n = d} pos {i = k} {j = getD hs i 0} (omega arith)))
+          where
+            two : Earlier hs i j ⊎ Earlier hs j i → d ^ getD hs i 0 + d ^ getD hs j 0 ≤ d ^ k
+            two (inl e) = two-fit i j l g e
+            two (inr e) = omega (arith, two-fit j i g l e)
+
+    -- where the branch at place i goes
+    abbrev pub way : ℕ → Addr
+    way i = wayTo d (k - getD hs i 0) (slot d hs i)
+
+    -- its way leads from the root
+    top : (i : ℕ) → i < length hs → lift d (k - getD hs i 0) (slot d hs i) ≡ 0
+    top i l =
+        let h = getD hs i 0 in
+        let whole : d ^ k ≡ d ^ (k - h) * d ^ h = ap (λ (x : ℕ). d ^ x) (omega (arith, low i l)) ∙ pow-add d (k - h) h in
+        lift-none d (k - h) (slot d hs i)
+        (lt-of-mul-lt-mul-right (d ^ h) (omega (arith, slot-end i l, suc-mul (slot d hs i) (d ^ h), whole, power-pos d h pos)))
+
+    pub placed-in : (i : ℕ) → i < length hs → In (complete d k) (way i) × (sub (complete d k) (way i) ≡ complete d (getD hs i 0))
+    placed-in i l =
+        let q : (k - getD hs i 0) + getD hs i 0 ≡ k = omega (arith, low i l) in
+        subst (λ (x : ℕ). In (complete d x) (way i) × (sub (complete d x) (way i) ≡ complete d (getD hs i 0))) q
+        (way-in d (getD hs i 0) (k - getD hs i 0) (slot d hs i) pos (top i l))
+
+    pub placed-length : (i : ℕ) → length (way i) ≡ k - getD hs i 0
+    placed-length i = way-length d (k - getD hs i 0) (slot d hs i)
+
+    -- the node above a branch, n steps up at the height of another branch, is not where that one goes
+    differs : (i j n : ℕ) → i < length hs → j < length hs → i ≢ j → getD hs j 0 ≡ n + getD hs i 0 → lift d n (slot d hs i) ≢ slot d hs j
+    differs i j n l g ne e q = by-order (earlier-either hs i j ne)
+      where
+        leaves : d ^ getD hs j 0 ≡ d ^ n * d ^ getD hs i 0
+        leaves = ap (λ (x : ℕ). d ^ x) e ∙ pow-add d n (getD hs i 0)
+
+        by-order : Earlier hs i j ⊎ Earlier hs j i → ⊥
+        by-order (inl o) =
+            omega (arith, lift-most d n (slot d hs i) pos, ap (λ (x : ℕ). suc x * d ^ n) q, back)
+          where
+            back : suc (slot d hs j) * d ^ n ≤ slot d hs i
+            back = le-of-mul-le-mul-right (omega (arith, slot-after i j g o, ap (λ (x : ℕ). suc (slot d hs j) * x) leaves, mul-assoc (suc (slot d hs j)) (d ^ n) (d ^ getD hs i 0))) (power-pos d (getD hs i 0) pos)
+        by-order (inr (inl o)) = omega (arith, e)
+        by-order (inr (inr (same, o))) =
+            let level : n ≡ 0 = omega (arith, e, same) in
+            let alike : slot d hs i ≡ slot d hs j = ap (λ (x : ℕ). lift d x (slot d hs i)) (sym level) ∙ q in
+            omega (arith, slot-after j i l (inr (same, o)), suc-mul (slot d hs i) (d ^ getD hs i 0), ap₂ (λ (x y : ℕ). x * d ^ y) alike (sym same), power-pos d (getD hs i 0) pos)
+
+    -- the higher of two branches does not lie above the lower one
+    not-above : (i j : ℕ) → i < length hs → j < length hs → i ≢ j → getD hs i 0 ≤ getD hs j 0 → Above (way j) (way i) → ⊥
+    not-above i j l g ne o u =
+        let n : ℕ = getD hs j 0 - getD hs i 0 in
+        let m : ℕ = k - getD hs j 0 in
+        let s = slot d hs i in
+        let total : k - getD hs i 0 ≡ n + m = omega (arith, low j g, o) in
+        way-above d m n s (slot d hs j) (differs i j n l g ne (omega (arith, o)))
+        (sym (lift-sum d n m s) ∙ ap (λ (x : ℕ). lift d x s) (sym total) ∙ top i l ∙ sym (top j g))
+        (subst (λ (x : ℕ). Above (way j) (wayTo d x s)) total u)
+
+    pub placed-apart : (i j : ℕ) → i < length hs → j < length hs → i ≢ j → Above (way i) (way j) → ⊥
+    placed-apart i j l g ne u = by-height (decLe (getD hs j 0) (getD hs i 0))
+      where
+        by-height : Dec (getD hs j 0 ≤ getD hs i 0) → ⊥
+        by-height (yes o) = not-above j i g l (λ e. ne (sym e)) o u
+        by-height (no o) =
+            omega (arith, ap length (u .1), length-append (way i) (u .0), placed-length i, placed-length j, low i l, low j g)
