@@ -11,6 +11,7 @@ use native.Mathlib.Nat.{not-suc-le-zero, le-of-suc-le-suc}
 use native.Mathlib.Decide.{ℕ-discrete}
 use native.Mathlib.Omega.{arith}
 use mathlib.Core.List.{List, [], _∷_, _++_, append-assoc, append-cancel-left}
+use mathlib.Core.Bool.{true}
 use lib.ListN.{length, getD, drop, length-append}
 use lib.Seq.{drop-length, drop-append-seam}
 use Rattle.topology.specs.Tree.{Topo, Forest, node, fnil, fcons, count, kids, width}
@@ -20,7 +21,9 @@ use Rattle.topology.proofs.Order.{above-trans, above-either}
 use Rattle.regular_laws.specs.Regular.{complete}
 use Rattle.regular_laws.specs.Need.{enough, powers, sum, need, needs}
 use Rattle.regular_laws.proofs.Enough.{enough-holds, enough-least}
-use Rattle.regular_laws.proofs.Kraft.{Item, item, weight, FromAll, Unrelated, Inside, kraft, child-complete, width-complete}
+use Rattle.regular_laws.proofs.Complete.{sub-complete}
+use Rattle.regular_laws.proofs.Room.{room-all}
+use Rattle.regular_laws.proofs.Kraft.{Apart, kraft}
 use Rattle.regular_laws.proofs.Placement.{wayTo, slot, placed-in, placed-length, placed-apart, placed-lower}
 
 length-needs : (d : ℕ) (ts : Forest) → length (needs d ts) ≡ count ts
@@ -163,17 +166,6 @@ module _ (d : ℕ) (z : 2 ≤ d) where
 
 -- ---- nothing less deep will do
 
-sub-complete : (d : ℕ) (x : Addr) (k : ℕ) → In (complete d k) x → (length x ≤ k) × (sub (complete d k) x ≡ complete d (k - length x))
-sub-complete d [] k i =
-    let q : k ≡ k - 0 = omega arith in
-    (omega arith, ap (complete d) q)
-sub-complete d (y ∷ x) zero i = absurd (omega (arith, i .0, i .1))
-sub-complete d (y ∷ x) (suc k) (p, l, i) =
-    let c = child-complete d k y p (omega (arith, l, width-complete d k)) in
-    let r = sub-complete d x k (subst (λ (t : Topo). In t x) c i) in
-    let q : k - length x ≡ suc k - suc (length x) = omega arith in
-    (omega (arith, r .0), ap (λ (t : Topo). sub t x) c ∙ r .1 ∙ ap (complete d) q)
-
 module _ (d : ℕ) (z : 2 ≤ d) where
   module _ (ts : Forest) (k : ℕ) (F : Addr → Addr) (E : Fits (node ts) (complete d k) F) where
     abbrev at : ℕ → Addr
@@ -224,60 +216,20 @@ module _ (d : ℕ) (z : 2 ≤ d) where
           first : {e : Addr} → suc j ∷ [] ≡ suc i ∷ e → i ≡ j
           first q = cc
 
-  -- the children's branches as items, from child j + 1 on
-  abbrev itemsOf : (Addr → Addr) → Forest → ℕ → List Item
-  itemsOf F fnil j = []
-  itemsOf F (fcons t us) j = item (F (suc j ∷ [])) (need d t) ∷ itemsOf F us (suc j)
-
-  items-weight : (F : Addr → Addr) (us : Forest) (j : ℕ) → weight d (itemsOf F us j) ≡ sum (powers d (needs d us))
-  items-weight F fnil j = refl
-  items-weight F (fcons t us) j = ap (λ (x : ℕ). d ^ need d t + x) (items-weight F us (suc j))
-
-  -- what is shown of each child goes over to the list
-  from-all : (F : Addr → Addr) (a : Addr) (us : Forest) (j n : ℕ) → n ≡ j + count us
-      → ((i : ℕ) → j ≤ i → i < n → (Above a (F (suc i ∷ [])) → ⊥) × (Above (F (suc i ∷ [])) a → ⊥)) → FromAll a (itemsOf F us j)
-  from-all F a fnil j n e f = tt
-  from-all F a (fcons t us) j n e f =
-      let here = f j (omega arith) (omega (arith, e)) in
-      (here .0, here .1, from-all F a us (suc j) n (omega (arith, e)) (λ i l g. f i (omega arith) g))
-
-  all-unrelated : (F : Addr → Addr) (us : Forest) (j n : ℕ) → n ≡ j + count us
-      → ((i h : ℕ) → i < n → h < n → i ≢ h → Above (F (suc i ∷ [])) (F (suc h ∷ [])) → ⊥) → Unrelated (itemsOf F us j)
-  all-unrelated F fnil j n e f = tt
-  all-unrelated F (fcons t us) j n e f = (
-    from-all F (F (suc j ∷ [])) us (suc j) n (omega (arith, e))
-        (λ i l g. (f j i (omega (arith, e)) g (omega arith), f i j g (omega (arith, e)) (omega arith))),
-    all-unrelated F us (suc j) n (omega (arith, e)) f,
-  )
-
-  all-inside : (F : Addr → Addr) (k : ℕ) (us : Forest) (j n : ℕ) → n ≡ j + count us
-      → ((i : ℕ) → i < count us → In (complete d k) (F (suc (j + i) ∷ [])) × (length (F (suc (j + i) ∷ [])) + need d (nth us i) ≤ k))
-      → Inside d k (itemsOf F us j)
-  all-inside F k fnil j n e f = tt
-  all-inside F k (fcons t us) j n e f =
-      let q : j + 0 ≡ j = omega arith in
-      let here = subst (λ (x : ℕ). In (complete d k) (F (suc x ∷ [])) × (length (F (suc x ∷ [])) + need d t ≤ k)) q (f 0 (omega arith)) in (
-        here .0,
-        here .1,
-        all-inside F k us (suc j) n (omega (arith, e))
-            (λ i l. let r : j + suc i ≡ suc j + i = omega arith in
-            subst (λ (x : ℕ). In (complete d k) (F (suc x ∷ [])) × (length (F (suc x ∷ [])) + need d (nth us i) ≤ k)) r (f (suc i) (omega arith))),
-      )
-
   node-bound : (ts : Forest) (k : ℕ) (F : Addr → Addr) (E : Fits (node ts) (complete d k) F)
       → ((i : ℕ) → i < count ts → need d (nth ts i) ≤ k - length (F (suc i ∷ []))) → need d (node ts) ≤ k
-  node-bound ts k F E h =
-      enough-least d z (sum (powers d (needs d ts))) k (omega (arith, items-weight F ts 0, kraft d k (omega arith) (itemsOf F ts 0) inside apart))
+  node-bound ts k F E h = enough-least d z (sum (powers d (needs d ts))) k (omega (arith, room-all d (needs d ts), kraft d (omega arith) k (λ i. true) (at ts k F E) (needs d ts) apart))
     where
-      inside : Inside d k (itemsOf F ts 0)
-      inside =
-          all-inside F k ts 0 (count ts) (omega arith)
-          (λ i l. let r : i ≡ 0 + i = omega arith in
-          subst (λ (x : ℕ). In (complete d k) (F (suc x ∷ [])) × (length (F (suc x ∷ [])) + need d (nth ts i) ≤ k)) r
-          (E .there (suc i ∷ []) (omega arith, l, tt), omega (arith, h i l, place ts k F E i l .0)))
+      listed : (i : ℕ) → i < length (needs d ts) → i < count ts
+      listed i l = omega (arith, length-needs d ts)
 
-      apart : Unrelated (itemsOf F ts 0)
-      apart = all-unrelated F ts 0 (count ts) (omega arith) (λ i j l g n u. unrelated ts k F E i l j g n u)
+      apart : Apart d k (λ i. true) (at ts k F E) (needs d ts)
+      apart =
+          record {
+            there = λ i l e. E .there (suc i ∷ []) (omega arith, listed i l, tt);
+            inside = λ i l e. omega (arith, needs-nth d ts i (listed i l), h i (listed i l), place ts k F E i (listed i l) .0);
+            apart = λ i j l g e f n u. unrelated ts k F E i (listed i l) j (listed j g) n u;
+          }
 
   mutual
     -- A drawing has no map into a complete tree that is less deep than it needs.

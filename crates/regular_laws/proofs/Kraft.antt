@@ -1,165 +1,158 @@
--- Kraft's inequality: complete trees of given heights at pairwise unrelated nodes of a complete tree have no more leaves together than it has. By
--- induction on the depth: those below one child of the root have no more than the child's branch, and there are d children.
+-- Kraft's inequality: complete trees of given heights at pairwise unrelated nodes of a complete tree have no more leaves together than it has.
+--
+-- By induction on the depth. Where one of them is the whole tree, it is the only one. Else each lies below a child of the root; those below one child
+-- have no more leaves than that child's branch, and there are d children.
 use mathlib.Core.Path.{_≡_, refl, sym, ap, _∙_, subst}
-use Prim.Native.Nat.{ℕ, zero, suc, _+_, _-_, _*_, _^_, _≤_, _<_}
-use native.Mathlib.Nat.{not-suc-le-zero, le-of-suc-le-suc, pow-le-pow-right, pow-succ', suc-mul}
+use mathlib.Core.Logic.{_≢_, _⊎_, inl, inr}
+use Prim.Native.Nat.{ℕ, zero, suc, _+_, _*_, _^_, _≤_, _<_}
+use native.Mathlib.Nat.{not-suc-le-zero, suc-mul, pow-succ', pow-le-pow-right}
 use native.Mathlib.Decide.{ℕ-discrete}
 use native.Mathlib.Omega.{arith}
 use mathlib.Core.List.{List, [], _∷_, _++_}
-use mathlib.Core.Bool.{Bool, true, false}
-use lib.ListN.{length}
-use lib.Dec.{eqb}
-use borrow.Author.Tests.{eq-eqb, ne-eqb, eqb-true}
-use Rattle.topology.specs.Tree.{Topo, count, width}
-use Rattle.topology.specs.Address.{Addr, nth, child, In, Above}
-use Rattle.topology.specs.Reader.{pick}
-use Rattle.regular_laws.specs.Regular.{copies, complete}
+use mathlib.Core.Bool.{Bool, true, false, _&&_}
+use lib.ListN.{length, getD}
+use lib.Dec.{eqb, leb}
+use borrow.Author.Tests.{eqb-true, leb-true, eq-eqb, le-leb}
+use Rattle.topology.specs.Tree.{Topo}
+use Rattle.topology.specs.Address.{Addr, child, In, Above}
+use Rattle.regular_laws.specs.Regular.{complete}
+use Rattle.regular_laws.proofs.Complete.{child-complete, width-complete}
+use Rattle.regular_laws.proofs.Room.{differ, None, room, room-more, room-split, room-none, room-only}
 
-nth-copies : (n : ℕ) (t : Topo) (i : ℕ) → i < n → nth (copies n t) i ≡ t
-nth-copies zero t i h = absurd (not-suc-le-zero h)
-nth-copies (suc n) t zero h = refl
-nth-copies (suc n) t (suc i) h = nth-copies n t i (le-of-suc-le-suc h)
+-- Trees of the heights hs, of which those meant are at unrelated nodes of the complete tree of depth k.
+pub record Apart (d k : ℕ) (test : ℕ → Bool) (at : ℕ → Addr) (hs : List ℕ) : Type 0 where
+  pub there : (i : ℕ) → i < length hs → test i ≡ true → In (complete d k) (at i)
+  pub inside : (i : ℕ) → i < length hs → test i ≡ true → length (at i) + getD hs i 0 ≤ k
+  pub apart : (i j : ℕ) → i < length hs → j < length hs → test i ≡ true → test j ≡ true → i ≢ j → Above (at i) (at j) → ⊥
 
-count-copies : (n : ℕ) (t : Topo) → count (copies n t) ≡ n
-count-copies zero t = refl
-count-copies (suc n) t = ap suc (count-copies n t)
+-- the first step of a way, and the others
+abbrev first : Addr → ℕ
+first [] = 0
+first (x ∷ a) = x
 
-pub child-complete : (d k x : ℕ) → 0 < x → x ≤ d → child (complete d (suc k)) x ≡ complete d k
-child-complete d k zero p l = absurd (not-suc-le-zero p)
-child-complete d k (suc i) p l = nth-copies d (complete d k) i l
+abbrev rest : Addr → Addr
+rest [] = []
+rest (x ∷ a) = a
 
-pub width-complete : (d k : ℕ) → width (complete d (suc k)) ≡ d
-width-complete d k = count-copies d (complete d k)
+split : (a : Addr) (c : ℕ) → first a ≡ suc c → a ≡ suc c ∷ rest a
+split [] c e = absurd (omega arith)
+split (x ∷ a) c e = ap (λ (n : ℕ). n ∷ a) e
 
--- a complete tree of a height at an address
-pub data Item : Type 0 where
-  item : Addr → ℕ → Item
+both : (a b : Bool) → a && b ≡ true → (a ≡ true) × (b ≡ true)
+both true true e = (refl, refl)
+both true false e = absurd (differ e)
+both false b e = absurd (differ e)
 
-abbrev pub weight : ℕ → List Item → ℕ
-weight d [] = 0
-weight d (item a h ∷ is) = d ^ h + weight d is
+root-way : (t : Topo) (a : Addr) → In t a → first a ≤ 0 → a ≡ []
+root-way t [] i o = refl
+root-way t (x ∷ a) i o = absurd (omega (arith, i .0))
 
-abbrev pub FromAll : Addr → List Item → Type 0
-FromAll a [] = Unit
-FromAll a (item b h ∷ is) = (Above a b → ⊥) × (Above b a → ⊥) × FromAll a is
+-- the test holds of a number below n, or of none
+abbrev Some : ℕ → (ℕ → Bool) → Type 0
+Some n test = (i : ℕ) × (i < n) × (test i ≡ true)
 
-abbrev pub Unrelated : List Item → Type 0
-Unrelated [] = Unit
-Unrelated (item a h ∷ is) = FromAll a is × Unrelated is
-
--- every one lies in the complete tree of depth k
-abbrev pub Inside : ℕ → ℕ → List Item → Type 0
-Inside d k [] = Unit
-Inside d k (item a h ∷ is) = In (complete d k) a × (length a + h ≤ k) × Inside d k is
-
--- those below child j, seen from there
-abbrev headed : ℕ → Item → List Item → List Item
-headed j (item [] h) is = is
-headed j (item (x ∷ a) h) is = pick (eqb x j) (item a h ∷ is) is
-
-abbrev under : ℕ → List Item → List Item
-under j [] = []
-under j (i ∷ is) = headed j i (under j is)
-
-abbrev sumTo : ℕ → (ℕ → ℕ) → ℕ
-sumTo zero f = 0
-sumTo (suc n) f = sumTo n f + f (suc n)
-
-sum-zero : (n : ℕ) → sumTo n (λ j. 0) ≡ 0
-sum-zero zero = refl
-sum-zero (suc n) = omega (arith, sum-zero n)
-
-sum-same : (n : ℕ) (f g : ℕ → ℕ) → ((j : ℕ) → 0 < j → j ≤ n → f j ≡ g j) → sumTo n f ≡ sumTo n g
-sum-same zero f g h = refl
-sum-same (suc n) f g h = omega (arith, sum-same n f g (λ j p l. h j p (omega arith)), h (suc n) (omega arith) (omega arith))
-
-sum-bound : (n : ℕ) (f : ℕ → ℕ) (c : ℕ) → ((j : ℕ) → 0 < j → j ≤ n → f j ≤ c) → sumTo n f ≤ n * c
-sum-bound zero f c h = omega arith
-sum-bound (suc n) f c h = omega (arith, sum-bound n f c (λ j p l. h j p (omega arith)), h (suc n) (omega arith) (omega arith), suc-mul n c)
-
--- one child's sum grows by w
-sum-more : (n : ℕ) (f g : ℕ → ℕ) (x w : ℕ) → 0 < x → x ≤ n → f x ≡ w + g x → ((j : ℕ) → (x ≡ j → ⊥) → f j ≡ g j) → sumTo n f ≡ w + sumTo n g
-sum-more zero f g x w p l e h = absurd (omega arith)
-sum-more (suc n) f g x w p l e h = by-last (ℕ-discrete x (suc n)) (λ k. sum-more n f g x w p k e h)
+find : (n : ℕ) (test : ℕ → Bool) → Some n test ⊎ None n test
+find zero test = inr (λ i l. absurd (not-suc-le-zero l))
+find (suc n) test = by-first (test 0) refl (find n (λ i. test (suc i)))
   where
-    before : (x ≡ suc n) → sumTo n f ≡ sumTo n g
-    before q = sum-same n f g (λ j r k. h j (λ z. omega arith))
+    past-first : test 0 ≡ false → None n (λ i. test (suc i)) → None (suc n) test
+    past-first e f zero l t = differ (sym e ∙ t)
+    past-first e f (suc i) l t = f i (omega arith) t
 
-    by-last : Dec (x ≡ suc n) → (x ≤ n → sumTo n f ≡ w + sumTo n g) → sumTo n f + f (suc n) ≡ w + (sumTo n g + g (suc n))
-    by-last (yes q) r = omega (arith, before q, subst (λ (z : ℕ). f z ≡ w + g z) q e)
-    by-last (no q) r = omega (arith, r (omega arith), h (suc n) q)
+    by-first : (b : Bool) → test 0 ≡ b → Some n (λ i. test (suc i)) ⊎ None n (λ i. test (suc i)) → Some (suc n) test ⊎ None (suc n) test
+    by-first true e r = inl (0, omega arith, e)
+    by-first false e (inl (i, l, t)) = inl (suc i, omega arith, t)
+    by-first false e (inr f) = inr (past-first e f)
 
--- none is at the root
-abbrev Inner : List Item → Type 0
-Inner [] = Unit
-Inner (item [] h ∷ is) = ⊥
-Inner (item (x ∷ a) h ∷ is) = Inner is
+-- those meant that are below one of the first c children or, for c = 0, at the root; and those that are below child c
+abbrev among : (ℕ → Bool) → (ℕ → Addr) → ℕ → ℕ → Bool
+among test at c i = test i && leb (first (at i)) c
 
-weight-parts : (d k : ℕ) (is : List Item) → Inside d (suc k) is → Inner is → sumTo d (λ j. weight d (under j is)) ≡ weight d is
-weight-parts d k [] w n = sum-zero d
-weight-parts d k (item [] h ∷ is) w n = absurd n
-weight-parts d k (item (x ∷ a) h ∷ is) w n =
-    sum-more d (λ j. weight d (under j (item (x ∷ a) h ∷ is))) (λ j. weight d (under j is)) x (d ^ h) (w .0 .0) (omega (arith, w .0 .1, width-complete d k))
-    (rw (eq-eqb x x refl)) (λ j q. rw (ne-eqb x j q))
-    ∙ ap (λ (z : ℕ). d ^ h + z) (weight-parts d k is (w .2) n)
+abbrev under : (ℕ → Bool) → (ℕ → Addr) → ℕ → ℕ → Bool
+under test at c i = test i && eqb (first (at i)) c
 
-under-inside : (d k j : ℕ) (is : List Item) → Inside d (suc k) is → Inside d k (under j is)
-under-inside d k j [] w = tt
-under-inside d k j (item [] h ∷ is) w = under-inside d k j is (w .2)
-under-inside d k j (item (x ∷ a) h ∷ is) w = by-test (eqb x j) (under-inside d k j is (w .2))
-  where
-    by-test : (t : Bool) → Inside d k (under j is) → Inside d k (pick t (item a h ∷ under j is) (under j is))
-    by-test false r = r
-    by-test true r =
-        (subst (λ (t : Topo). In t a) (child-complete d k x (w .0 .0) (omega (arith, w .0 .1, width-complete d k))) (w .0 .2), omega (arith, w .1), r)
+module _ (d : ℕ) (z : 0 < d) (test : ℕ → Bool) (at : ℕ → Addr) (hs : List ℕ) where
+  -- one at the root is the only one
+  whole : (k : ℕ) → Apart d k test at hs → (j : ℕ) → j < length hs → among test at 0 j ≡ true → room d 0 test hs ≤ d ^ k
+  whole k a j g r =
+      omega (arith, room-only d test hs j g (λ i l t. only i l t (ℕ-discrete i j)), pow-le-pow-right {n = d} z {i = getD hs j 0} {j = k} (omega (arith, a .inside j g meant)))
+    where
+      meant : test j ≡ true
+      meant = both (test j) (leb (first (at j)) 0) r .0
 
-under-from : (j : ℕ) (a : Addr) (is : List Item) → FromAll (j ∷ a) is → FromAll a (under j is)
-under-from j a [] f = tt
-under-from j a (item [] h ∷ is) f = under-from j a is (f .2)
-under-from j a (item (x ∷ b) h ∷ is) f = by-test (eqb x j) refl (under-from j a is (f .2))
-  where
-    by-test : (t : Bool) → eqb x j ≡ t → FromAll a (under j is) → FromAll a (pick t (item b h ∷ under j is) (under j is))
-    by-test false e r = r
-    by-test true e r =
-        let q = eqb-true x j e in (
-          λ u. f .0 (u .0, ap (λ (z : ℕ). z ∷ b) q ∙ ap (λ (l : Addr). j ∷ l) (u .1)),
-          λ u. f .1 (u .0, ap (λ (l : Addr). j ∷ l) (u .1) ∙ ap (λ (z : ℕ). z ∷ (b ++ u .0)) (sym q)),
-          r,
-        )
+      root : at j ≡ []
+      root = root-way (complete d k) (at j) (a .there j g meant) (leb-true (first (at j)) 0 (both (test j) (leb (first (at j)) 0) r .1))
 
-under-unrelated : (j : ℕ) (is : List Item) → Unrelated is → Unrelated (under j is)
-under-unrelated j [] u = tt
-under-unrelated j (item [] h ∷ is) u = under-unrelated j is (u .1)
-under-unrelated j (item (x ∷ a) h ∷ is) u = by-test (eqb x j) refl (under-unrelated j is (u .1))
-  where
-    by-test : (t : Bool) → eqb x j ≡ t → Unrelated (under j is) → Unrelated (pick t (item a h ∷ under j is) (under j is))
-    by-test false e r = r
-    by-test true e r = (under-from j a is (subst (λ (z : ℕ). FromAll (z ∷ a) is) (eqb-true x j e) (u .0)), r)
+      only : (i : ℕ) → i < length hs → test i ≡ true → Dec (i ≡ j) → i ≡ j
+      only i l t (yes q) = q
+      only i l t (no n) = absurd (a .apart j i g l meant t (λ q. n (sym q)) (at i, ap (λ (x : Addr). x ++ at i) (sym root)))
 
--- beside one below the root there is none at the root
-inner-rest : (x : ℕ) (a : Addr) (is : List Item) → FromAll (x ∷ a) is → Inner is
-inner-rest x a [] f = tt
-inner-rest x a (item [] h ∷ is) f = f .1 (x ∷ a, refl)
-inner-rest x a (item (y ∷ b) h ∷ is) f = inner-rest x a is (f .2)
+  module _ (k : ℕ) (a : Apart d (suc k) test at hs) where
+    -- those below one child, seen from there
+    below : (c : ℕ) → Apart d k (under test at (suc c)) (λ i. rest (at i)) hs
+    below c =
+        record {
+          there = λ i l e.
+              let way-in = subst (In (complete d (suc k))) (way i e) (a .there i l (meant i e)) in
+              subst (λ (t : Topo). In t (rest (at i))) (child-complete d k (suc c) (way-in .0) (omega (arith, way-in .1, width-complete d k))) (way-in .2);
+          inside = λ i l e. omega (arith, a .inside i l (meant i e), ap length (way i e));
+          apart = λ i j l g e f n u.
+              a .apart i j l g (meant i e) (meant j f) n (u .0, way j f ∙ ap (λ (x : Addr). suc c ∷ x) (u .1) ∙ ap (λ (x : Addr). x ++ u .0) (sym (way i e)));
+        }
+      where
+        meant : (i : ℕ) → under test at (suc c) i ≡ true → test i ≡ true
+        meant i e = both (test i) (eqb (first (at i)) (suc c)) e .0
 
--- one level: where the trees one lower have room
-kraft-step : (d k : ℕ) → 0 < d → ((is : List Item) → Inside d k is → Unrelated is → weight d is ≤ d ^ k)
-    → (is : List Item) → Inside d (suc k) is → Unrelated is → weight d is ≤ d ^ suc k
-kraft-step d k z r [] w u = omega arith
-kraft-step d k z r (item [] h ∷ []) w u = omega (arith, pow-le-pow-right {n = d} z {i = h} {j = suc k} (omega (arith, w .1)))
-kraft-step d k z r (item [] h ∷ item b g ∷ is) w u = absurd (u .0 .0 (b, refl))
-kraft-step d k z r (item (x ∷ a) h ∷ is) w u =
-    let all : List Item = item (x ∷ a) h ∷ is in
-    let parts = weight-parts d k all w (inner-rest x a is (u .0)) in
-    let each = sum-bound d (λ j. weight d (under j all)) (d ^ k) (λ j p l. r (under j all) (under-inside d k j all w) (under-unrelated j all u)) in
-    omega (arith, parts, each, pow-succ' d k)
+        way : (i : ℕ) → under test at (suc c) i ≡ true → at i ≡ suc c ∷ rest (at i)
+        way i e = split (at i) c (eqb-true (first (at i)) (suc c) (both (test i) (eqb (first (at i)) (suc c)) e .1))
 
-kraft-leaf : (d : ℕ) → 0 < d → (is : List Item) → Inside d 0 is → Unrelated is → weight d is ≤ d ^ 0
-kraft-leaf d z [] w u = omega arith
-kraft-leaf d z (item [] h ∷ []) w u = omega (arith, pow-le-pow-right {n = d} z {i = h} {j = 0} (omega (arith, w .1)))
-kraft-leaf d z (item [] h ∷ item b g ∷ is) w u = absurd (u .0 .0 (b, refl))
-kraft-leaf d z (item (x ∷ a) h ∷ is) w u = absurd (omega (arith, w .0 .0, w .0 .1))
+    module _ (lower : (c : ℕ) → room d 0 (under test at (suc c)) hs ≤ d ^ k)
+        (none : None (length hs) (among test at 0)) where
+      below-first : (c : ℕ) → room d 0 (among test at c) hs ≤ c * d ^ k
+      below-first zero = omega (arith, room-none d (among test at 0) hs none)
+      below-first (suc c) =
+          omega (
+            arith,
+            suc-mul c (d ^ k),
+            below-first c,
+            lower c,
+            room-split d (among test at (suc c)) (among test at c) (under test at (suc c)) hs
+                (λ i l e. by-child i (both (test i) (leb (first (at i)) (suc c)) e) (ℕ-discrete (first (at i)) (suc c))),
+          )
+        where
+          by-child : (i : ℕ) → (test i ≡ true) × (leb (first (at i)) (suc c) ≡ true) → Dec (first (at i) ≡ suc c)
+              → (among test at c i ≡ true) ⊎ (under test at (suc c) i ≡ true)
+          by-child i (t, e) (yes q) = inr (rw (t, eq-eqb (first (at i)) (suc c) q))
+          by-child i (t, e) (no q) = inl (rw (t, le-leb (first (at i)) c (omega (arith, leb-true (first (at i)) (suc c) e))))
 
-pub kraft : (d k : ℕ) → 0 < d → (is : List Item) → Inside d k is → Unrelated is → weight d is ≤ d ^ k
-kraft d zero z = kraft-leaf d z
-kraft d (suc k) z = kraft-step d k z (kraft d k z)
+      all-below : room d 0 test hs ≤ d ^ suc k
+      all-below = omega (arith, below-first d, pow-succ' d k, room-more d test (among test at d) hs some)
+        where
+          low : (x : Addr) → In (complete d (suc k)) x → first x ≤ d
+          low [] i = omega arith
+          low (y ∷ x) i = omega (arith, i .1, width-complete d k)
+
+          some : (i : ℕ) → i < length hs → test i ≡ true → among test at d i ≡ true
+          some i l t = rw (t, le-leb (first (at i)) d (low (at i) (a .there i l t)))
+
+  -- at depth 0 none is below a child
+  nothing-below : Apart d 0 test at hs → None (length hs) (among test at 0) → room d 0 test hs ≤ d ^ 0
+  nothing-below a none = omega (arith, room-none d test hs (λ i l t. none i l (rw (t, le-leb (first (at i)) 0 (low (at i) (a .there i l t))))))
+    where
+      low : (x : Addr) → In (complete d 0) x → first x ≤ 0
+      low [] i = omega arith
+      low (y ∷ x) i = omega (arith, i .0, i .1)
+
+module _ (d : ℕ) (z : 0 < d) where
+  pub kraft : (k : ℕ) (test : ℕ → Bool) (at : ℕ → Addr) (hs : List ℕ) → Apart d k test at hs → room d 0 test hs ≤ d ^ k
+  kraft zero test at hs a = by-root (find (length hs) (among test at 0))
+    where
+      by-root : Some (length hs) (among test at 0) ⊎ None (length hs) (among test at 0) → room d 0 test hs ≤ d ^ 0
+      by-root (inl (i, l, e)) = whole d z test at hs 0 a i l e
+      by-root (inr none) = nothing-below d z test at hs a none
+  kraft (suc k) test at hs a = by-root (find (length hs) (among test at 0)) (λ c. kraft k (under test at (suc c)) (λ i. rest (at i)) hs (below d z test at hs k a c))
+    where
+      by-root : Some (length hs) (among test at 0) ⊎ None (length hs) (among test at 0)
+          → ((c : ℕ) → room d 0 (under test at (suc c)) hs ≤ d ^ k) → room d 0 test hs ≤ d ^ suc k
+      by-root (inl (i, l, e)) lower = whole d z test at hs (suc k) a i l e
+      by-root (inr none) lower = all-below d z test at hs k a lower none

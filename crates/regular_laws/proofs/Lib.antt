@@ -1,4 +1,6 @@
 pub mod Enough
+pub mod Complete
+pub mod Room
 pub mod Kraft
 pub mod Placement
 pub mod Fitting

@@ -20,11 +20,11 @@ use Rattle.topology.specs.Tree.{Topo, width}
 use Rattle.topology.specs.Address.{Addr, child, In, sub, Above}
 use Rattle.topology.specs.Reader.{pick}
 use Rattle.topology.proofs.Ancestry.{in-join, sub-append}
-use Rattle.topology.proofs.Cases.{clash}
 use Rattle.regular_laws.specs.Regular.{complete}
 use Rattle.regular_laws.specs.Need.{powers, sum}
 use Rattle.regular_laws.proofs.Enough.{power-pos, power-rises}
-use Rattle.regular_laws.proofs.Kraft.{child-complete, width-complete}
+use Rattle.regular_laws.proofs.Complete.{child-complete, width-complete}
+use Rattle.regular_laws.proofs.Room.{differ, room, room-all, room-leaves, room-one}
 
 -- ---- nodes by their number among those of one level, from the left
 
@@ -138,9 +138,6 @@ earlier hs i j = ltb (getD hs i 0) (getD hs j 0) || (eqb (getD hs i 0) (getD hs 
 abbrev Earlier : List ℕ → ℕ → ℕ → Type 0
 Earlier hs i j = (getD hs i 0 < getD hs j 0) ⊎ ((getD hs i 0 ≡ getD hs j 0) × (j < i))
 
-differ : false ≡ true → ⊥
-differ e = clash (cc)
-
 earlier-is : (hs : List ℕ) (i j : ℕ) → earlier hs i j ≡ true → Earlier hs i j
 earlier-is hs i j e = by-tests (ltb (getD hs i 0) (getD hs j 0)) (eqb (getD hs i 0) (getD hs j 0)) (ltb j i) refl refl refl e
   where
@@ -172,49 +169,6 @@ earlier-either hs i j n = by-height (decLt (getD hs i 0) (getD hs j 0)) (decLt (
     by-height (no l) (yes g) o = inr (inl g)
     by-height (no l) (no g) (yes o) = inl (inr (omega arith, o))
     by-height (no l) (no g) (no o) = inr (inr (omega arith, omega arith))
-
--- ---- the leaves that they take
-
--- how many branches of height h have as many leaves as those that the test chooses have together
-abbrev room : ℕ → ℕ → (ℕ → Bool) → List ℕ → ℕ
-room d h test [] = 0
-room d h test (x ∷ hs) = pick (test 0) (d ^ (x - h)) 0 + room d h (λ i. test (suc i)) hs
-
-room-all : (d : ℕ) (hs : List ℕ) → room d 0 (λ i. true) hs ≡ sum (powers d hs)
-room-all d [] = refl
-room-all d (x ∷ hs) =
-    let q : x - 0 ≡ x = omega arith in
-    rw q (ap (λ (s : ℕ). d ^ x + s) (room-all d hs))
-
--- where none of those is lower than h, in leaves
-room-leaves : (d h : ℕ) (test : ℕ → Bool) (hs : List ℕ) → ((i : ℕ) → test i ≡ true → h ≤ getD hs i 0) → room d h test hs * d ^ h ≡ room d 0 test hs
-room-leaves d h test [] f = omega arith
-room-leaves d h test (x ∷ hs) f =
-    add-mul (pick (test 0) (d ^ (x - h)) 0) (room d h (λ i. test (suc i)) hs) (d ^ h)
-    ∙ ap₂ _+_ (one (test 0) (f 0)) (room-leaves d h (λ i. test (suc i)) hs (λ i e. f (suc i) e))
-  where
-    one : (b : Bool) → (b ≡ true → h ≤ x) → pick b (d ^ (x - h)) 0 * d ^ h ≡ pick b (d ^ (x - 0)) 0
-    one false g = omega arith
-    one true g = sym (pow-add d (x - h) h) ∙ ap (λ (n : ℕ). d ^ n) (omega (arith, g refl))
-
-pick-more : (n : ℕ) (a b : Bool) → (a ≡ true → b ≡ true) → pick a n 0 ≤ pick b n 0
-pick-more n false b g = omega arith
-pick-more n true true g = omega arith
-pick-more n true false g = absurd (differ (g refl))
-
-room-more : (d : ℕ) (p q : ℕ → Bool) (hs : List ℕ) → ((i : ℕ) → p i ≡ true → q i ≡ true) → room d 0 p hs ≤ room d 0 q hs
-room-more d p q [] f = omega arith
-room-more d p q (x ∷ hs) f = omega (arith, pick-more (d ^ (x - 0)) (p 0) (q 0) (f 0), room-more d (λ i. p (suc i)) (λ i. q (suc i)) hs (λ i e. f (suc i) e))
-
--- and where one more is chosen
-room-one : (d : ℕ) (p q : ℕ → Bool) (hs : List ℕ) (j : ℕ) → j < length hs → ((i : ℕ) → p i ≡ true → q i ≡ true) → p j ≡ false → q j ≡ true
-    → room d 0 p hs + d ^ getD hs j 0 ≤ room d 0 q hs
-room-one d p q [] j l f e g = absurd (not-suc-le-zero l)
-room-one d p q (x ∷ hs) zero l f e g =
-    let same : x - 0 ≡ x = omega arith in
-    rw (e, g, same) (omega (arith, room-more d (λ i. p (suc i)) (λ i. q (suc i)) hs (λ i e. f (suc i) e)))
-room-one d p q (x ∷ hs) (suc j) l f e g =
-    omega (arith, room-one d (λ i. p (suc i)) (λ i. q (suc i)) hs j (le-of-suc-le-suc l) (λ i e. f (suc i) e) e g, pick-more (d ^ (x - 0)) (p 0) (q 0) (f 0))
 
 -- ---- where each branch goes
 
