@@ -7,3 +7,4 @@ pub mod Fitting
 pub mod Depth
 pub mod Limits
 pub mod Searching
+pub mod Examples
