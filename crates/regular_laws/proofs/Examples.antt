@@ -1,11 +1,11 @@
 -- The examples of paper 02, 2.3, a chip deeper than 8, and the refusals in their order.
-use mathlib.Core.Path.{_≡_, refl, ap, _∙_, subst}
+use mathlib.Core.Path.{_≡_, refl, ap, subst}
 use Prim.Native.Nat.{ℕ, zero, suc, _≤_, _<_}
 use native.Mathlib.Omega.{arith}
 use mathlib.Core.List.{List, [], _∷_}
 use Rattle.topology.specs.Tree.{Topo, node, fnil, fcons, leaf, code}
 use Rattle.topology.specs.Reader.{fault, tree}
-use Rattle.reduction.specs.Reduced.{joined, reduced}
+use Rattle.reduction.specs.Reduced.{reduced}
 use Rattle.embedding_laws.specs.Least.{searchFault}
 use Rattle.regular_laws.specs.Regular.{complete}
 use Rattle.regular_laws.specs.Depth.{LeastDepth, depthFault}
@@ -42,12 +42,9 @@ chain-reduced : (n : ℕ) → reduced (chain n) ≡ leaf
 chain-reduced zero = refl
 chain-reduced (suc n) = chain-reduced n
 
-need-leaf : (d : ℕ) → need d leaf ≡ 0
-unfolding enough
-need-leaf d = refl
-
 pub chain-depth : (n d : ℕ) → 2 ≤ d → LeastDepth (chain n) d 0
-chain-depth n d z = by-need d z (chain n) 0 (ap (need d) (chain-reduced n) ∙ need-leaf d)
+unfolding enough
+chain-depth n d z = by-need d z (chain n) 0 (ap (need d) (chain-reduced n))
 
 -- A drawing of 26 nodes, 8 steps deep, that needs depth 11 at d = 2. Its node with the children 5, 5 and 0 needs depth 5, since each 5 needs depth 3
 -- and 8 + 8 + 1 > 16; each of the six nodes 2 above it adds one.
