@@ -3,11 +3,11 @@ use mathlib.Core.Path.{_≡_, refl, ap, subst}
 use Prim.Native.Nat.{ℕ, zero, suc, _≤_, _<_}
 use native.Mathlib.Omega.{arith}
 use mathlib.Core.List.{List, [], _∷_}
-use Rattle.topology.specs.Tree.{Topo, node, fnil, fcons, leaf, code}
+use Rattle.topology.specs.Tree.{Topo, node, fnil, fcons, leaf, code, size}
 use Rattle.topology.specs.Reader.{fault, tree}
 use Rattle.reduction.specs.Reduced.{reduced}
 use Rattle.embedding_laws.specs.Least.{searchFault}
-use Rattle.regular_laws.specs.Regular.{complete}
+use Rattle.regular_laws.specs.Regular.{complete, leaves}
 use Rattle.regular_laws.specs.Depth.{LeastDepth, depthFault}
 use Rattle.regular_laws.specs.Need.{enough, need}
 use Rattle.regular_laws.proofs.Depth.{least-depth}
@@ -27,6 +27,10 @@ three-of-two = by-need 2 (omega arith) (tree three) 2 refl
 pub three-of-three : LeastDepth (tree three) 3 1
 unfolding tree enough
 three-of-three = by-need 3 (omega arith) (tree three) 1 refl
+
+-- The chip for d = 2 has 7 nodes and 4 leaves, that for d = 3 has 4 nodes and 3 leaves.
+pub chip-sizes : (size (complete 2 2) ≡ 7) × (leaves (complete 2 2) ≡ 4) × (size (complete 3 1) ≡ 4) × (leaves (complete 3 1) ≡ 3)
+chip-sizes = (refl, refl, refl, refl)
 
 -- At d = 2 the search gives 12 for the depths 0 and 1, and finds a map at depth 2.
 pub three-searched : (searchFault three (code (complete 2 2)) ≡ 0) × ((j : ℕ) → j < 2 → searchFault three (code (complete 2 j)) ≡ 12)
