@@ -11,6 +11,7 @@ use Rattle.topology.specs.Tree.{Topo, Forest, node, fnil, fcons, width, size, c
 use Rattle.topology.specs.Address.{Addr, In, Above, addr, num}
 use Rattle.topology.proofs.Numbering.{addr-in, num-lt, addr-num, addr-root}
 use Rattle.topology.proofs.Ancestry.{size-pos, addr-inj}
+use Rattle.topology.proofs.Order.{above-antisym}
 use Rattle.reduction.specs.Reduced.{joined, reduced, reducedAll, spread, gathered}
 use Rattle.embedding_laws.specs.Rules.{image, Embeds}
 use Rattle.embedding_laws.proofs.Maps.{embeds-passes, passes-reduced}
@@ -41,14 +42,10 @@ fits-embeds R T F E =
     back : (a : ℕ) → a < size R → addr T (num T (F (addr R a))) ≡ F (addr R a)
     back a h = addr-num T (F (addr R a)) (E .there (addr R a) (addr-in R a h))
 
-    antisym : (x y : Addr) → Above x y → Above y x → x ≡ y
-    antisym x y ([], e) v = sym (append-nil x) ∙ sym e
-    antisym x y (k ∷ d, e) (c, g) = absurd (omega (arith, ap length e, ap length g, length-append x (k ∷ d), length-append y c))
-
     once : (a b : ℕ) → a < size R → b < size R → F (addr R a) ≡ F (addr R b) → a ≡ b
     once a b h g e =
         addr-inj R a b h g
-        (antisym (addr R a) (addr R b)
+        (above-antisym (addr R a) (addr R b)
         (E .up (addr R a) (addr R b) (addr-in R a h) (addr-in R b g) ([], sym e ∙ sym (append-nil (F (addr R a)))))
         (E .up (addr R b) (addr R a) (addr-in R b g) (addr-in R a h) ([], e ∙ sym (append-nil (F (addr R b))))))
 

@@ -59,7 +59,7 @@ forked-nth fnil f i l = absurd (not-suc-le-zero l)
 forked-nth (fcons t ts) f zero l = f .0
 forked-nth (fcons t ts) f (suc i) l = forked-nth ts (f .1) i (le-of-suc-le-suc l)
 
--- the way down to child i's branch, where the children need hs
+-- the way down to child i's branch, where the children need hs: `way` of proofs/Placement at the depth that their parent needs
 abbrev wayOf : ℕ → List ℕ → ℕ → Addr
 wayOf d hs i = wayTo d (enough d (sum (powers d hs)) - getD hs i 0) (slot d hs i)
 
@@ -72,20 +72,20 @@ put d t (suc i ∷ a) = wayOf d (needs d (kids t)) i ++ put d (nth (kids t) i) a
 module _ (d : ℕ) (z : 2 ≤ d) where
   -- the laws of the placement at one node with children
   module _ (ts : Forest) (i : ℕ) (l : i < count ts) where
-    enough-room : sum (powers d (needs d ts)) ≤ d ^ need d (node ts)
-    enough-room = enough-holds d z (sum (powers d (needs d ts)))
+    has-room : sum (powers d (needs d ts)) ≤ d ^ need d (node ts)
+    has-room = enough-holds d z (sum (powers d (needs d ts)))
 
     in-list : (j : ℕ) → j < count ts → j < length (needs d ts)
     in-list j g = omega (arith, length-needs d ts)
 
     way-there : In (complete d (need d (node ts))) (wayOf d (needs d ts) i)
-    way-there = placed-in d z (needs d ts) (need d (node ts)) enough-room i (in-list i l) .0
+    way-there = placed-in d z (needs d ts) (need d (node ts)) has-room i (in-list i l) .0
 
     way-sub : sub (complete d (need d (node ts))) (wayOf d (needs d ts) i) ≡ complete d (need d (nth ts i))
-    way-sub = placed-in d z (needs d ts) (need d (node ts)) enough-room i (in-list i l) .1 ∙ ap (complete d) (needs-nth d ts i l)
+    way-sub = placed-in d z (needs d ts) (need d (node ts)) has-room i (in-list i l) .1 ∙ ap (complete d) (needs-nth d ts i l)
 
     way-apart : (j : ℕ) → j < count ts → i ≢ j → Above (wayOf d (needs d ts) i) (wayOf d (needs d ts) j) → ⊥
-    way-apart j g n u = placed-apart d z (needs d ts) (need d (node ts)) enough-room i j (in-list i l) (in-list j g) n u
+    way-apart j g n u = placed-apart d z (needs d ts) (need d (node ts)) has-room i j (in-list i l) (in-list j g) n u
 
     -- where there is another child, the way is not empty
     way-strict : count ts ≢ 1 → 0 < length (wayOf d (needs d ts) i)
@@ -95,8 +95,8 @@ module _ (d : ℕ) (z : 2 ≤ d) where
         beside j g ne =
             omega (
               arith,
-              placed-length d z (needs d ts) (need d (node ts)) enough-room i,
-              placed-lower d z (needs d ts) (need d (node ts)) enough-room i j (in-list i l) (in-list j g) ne,
+              placed-length d z (needs d ts) (need d (node ts)) has-room i,
+              placed-lower d z (needs d ts) (need d (node ts)) has-room i j (in-list i l) (in-list j g) ne,
             )
 
         by-index : Dec (i ≡ 0) → 0 < length (wayOf d (needs d ts) i)

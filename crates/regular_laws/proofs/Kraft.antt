@@ -15,11 +15,12 @@ use lib.Dec.{eqb, leb}
 use borrow.Author.Tests.{eqb-true, leb-true, eq-eqb, le-leb}
 use Rattle.topology.specs.Tree.{Topo}
 use Rattle.topology.specs.Address.{Addr, child, In, Above}
+use Rattle.embedding_laws.proofs.All.{and-left, and-right}
 use Rattle.regular_laws.specs.Regular.{complete}
 use Rattle.regular_laws.proofs.Complete.{child-complete, width-complete}
 use Rattle.regular_laws.proofs.Room.{differ, None, room, room-more, room-split, room-none, room-only}
 
--- Trees of the heights hs, of which those meant are at unrelated nodes of the complete tree of depth k.
+-- Of trees of the heights hs those that a test chooses are at unrelated nodes of the complete tree of depth k.
 pub record Apart (d k : ℕ) (test : ℕ → Bool) (at : ℕ → Addr) (hs : List ℕ) : Type 0 where
   pub there : (i : ℕ) → i < length hs → test i ≡ true → In (complete d k) (at i)
   pub inside : (i : ℕ) → i < length hs → test i ≡ true → length (at i) + getD hs i 0 ≤ k
@@ -37,11 +38,6 @@ rest (x ∷ a) = a
 split : (a : Addr) (c : ℕ) → first a ≡ suc c → a ≡ suc c ∷ rest a
 split [] c e = absurd (omega arith)
 split (x ∷ a) c e = ap (λ (n : ℕ). n ∷ a) e
-
-both : (a b : Bool) → a && b ≡ true → (a ≡ true) × (b ≡ true)
-both true true e = (refl, refl)
-both true false e = absurd (differ e)
-both false b e = absurd (differ e)
 
 root-way : (t : Topo) (a : Addr) → In t a → first a ≤ 0 → a ≡ []
 root-way t [] i o = refl
@@ -64,7 +60,7 @@ find (suc n) test = by-first (test 0) refl (find n (λ i. test (suc i)))
     by-first false e (inl (i, l, t)) = inl (suc i, omega arith, t)
     by-first false e (inr f) = inr (past-first e f)
 
--- those meant that are below one of the first c children or, for c = 0, at the root; and those that are below child c
+-- of those chosen the ones below one of the first c children or, for c = 0, at the root; and the ones below child c
 abbrev among : (ℕ → Bool) → (ℕ → Addr) → ℕ → ℕ → Bool
 among test at c i = test i && leb (first (at i)) c
 
@@ -75,17 +71,17 @@ module _ (d : ℕ) (z : 0 < d) (test : ℕ → Bool) (at : ℕ → Addr) (hs : L
   -- one at the root is the only one
   whole : (k : ℕ) → Apart d k test at hs → (j : ℕ) → j < length hs → among test at 0 j ≡ true → room d 0 test hs ≤ d ^ k
   whole k a j g r =
-      omega (arith, room-only d test hs j g (λ i l t. only i l t (ℕ-discrete i j)), pow-le-pow-right {n = d} z {i = getD hs j 0} {j = k} (omega (arith, a .inside j g meant)))
+      omega (arith, room-only d test hs j g (λ i l t. only i l t (ℕ-discrete i j)), pow-le-pow-right {n = d} z {i = getD hs j 0} {j = k} (omega (arith, a .inside j g chosen)))
     where
-      meant : test j ≡ true
-      meant = both (test j) (leb (first (at j)) 0) r .0
+      chosen : test j ≡ true
+      chosen = and-left (test j) (leb (first (at j)) 0) r
 
       root : at j ≡ []
-      root = root-way (complete d k) (at j) (a .there j g meant) (leb-true (first (at j)) 0 (both (test j) (leb (first (at j)) 0) r .1))
+      root = root-way (complete d k) (at j) (a .there j g chosen) (leb-true (first (at j)) 0 (and-right (test j) (leb (first (at j)) 0) r))
 
       only : (i : ℕ) → i < length hs → test i ≡ true → Dec (i ≡ j) → i ≡ j
       only i l t (yes q) = q
-      only i l t (no n) = absurd (a .apart j i g l meant t (λ q. n (sym q)) (at i, ap (λ (x : Addr). x ++ at i) (sym root)))
+      only i l t (no n) = absurd (a .apart j i g l chosen t (λ q. n (sym q)) (at i, ap (λ (x : Addr). x ++ at i) (sym root)))
 
   module _ (k : ℕ) (a : Apart d (suc k) test at hs) where
     -- those below one child, seen from there
@@ -93,18 +89,18 @@ module _ (d : ℕ) (z : 0 < d) (test : ℕ → Bool) (at : ℕ → Addr) (hs : L
     below c =
         record {
           there = λ i l e.
-              let way-in = subst (In (complete d (suc k))) (way i e) (a .there i l (meant i e)) in
+              let way-in = subst (In (complete d (suc k))) (way i e) (a .there i l (chosen i e)) in
               subst (λ (t : Topo). In t (rest (at i))) (child-complete d k (suc c) (way-in .0) (omega (arith, way-in .1, width-complete d k))) (way-in .2);
-          inside = λ i l e. omega (arith, a .inside i l (meant i e), ap length (way i e));
+          inside = λ i l e. omega (arith, a .inside i l (chosen i e), ap length (way i e));
           apart = λ i j l g e f n u.
-              a .apart i j l g (meant i e) (meant j f) n (u .0, way j f ∙ ap (λ (x : Addr). suc c ∷ x) (u .1) ∙ ap (λ (x : Addr). x ++ u .0) (sym (way i e)));
+              a .apart i j l g (chosen i e) (chosen j f) n (u .0, way j f ∙ ap (λ (x : Addr). suc c ∷ x) (u .1) ∙ ap (λ (x : Addr). x ++ u .0) (sym (way i e)));
         }
       where
-        meant : (i : ℕ) → under test at (suc c) i ≡ true → test i ≡ true
-        meant i e = both (test i) (eqb (first (at i)) (suc c)) e .0
+        chosen : (i : ℕ) → under test at (suc c) i ≡ true → test i ≡ true
+        chosen i e = and-left (test i) (eqb (first (at i)) (suc c)) e
 
         way : (i : ℕ) → under test at (suc c) i ≡ true → at i ≡ suc c ∷ rest (at i)
-        way i e = split (at i) c (eqb-true (first (at i)) (suc c) (both (test i) (eqb (first (at i)) (suc c)) e .1))
+        way i e = split (at i) c (eqb-true (first (at i)) (suc c) (and-right (test i) (eqb (first (at i)) (suc c)) e))
 
     module _ (lower : (c : ℕ) → room d 0 (under test at (suc c)) hs ≤ d ^ k)
         (none : None (length hs) (among test at 0)) where
@@ -117,13 +113,13 @@ module _ (d : ℕ) (z : 0 < d) (test : ℕ → Bool) (at : ℕ → Addr) (hs : L
             below-first c,
             lower c,
             room-split d (among test at (suc c)) (among test at c) (under test at (suc c)) hs
-                (λ i l e. by-child i (both (test i) (leb (first (at i)) (suc c)) e) (ℕ-discrete (first (at i)) (suc c))),
+                (λ i l e. by-child i (and-left (test i) (leb (first (at i)) (suc c)) e) (and-right (test i) (leb (first (at i)) (suc c)) e) (ℕ-discrete (first (at i)) (suc c))),
           )
         where
-          by-child : (i : ℕ) → (test i ≡ true) × (leb (first (at i)) (suc c) ≡ true) → Dec (first (at i) ≡ suc c)
+          by-child : (i : ℕ) → test i ≡ true → leb (first (at i)) (suc c) ≡ true → Dec (first (at i) ≡ suc c)
               → (among test at c i ≡ true) ⊎ (under test at (suc c) i ≡ true)
-          by-child i (t, e) (yes q) = inr (rw (t, eq-eqb (first (at i)) (suc c) q))
-          by-child i (t, e) (no q) = inl (rw (t, le-leb (first (at i)) c (omega (arith, leb-true (first (at i)) (suc c) e))))
+          by-child i t e (yes q) = inr (rw (t, eq-eqb (first (at i)) (suc c) q))
+          by-child i t e (no q) = inl (rw (t, le-leb (first (at i)) c (omega (arith, leb-true (first (at i)) (suc c) e))))
 
       all-below : room d 0 test hs ≤ d ^ suc k
       all-below = omega (arith, below-first d, pow-succ' d k, room-more d test (among test at d) hs some)

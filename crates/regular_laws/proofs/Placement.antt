@@ -20,6 +20,7 @@ use Rattle.topology.specs.Tree.{Topo, width}
 use Rattle.topology.specs.Address.{Addr, child, In, sub, Above}
 use Rattle.topology.specs.Reader.{pick}
 use Rattle.topology.proofs.Ancestry.{in-join, sub-append}
+use Rattle.topology.proofs.Order.{above-same}
 use Rattle.regular_laws.specs.Regular.{complete}
 use Rattle.regular_laws.specs.Need.{powers, sum}
 use Rattle.regular_laws.proofs.Enough.{power-pos, power-rises}
@@ -62,7 +63,7 @@ way-in d h (suc n) s z e =
     subst (λ (k : ℕ). In (complete d k) (u ++ last) × (sub (complete d k) (u ++ last) ≡ complete d h)) q (there, low)
 
 -- a way goes by way of each node above
-way-split : (d m n s : ℕ) → (g : Addr) × (wayTo d (n + m) s ≡ wayTo d m (lift d n s) ++ g)
+way-split : (d m n s : ℕ) → Above (wayTo d m (lift d n s)) (wayTo d (n + m) s)
 way-split d m zero s =
     let q : 0 + m ≡ m = omega arith in
     ([], ap (λ (k : ℕ). wayTo d k s) q ∙ sym (append-nil (wayTo d m s)))
@@ -81,21 +82,12 @@ way-inj d (suc m) s u e w =
     let q = way-inj d m (s / d) (u / d) e (l .0) in
     omega (arith, l .1, ap (λ (x : ℕ). d * x) q, div-add-mod s d, div-add-mod u d)
 
-prefix-same : (x y g f : Addr) → length x ≡ length y → y ++ g ≡ x ++ f → x ≡ y
-prefix-same [] [] g f l e = refl
-prefix-same [] (b ∷ y) g f l e = absurd (omega arith)
-prefix-same (a ∷ x) [] g f l e = absurd (omega arith)
-prefix-same (a ∷ x) (b ∷ y) g f l e =
-    let r = prefix-same x y g f (omega (arith, l)) (cc) in
-    let q : a ≡ b = cc in
-    ap₂ (λ (z : ℕ) (c : Addr). z ∷ c) q r
-
 -- a node lies above another only where it has the number of the node above that one
 way-above : (d m n s u : ℕ) → lift d n s ≢ u → lift d m (lift d n s) ≡ lift d m u → Above (wayTo d m u) (wayTo d (n + m) s) → ⊥
-way-above d m n s u ne e (f, q) =
-    let r = way-split d m n s in
-    let same = prefix-same (wayTo d m u) (wayTo d m (lift d n s)) (r .0) f (way-length d m u ∙ sym (way-length d m (lift d n s))) (sym (r .1) ∙ q) in
-    ne (way-inj d m (lift d n s) u e (sym same))
+way-above d m n s u ne e a =
+    let v = wayTo d m (lift d n s) in
+    ne (way-inj d m (lift d n s) u e
+    (above-same v (wayTo d m u) (wayTo d (n + m) s) (way-length d m (lift d n s) ∙ sym (way-length d m u)) (way-split d m n s) a))
 
 lift-sum : (d n m s : ℕ) → lift d (n + m) s ≡ lift d m (lift d n s)
 lift-sum d zero m s =
@@ -256,7 +248,7 @@ module _ (d : ℕ) (z : 2 ≤ d) (hs : List ℕ) where
     pub placed-length : (i : ℕ) → length (way i) ≡ k - getD hs i 0
     placed-length i = way-length d (k - getD hs i 0) (slot d hs i)
 
-    -- the node above a branch, n steps up at the height of another branch, is not where that one goes
+    -- n steps above branch i's node, at branch j's height, is another node than branch j's
     differs : (i j n : ℕ) → i < length hs → j < length hs → i ≢ j → getD hs j 0 ≡ n + getD hs i 0 → lift d n (slot d hs i) ≢ slot d hs j
     differs i j n l g ne e q = by-order (earlier-either hs i j ne)
       where

@@ -1,4 +1,4 @@
--- Branches of given heights, in leaves: a complete tree of height h has d ^ h. A test says which of the branches are meant.
+-- Branches of given heights, in leaves: a complete tree of height h has d ^ h. A test chooses some of the branches.
 use mathlib.Core.Path.{_≡_, refl, sym, ap, ap₂, _∙_}
 use mathlib.Core.Logic.{_⊎_, inl, inr}
 use Prim.Native.Nat.{ℕ, zero, suc, _+_, _-_, _*_, _^_, _≤_, _<_}
@@ -15,7 +15,7 @@ use Rattle.regular_laws.specs.Need.{powers, sum}
 pub differ : false ≡ true → ⊥
 differ e = clash (cc)
 
--- How many branches of height h have as many leaves as those meant have together, and, for h = 0, how many leaves these have.
+-- How many branches of height h have as many leaves as those chosen have together; for h = 0 it is how many leaves these have.
 abbrev pub room : ℕ → ℕ → (ℕ → Bool) → List ℕ → ℕ
 room d h test [] = 0
 room d h test (x ∷ hs) = pick (test 0) (d ^ (x - h)) 0 + room d h (λ i. test (suc i)) hs
@@ -42,11 +42,12 @@ pick-more n false b g = omega arith
 pick-more n true true g = omega arith
 pick-more n true false g = absurd (differ (g refl))
 
+-- where others may be chosen beside them
 pub room-more : (d : ℕ) (p q : ℕ → Bool) (hs : List ℕ) → ((i : ℕ) → i < length hs → p i ≡ true → q i ≡ true) → room d 0 p hs ≤ room d 0 q hs
 room-more d p q [] f = omega arith
 room-more d p q (x ∷ hs) f = omega (arith, pick-more (d ^ (x - 0)) (p 0) (q 0) (f 0 (omega arith)), room-more d (λ i. p (suc i)) (λ i. q (suc i)) hs (λ i l e. f (suc i) (omega arith) e))
 
--- and where one more is chosen
+-- and where the one at place j is, which is not among them
 pub room-one : (d : ℕ) (p q : ℕ → Bool) (hs : List ℕ) (j : ℕ) → j < length hs → ((i : ℕ) → p i ≡ true → q i ≡ true) → p j ≡ false → q j ≡ true
     → room d 0 p hs + d ^ getD hs j 0 ≤ room d 0 q hs
 room-one d p q [] j l f e g = absurd (not-suc-le-zero l)
@@ -56,7 +57,7 @@ room-one d p q (x ∷ hs) zero l f e g =
 room-one d p q (x ∷ hs) (suc j) l f e g =
     omega (arith, room-one d (λ i. p (suc i)) (λ i. q (suc i)) hs j (le-of-suc-le-suc l) (λ i e. f (suc i) e) e g, pick-more (d ^ (x - 0)) (p 0) (q 0) (f 0))
 
--- where each of those meant is among the one kind or the other
+-- where each of them is of the one kind or the other
 pub room-split : (d : ℕ) (p q r : ℕ → Bool) (hs : List ℕ) → ((i : ℕ) → i < length hs → p i ≡ true → (q i ≡ true) ⊎ (r i ≡ true))
     → room d 0 p hs ≤ room d 0 q hs + room d 0 r hs
 room-split d p q r [] f = omega arith
@@ -73,7 +74,7 @@ room-split d p q r (x ∷ hs) f =
         neither (inl e) = differ e
         neither (inr e) = differ e
 
--- where none is meant
+-- where none is chosen
 abbrev pub None : ℕ → (ℕ → Bool) → Type 0
 None n test = (i : ℕ) → i < n → test i ≡ true → ⊥
 
@@ -85,7 +86,7 @@ room-none d p (x ∷ hs) f = omega (arith, one (p 0) (f 0 (omega arith)), room-n
     one false g = refl
     one true g = absurd (g refl)
 
--- where only the one at place j is meant
+-- where only the one at place j is chosen
 pub room-only : (d : ℕ) (p : ℕ → Bool) (hs : List ℕ) (j : ℕ) → j < length hs → ((i : ℕ) → i < length hs → p i ≡ true → i ≡ j) → room d 0 p hs ≤ d ^ getD hs j 0
 room-only d p [] j l f = absurd (not-suc-le-zero l)
 room-only d p (x ∷ hs) zero l f =

@@ -1,4 +1,5 @@
--- The least depth of a regular chip (paper 02, 2.3), by the rules of a map alone: `Passes` in embedding_laws has them.
+-- The least depth of a regular chip (paper 02, 2.3), by the four rules of a map alone: `Passes` in embedding_laws has them, over the kept nodes, so that
+-- it is the reduced drawing that has the map.
 use Prim.Native.Nat.{ℕ, _<_}
 use mathlib.Core.List.{List}
 use mathlib.Core.Bool.{_&&_}
