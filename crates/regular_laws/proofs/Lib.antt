@@ -5,3 +5,5 @@ pub mod Kraft
 pub mod Placement
 pub mod Fitting
 pub mod Depth
+pub mod Bounds
+pub mod Passed
