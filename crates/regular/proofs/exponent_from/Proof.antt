@@ -1,0 +1,37 @@
+-- `exponent_from` meets its contract. The power is that of the exponent, which is not past the least that is enough.
+use borrow.Author.Needs.{needs}
+use Prim.Native.Nat.{_-_}
+use native.Mathlib.Nat.{mul-le-mul-left}
+use native.Mathlib.Omega.{arith}
+use Rattle.regular.proofs.Powers.{Reached, reached-none, reached-above, reached-more, reached-next, reached-end}
+use Rattle.regular.proofs.exponent_from.Statement.{statement}
+use Rattle.regular.proofs.exponent_from.Tie as tie
+
+abbrev Inv-loop : tie.InvT-loop
+Inv-loop d number power₀ exponent₀ power exponent = Reached d number power exponent
+
+abbrev μ-loop : tie.MeasureT-loop
+μ-loop d number power₀ exponent₀ power exponent = number - power
+
+loop-holds : tie.Need-loop-holds Inv-loop μ-loop
+loop-holds c = reached-none _ _
+
+mul-power : tie.Need-mul-power Inv-loop μ-loop
+mul-power c = omega (arith, mul-le-mul-left {m = c .before .before .args .d} {n = 8} (c .before .loop .power) (omega arith))
+
+add-exponent : tie.Need-add-exponent Inv-loop μ-loop
+add-exponent c = omega (arith, reached-above _ _ (omega arith) _ _ (c .before .loop .inv))
+
+loop-less : tie.Need-loop-less Inv-loop μ-loop
+loop-less c = omega (arith, reached-more _ _ (omega arith) _ _ (c .before .loop .inv))
+
+loop-again : tie.Need-loop-again Inv-loop μ-loop
+loop-again c = reached-next _ _ (omega arith) _ _ (c .before .loop .inv) (omega arith)
+
+returns : tie.Need-returns Inv-loop μ-loop
+returns c = reached-end _ _ (omega arith) _ _ (c .before .loop .inv) (omega arith)
+
+pub exponent-from-spec : {M : Type 1} → statement M
+exponent-from-spec =
+    tie.close
+    (tie.spec Inv-loop μ-loop loop-holds mul-power add-exponent loop-less loop-again returns)
