@@ -101,7 +101,7 @@ module _ (d : ℕ) (bytes : List ℕ) (given : (fault 32 bytes ≡ 0) × (2 ≤ 
     read = omega arith;
     left = length-most;
     fits = omega arith;
-    stack = rw (← n, drop-length, drop-length);
+    stack = rw (← n, drop-length leaves, drop-length bytes);
   }
 
   -- One turn: byte j is read, the last before i.

@@ -5,8 +5,10 @@ use native.Mathlib.Nat.{add-zero}
 use mathlib.Core.List.{List, _∷_}
 use Rattle.topology.specs.Tree.{Topo, Forest, node, fnil, fcons}
 use Rattle.reduction.specs.Reduced.{joined, reduced, reducedAll}
+use Rattle.regular_laws.specs.Depth.{LeastDepth}
 use Rattle.regular_laws.specs.Need.{enough, powers, sum, need, needs}
 use Rattle.regular_laws.proofs.Enough.{enough-power}
+use Rattle.regular_laws.proofs.Depth.{least-depth}
 
 module _ (d : ℕ) (z : 2 ≤ d) where
   need-joined : (ts : Forest) → need d (joined ts) ≡ enough d (sum (powers d (needs d ts)))
@@ -21,3 +23,7 @@ module _ (d : ℕ) (z : 2 ≤ d) where
     needs-reduced : (ts : Forest) → needs d (reducedAll ts) ≡ needs d ts
     needs-reduced fnil = refl
     needs-reduced (fcons t ts) = cc (need-reduced t, needs-reduced ts)
+
+  -- so the least depth can be told from the drawing as it is
+  pub depth-needed : (S : Topo) → LeastDepth S d (need d S)
+  depth-needed S = rw need-reduced at (least-depth d z S)
