@@ -8,16 +8,16 @@ use Rattle.regular.proofs.exponent_from.Statement.{statement}
 use Rattle.regular.proofs.exponent_from.Tie as tie
 
 abbrev Inv-loop : tie.InvT-loop
-Inv-loop d number power₀ exponent₀ power exponent = Reached d number power exponent
+Inv-loop d number reached₀ exponent₀ reached exponent = Reached d number reached exponent
 
 abbrev μ-loop : tie.MeasureT-loop
-μ-loop d number power₀ exponent₀ power exponent = number - power
+μ-loop d number reached₀ exponent₀ reached exponent = number - reached
 
 loop-holds : tie.Need-loop-holds Inv-loop μ-loop
 loop-holds c = reached-none _ _
 
-mul-power : tie.Need-mul-power Inv-loop μ-loop
-mul-power c = omega (arith, mul-le-mul-left {m = c .before .before .args .d} {n = 8} (c .before .loop .power) (omega arith))
+mul-reached : tie.Need-mul-reached Inv-loop μ-loop
+mul-reached c = omega (arith, mul-le-mul-left {m = c .before .before .args .d} {n = 8} (c .before .loop .reached) (omega arith))
 
 add-exponent : tie.Need-add-exponent Inv-loop μ-loop
 add-exponent c = omega (arith, reached-above _ _ (omega arith) _ _ (c .before .loop .inv))
@@ -34,4 +34,4 @@ returns c = reached-end _ _ (omega arith) _ _ (c .before .loop .inv) (omega arit
 pub exponent-from-spec : {M : Type 1} → statement M
 exponent-from-spec =
     tie.close
-    (tie.spec Inv-loop μ-loop loop-holds mul-power add-exponent loop-less loop-again returns)
+    (tie.spec Inv-loop μ-loop loop-holds mul-reached add-exponent loop-less loop-again returns)

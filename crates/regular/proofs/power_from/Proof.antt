@@ -1,7 +1,7 @@
 -- `power_from` meets its contract. The power is that of an exponent not past the least that is enough.
 use borrow.Author.Needs.{needs}
 use mathlib.Core.Path.{ap, _∙_}
-use Prim.Native.Nat.{ℕ, _-_, _^_}
+use Prim.Native.Nat.{ℕ, _+_, _-_, _^_}
 use native.Mathlib.Nat.{mul-le-mul-left}
 use native.Mathlib.Omega.{arith}
 use Rattle.regular.proofs.Powers.{Reached, reached-none, reached-more, reached-next, reached-end}
@@ -12,7 +12,7 @@ abbrev Inv-loop : tie.InvT-loop
 Inv-loop d number power₀ power = (k : ℕ) × Reached d number power k
 
 abbrev μ-loop : tie.MeasureT-loop
-μ-loop d number power₀ power = number - power
+μ-loop d number power₀ power = number + 1 - power
 
 loop-holds : tie.Need-loop-holds Inv-loop μ-loop
 loop-holds c = (0, reached-none _ _)
