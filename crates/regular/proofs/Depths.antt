@@ -7,7 +7,7 @@ use mathlib.Core.List.{List}
 use mathlib.Core.Bool.{_&&_}
 use lib.Dec.{leb}
 use borrow.Author.Tests.{le-leb, lt-leb}
-use Rattle.topology.specs.Reader.{pick, orElse, fault, tree, reading}
+use Rattle.topology.specs.Reader.{pick, fault, tree, reading}
 use Rattle.topology.specs.declared.Reading.{Reading}
 use Rattle.topology.specs.declared.Reading.the-variants.{Tree, Refused}
 use Rattle.topology.proofs.Cases.{read-tree, read-refused}

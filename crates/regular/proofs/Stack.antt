@@ -2,7 +2,7 @@
 -- its children; the loop does the same with what the trees need. For the bytes of a tree there are always as many trees as a byte asks for
 -- (`Ready`), by induction over the tree.
 use mathlib.Core.Path.{_≡_, refl, sym, ap, _∙_}
-use Prim.Native.Nat.{ℕ, zero, suc, _+_, _-_, _*_, _^_, _≤_, _<_}
+use Prim.Native.Nat.{ℕ, zero, suc, _+_, _-_, _^_, _≤_, _<_}
 use native.Mathlib.Nat.{add-zero, mul-le-mul-right}
 use native.Mathlib.Omega.{arith}
 use mathlib.Core.List.{List, [], _∷_, _++_, append-assoc, append-nil}
@@ -16,7 +16,7 @@ use Rattle.regular_laws.specs.Need.{enough, powers, sum, need, needs}
 use Rattle.regular_laws.proofs.Bounds.{needs-room, room-most}
 
 -- the terms of Kraft's sum over a forest
-abbrev pub terms : ℕ → Forest → List ℕ
+abbrev terms : ℕ → Forest → List ℕ
 terms d ts = powers d (needs d ts)
 
 module _ (d : ℕ) where
@@ -42,7 +42,7 @@ module _ (d : ℕ) where
       ∙ ap (λ (l : List ℕ). d ^ need d t ∷ l) (terms-codes ts bs)
 
 -- There are as many terms as each byte asks for, and these are small together.
-abbrev pub Ready : ℕ → List ℕ → Type 0
+abbrev Ready : ℕ → List ℕ → Type 0
 Ready d [] = Unit
 Ready d (b ∷ bs) = (b ≤ length (terms d (forest bs))) × (sum (take b (terms d (forest bs))) ≤ 536870912) × Ready d bs
 
@@ -77,13 +77,14 @@ ready-drop d (suc n) [] r = tt
 ready-drop d (suc n) (b ∷ bs) r = ready-drop d n bs (r .2)
 
 -- l[from..to]
-abbrev pub part : List ℕ → ℕ → ℕ → List ℕ
+abbrev part : List ℕ → ℕ → ℕ → List ℕ
 part l from to = take (to - from) (drop from l)
 
 set-from : (l : List ℕ) (i v : ℕ) → i < length l → drop i (set l i v) ≡ v ∷ drop (suc i) l
 set-from l i v h = rw set-split (drop-at (take i l) (v ∷ drop (suc i) l) i (length-take-le i l (omega arith)))
 
--- leaves[top..] has the terms of the trees that the bytes from i on draw.
+-- What the loop keeps: leaves[top..] has the terms of the trees that the bytes from i on draw. No more trees are drawn than bytes are read, so a place
+-- is left for each byte that is to come.
 pub record Stacked (d : ℕ) (bytes leaves : List ℕ) (top i : ℕ) : Type 0 where
   pub places : length leaves ≡ 32
   pub read : i ≤ length bytes

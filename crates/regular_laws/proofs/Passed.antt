@@ -1,8 +1,8 @@
 -- The reduced drawing needs what the drawing needs: a node with one child needs what the child needs, and gives way to it.
 use mathlib.Core.Path.{_≡_, refl, sym, ap, _∙_}
-use Prim.Native.Nat.{ℕ, _+_, _^_, _≤_}
+use Prim.Native.Nat.{ℕ, _^_, _≤_}
 use native.Mathlib.Nat.{add-zero}
-use mathlib.Core.List.{List, _∷_}
+use mathlib.Core.List.{List}
 use Rattle.topology.specs.Tree.{Topo, Forest, node, fnil, fcons}
 use Rattle.reduction.specs.Reduced.{joined, reduced, reducedAll}
 use Rattle.regular_laws.specs.Depth.{LeastDepth}

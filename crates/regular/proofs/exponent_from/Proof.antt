@@ -1,5 +1,4 @@
 -- `exponent_from` meets its contract. The power is that of the exponent, which is not past the least that is enough.
-use borrow.Author.Needs.{needs}
 use Prim.Native.Nat.{_-_}
 use native.Mathlib.Nat.{mul-le-mul-left}
 use native.Mathlib.Omega.{arith}

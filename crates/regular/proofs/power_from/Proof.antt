@@ -1,5 +1,4 @@
 -- `power_from` meets its contract. The power is that of an exponent not past the least that is enough.
-use borrow.Author.Needs.{needs}
 use mathlib.Core.Path.{ap, _∙_}
 use Prim.Native.Nat.{ℕ, _+_, _-_, _^_}
 use native.Mathlib.Nat.{mul-le-mul-left}
