@@ -49,10 +49,10 @@ fn exponent_from(d: usize, number: usize) -> usize
     requires { ⌜ (2 ≤ d) × (d ≤ 8) × (number ≤ 536870912) ⌝ }
     ensures { λ r. ⌜ r ≡ enough d number ⌝ }
 {
-    let mut power = 1;
+    let mut reached = 1;
     let mut exponent = 0;
-    while power < number {
-        power *= d;
+    while reached < number {
+        reached *= d;
         exponent += 1;
     }
     exponent

@@ -5,6 +5,8 @@ pub mod Kraft
 pub mod Placement
 pub mod Fitting
 pub mod Depth
+pub mod Passed
+pub mod Bounds
 pub mod Limits
 pub mod Searching
 pub mod Examples
