@@ -10,6 +10,7 @@ use lib.Dec.{leb, ltb, eqb}
 use borrow.Author.Tests.{lt-ltb, le-ltb, le-leb, lt-leb, eq-eqb, ne-eqb, ltb-true}
 use Rattle.topology.specs.Reader.{pick, orElse, fault}
 use Rattle.topology.specs.Branch.{branchEnd, isAbove}
+use Rattle.topology.proofs.Refusals.{orElse-none}
 use Rattle.embedding_laws.specs.Rules.{image}
 use Rattle.reduction.specs.Reduced.{passedOver, keptBytes, gathered}
 use Rattle.embedding_laws.specs.Check.{all, same, areNodes, rule1, rule2, rule3, rule4, imagesFault, marked, areMarked, listFault, mapFault}
@@ -19,7 +20,7 @@ use Rattle.two_trees.specs.Trees.{treesFault, branchEnds}
 use Rattle.embedding.specs.Tests.{fresh, leafKept, aboveBy, alike, rows, markedTo, Sized, Tabled}
 use Rattle.embedding.specs.declared.Checked.the-variants.{Passes}
 use Rattle.embedding.specs.declared.Checked.the-variants as answer
-use Rattle.two_trees.proofs.Trees.{orElse-both, tree-fits}
+use Rattle.two_trees.proofs.Trees.{tree-fits}
 use Rattle.two_trees.proofs.EndTable.{is-table}
 
 all-next : (p : ℕ → Bool) (a : ℕ) → all a p ≡ true → p a ≡ true → all (a + 1) p ≡ true
@@ -277,7 +278,7 @@ module _ (source target m : List ℕ) (refusal : ℕ) (e : refusal ≡ treesFaul
 
   module _ (z : refusal ≡ 0) where
     no-fault : (fault 32 source ≡ 0) × (fault 64 target ≡ 0)
-    no-fault = orElse-both (fault 32 source) (fault 64 target) (sym e ∙ z)
+    no-fault = orElse-none (fault 32 source) (fault 64 target) (sym e ∙ z)
 
     pub trees-fit : (fault 32 source ≡ 0) × (length target ≤ 64)
     trees-fit = (no-fault .0, tree-fits 64 target (no-fault .1) .1)

@@ -16,6 +16,7 @@ use Rattle.topology.proofs.Ancestry.{in-breadth, size-pos}
 use Rattle.topology.proofs.Decoding.{length-code, byte-width}
 use Rattle.topology.proofs.Reader.{drawn, within}
 use Rattle.topology.proofs.Cases.{clash}
+use Rattle.topology.proofs.Refusals.{orElse-none}
 use Rattle.reduction.specs.Reduced.{gathered, spread, keptBytes, in32}
 use Rattle.reduction.specs.declared.Gathered.{Gathered}
 use Rattle.reduction.proofs.Limits.{kept-fault}
@@ -29,7 +30,7 @@ use Rattle.embedding_laws.proofs.Images.{found-none, found-list}
 use Rattle.embedding_laws.proofs.Lone.{leaf-code, first-leaf-in, lone-least}
 use Rattle.embedding_laws.proofs.Searching.{found-long}
 use Rattle.two_trees.specs.Trees.{treesFault}
-use Rattle.two_trees.proofs.Trees.{orElse-both, tree-fits}
+use Rattle.two_trees.proofs.Trees.{tree-fits}
 use Rattle.embedding_search.specs.Outcomes.{outcomeBy, outcome}
 use Rattle.embedding_search.specs.Images.{isFound, FindsLeast}
 use Rattle.embedding_search.specs.Search.{Searches}
@@ -107,7 +108,7 @@ module _ (source target : List ℕ) (refusal : ℕ) (e : refusal ≡ treesFault 
   module _ (z : refusal ≡ 0) (kept : Gathered)
       (g : (kept .numbers ≡ in32 (gathered (take 32 source) source)) × (kept .count ≡ length (gathered (take 32 source) source))) where
     no-fault : (fault 32 source ≡ 0) × (fault 64 target ≡ 0)
-    no-fault = orElse-both (fault 32 source) (fault 64 target) (sym e ∙ z)
+    no-fault = orElse-none (fault 32 source) (fault 64 target) (sym e ∙ z)
 
     -- the bytes that are lent to the search are those of the reduced drawing
     pub lent : (kept .count ≤ 32) × (length (kept .numbers) ≡ 32) × (take (kept .count) (kept .numbers) ≡ keptBytes source)

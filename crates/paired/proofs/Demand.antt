@@ -11,7 +11,7 @@ use mathlib.Core.Bool.{true}
 use lib.ListN.{length, length-append}
 use borrow.Author.Tests.{le-leb}
 use Rattle.lists.proofs.Permutation.{length-perm}
-use Rattle.topology.specs.Tree.{Topo}
+use Rattle.topology.specs.Tree.{Topo, code}
 use Rattle.topology.specs.Reader.{fault, tree}
 use Rattle.topology.proofs.Reader.{fault-wider}
 use Rattle.pifo.specs.Tree.{held, packets}
@@ -28,6 +28,8 @@ use Rattle.embedding_laws.proofs.Maps.{maps-reduced}
 use Rattle.embedding_laws.proofs.Searching.{search-twelve}
 use Rattle.simulation.specs.Sheet.{serveCarried}
 use Rattle.simulation.proofs.Reduced.{places-pass}
+use Rattle.regular_laws.specs.Regular.{complete}
+use Rattle.regular_laws.proofs.Searching.{depth-drawn, search-regular}
 use Rattle.embedding_search.specs.Outcomes.{outcome, numberOf}
 use Rattle.embedding_search.specs.Search.{Searches}
 use Rattle.embedding_search.specs.declared.Searched.{Searched}
@@ -231,4 +233,8 @@ demand-3 =
         kept-tree 32 source f,
         places-pass (tree source),
       );
+      bought = λ source d k a w r s.
+          searched-number source (code (complete d k)) r s ∙ search-regular source d k (depth-drawn source d (a .0)) (a .1) w .0;
+      bought-least = λ source d k a w j l r s.
+          searched-number source (code (complete d j)) r s ∙ search-regular source d k (depth-drawn source d (a .0)) (a .1) w .1 j l;
     }

@@ -1,22 +1,26 @@
 -- Demand 3 of paper 01 ("Both trees on one sheet"), with the disciplines of paper 02, 2.1 and for the drawings of 2.2, whose nodes with one child are
--- passed over: one statement about whole lists of calls, which mix pushes by path, pushes to a leaf and pops: `Demand3`. `proofs/Demand.antt` proves it.
+-- passed over, and for the chips that 2.3 names: one statement about whole lists of calls, which mix pushes by path, pushes to a leaf and pops: `Demand3`.
+-- `proofs/Demand.antt` proves it.
 --
 -- It speaks of the code by its contracts: an execution is any sequence of answers and trees that the contracts of the calls on a tree by itself and
 -- on a chip's tree (`OwnServes`, `ChipServes`) allow, and an answer of the search any that its contract allows, so that it holds of whatever the
 -- code does.
 use mathlib.Core.Path.{_≡_}
 use mathlib.Core.Logic.{_↔_}
-use Prim.Native.Nat.{ℕ, _+_, _≤_, min}
+use Prim.Native.Nat.{ℕ, _+_, _≤_, _<_, min}
 use mathlib.Core.List.{List, [], _∷_, map}
 use lib.ListN.{length}
-use Rattle.topology.specs.Tree.{Topo}
-use Rattle.topology.specs.Reader.{fault, tree}
+use Rattle.topology.specs.Tree.{Topo, code}
+use Rattle.topology.specs.Reader.{Within, fault, tree}
 use Rattle.pifo.specs.Tree.{held}
 use Rattle.pifo.specs.Machine.{popping, Answer, numberOf as answerNumber, most, opened}
 use Rattle.pifo.specs.Runs.{acceptedBy, departedBy, times}
 use Rattle.reduction.specs.Reduced.{reduced, keptBytes}
 use Rattle.embedding_laws.specs.Rules.{Passes}
 use Rattle.simulation.specs.Reduced.{placesOf}
+use Rattle.regular_laws.specs.Regular.{complete}
+use Rattle.regular.specs.Answers.{Answers}
+use Rattle.regular.specs.declared.Depth.the-variants.{Least}
 use Rattle.embedding_search.specs.Outcomes.{numberOf}
 use Rattle.embedding_search.specs.Search.{Searches, images}
 use Rattle.embedding_search.specs.declared.Searched.{Searched}
@@ -140,3 +144,9 @@ pub record Demand3 : Type 0 where
   pub loads-reduced : (source : List ℕ) → fault 32 source ≡ 0
       → (fault 64 (keptBytes source) ≡ 0) × (tree (keptBytes source) ≡ reduced (tree source))
       × Passes (tree source) (reduced (tree source)) (placesOf (tree source))
+  -- A regular chip of the depth that `least_depth` answers (paper 02, 2.3), where it is within the limits: the search answers 0 there, so that the first
+  -- part holds with its map, and 12 at each smaller depth.
+  pub bought : (source : List ℕ) (d k : ℕ) → Answers source d (Least k) → Within 64 (complete d k)
+      → (r : Searched) → Searches source (code (complete d k)) r → numberOf (r .outcome) ≡ 0
+  pub bought-least : (source : List ℕ) (d k : ℕ) → Answers source d (Least k) → Within 64 (complete d k)
+      → (j : ℕ) → j < k → (r : Searched) → Searches source (code (complete d j)) r → numberOf (r .outcome) ≡ 12

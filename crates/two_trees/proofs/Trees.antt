@@ -36,10 +36,6 @@ module _ (source target : List ℕ) (r : Reading) (e : r ≡ reading (fault 32 s
     pub both-read : u ≡ Tree → 0 ≡ treesFault source target
     both-read p = rw (none-first r (fault 32 source) e q, none-first u (fault 64 target) d p)
 
-pub orElse-both : (f g : ℕ) → orElse f g ≡ 0 → (f ≡ 0) × (g ≡ 0)
-orElse-both zero g e = (refl, e)
-orElse-both (suc f) g e = absurd (omega arith)
-
 -- what bytes without fault are good for
 pub tree-fits : (limit : ℕ) (bytes : List ℕ) → fault limit bytes ≡ 0 → (0 < length bytes) × (length bytes ≤ limit)
 tree-fits limit bytes z =
