@@ -4,6 +4,7 @@ use Prim.Native.Nat.{ℕ, zero, suc}
 use mathlib.Core.List.{List}
 use Rattle.topology.specs.Reader.{orElse}
 use Rattle.topology.proofs.Cases.{clash}
+use Rattle.topology.proofs.Refusals.{orElse-last}
 use Rattle.embedding_laws.specs.Check.{mapFault}
 use Rattle.embedding.specs.Answers.{checked}
 use Rattle.embedding.specs.declared.Checked.{Checked}
@@ -26,8 +27,4 @@ module _ (source target m : List ℕ) (after : ℕ) (a : Checked) (e : a ≡ che
 
 -- nothing after it
 pub nothing-after : (source target m : List ℕ) (n : ℕ) → n ≡ orElse (mapFault source target m) 0 → n ≡ mapFault source target m
-nothing-after source target m n e = e ∙ by-fault (mapFault source target m)
-  where
-    by-fault : (f : ℕ) → orElse f 0 ≡ f
-    by-fault zero = refl
-    by-fault (suc f) = refl
+nothing-after source target m n e = e ∙ orElse-last (mapFault source target m)

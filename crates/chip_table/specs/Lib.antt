@@ -1,3 +1,3 @@
--- To believe: `Prints` in Table, the text for a script, with Depth and Regular in the crate `regular_laws`, Gathering in `gathering` and Template in
--- `templates`.
+-- To believe: Table, with `Prints`, the text for a script, and `Writes`; below it Depth and Regular in the crate `regular_laws`, Gathering in
+-- `gathering`, Lines in `lines`, Template in `templates` and Text in `text`.
 pub mod Table

@@ -9,6 +9,7 @@ use Rattle.topology.specs.Reader.{pick, fault, tree}
 use Rattle.regular_laws.specs.Regular.{complete, leaves}
 use Rattle.regular_laws.specs.Depth.{LeastDepth}
 use Rattle.templates.specs.Template.{bytes, filled}
+use Rattle.text.specs.Text.{Puts}
 use Rattle.lines.specs.Lines.{noLine}
 use Rattle.gathering.specs.declared.Ending.{Ending}
 use Rattle.gathering.specs.declared.Ending.the-variants.{End, Refused, Compile}
@@ -48,3 +49,9 @@ TextBy (Compile at) script source text = Table source at text
 -- the whole text of buychip
 abbrev pub Prints : List ℕ → List ℕ → Type 0
 Prints script text = TextBy (ending script (gathered script .ending)) script (gathered script .source) text
+
+-- Some text of which `Is` holds goes into a buffer at a place, as `Puts` has it in text/specs/Text.
+pub record Writes (Is : List ℕ → Type 0) (before : List ℕ) (at : ℕ) (after : List ℕ) (place : ℕ) : Type 0 where
+  pub text : List ℕ
+  pub is : Is text
+  pub puts : Puts before at text after place

@@ -11,13 +11,14 @@ use borrow.Author.Tests.{eq-eqb, ne-eqb}
 use Rattle.topology.specs.Reader.{orElse, fault}
 use Rattle.topology.proofs.Cases.{clash}
 use Rattle.topology.proofs.Lookup.{valid-length}
+use Rattle.topology.proofs.Prefix.{prefix-whole}
 use Rattle.topology.proofs.Refusals.{orElse-none}
 use Rattle.embedding_laws.specs.Least.{Found, leastOf, searchMap}
 use Rattle.embedding_search.specs.Outcomes.{outcomeBy, outcome}
 use Rattle.embedding_search.specs.declared.Outcome.{Outcome}
 use Rattle.embedding_search.specs.declared.Outcome.the-variants.{Map, NoMap, Refused as AtFault}
 use Rattle.pair_state.specs.Opening.{bothFault}
-use Rattle.pair_state.proofs.Kept.{whole, outcome-kept, both-kept, both-trees, both-whole}
+use Rattle.pair_state.proofs.Kept.{outcome-kept, both-kept, both-trees, both-whole}
 use Rattle.gathering.specs.Gathering.{gathered, limitOf, Draws}
 use Rattle.gathering.specs.declared.Drawing.{Drawing}
 use Rattle.gathering.specs.declared.Ending.{Ending}
@@ -76,7 +77,7 @@ sheet-kept s t limit offset = by-number (bothFault s t limit) refl
 
     by-outcome : (n : ℕ) → bothFault s t limit ≡ suc n → (o : Outcome) → outcome s t ≡ o → Same
     by-outcome n e Map k = refused-kept n e Map k refl
-    by-outcome n e NoMap k = let f = unmapped-trees s t k in rw (whole 32 s (f .0), whole 64 t (f .1)) refl
+    by-outcome n e NoMap k = let f = unmapped-trees s t k in rw (prefix-whole 32 s (f .0), prefix-whole 64 t (f .1)) refl
     by-outcome n e (AtFault m) k = refused-kept n e (AtFault m) k refl
 
     by-number : (n : ℕ) → bothFault s t limit ≡ n → Same

@@ -1,2 +1,3 @@
 pub mod Spacing
 pub mod Examples
+pub mod Lengths

@@ -1,14 +1,13 @@
 -- A drawing that is longer than a tree may be need not be kept whole: one byte more than the limit has the same fault, and where it has
 -- none it is whole. So the search ends alike. And the map of an opening has a place for each node.
 use mathlib.Core.Path.{_≡_, refl, sym, ap, _∙_}
-use Prim.Native.Nat.{ℕ, zero, suc, _+_, _-_, _≤_}
+use Prim.Native.Nat.{ℕ, zero, suc, _-_, _≤_}
 use native.Mathlib.Omega.{arith}
-use mathlib.Core.List.{List, [], _∷_}
+use mathlib.Core.List.{List}
 use lib.ListN.{length, take, replicate, length-append, length-replicate}
-use lib.Seq.{take-all}
-use Rattle.topology.specs.Reader.{orElse, faultAt, faultFrom, fault, after}
-use Rattle.topology.proofs.Reader.{sound}
+use Rattle.topology.specs.Reader.{orElse, fault}
 use Rattle.topology.proofs.Lookup.{valid-length}
+use Rattle.topology.proofs.Prefix.{prefix-fault, prefix-whole}
 use Rattle.topology.proofs.Refusals.{orElse-none}
 use Rattle.embedding_laws.specs.Least.{Found, nothing, list, leastOf, searchFault, padded, unlessRefused, searchMap}
 use Rattle.embedding_search.specs.Outcomes.{outcomeBy, outcome, numberOf}
@@ -16,32 +15,13 @@ use Rattle.embedding_search.proofs.Found.{outcome-number, faultless}
 use Rattle.queue_state.specs.Opening.{limitFault}
 use Rattle.pair_state.specs.Opening.{bothFault}
 
--- what comes after matters only where the first is 0
-orElse-same : (f r s : ℕ) → (f ≡ 0 → r ≡ s) → orElse f r ≡ orElse f s
-orElse-same zero r s h = h refl
-orElse-same (suc f) r s h = refl
-
-fault-part : (limit n k : ℕ) (owed bs : List ℕ) → n ≤ limit → n + k ≡ suc limit → faultFrom limit n owed (take k bs) ≡ faultFrom limit n owed bs
-fault-part limit n zero owed bs l e = absurd (omega arith)
-fault-part limit n (suc k) owed [] l e = refl
-fault-part limit n (suc k) owed (b ∷ bs) l e =
-    orElse-same (faultAt limit n (length owed) b) (faultFrom limit (suc n) (after b owed) (take k bs)) (faultFrom limit (suc n) (after b owed) bs)
-    (λ z. fault-part limit (suc n) k (after b owed) bs (sound limit n (length owed) b z .nodes) (omega arith))
-
-fault-kept : (limit : ℕ) (bytes : List ℕ) → fault limit (take (suc limit) bytes) ≡ fault limit bytes
-unfolding fault
-fault-kept limit bytes = fault-part limit 0 (suc limit) (1 ∷ []) bytes (omega arith) (omega arith)
-
-pub whole : (limit : ℕ) (bytes : List ℕ) → fault limit bytes ≡ 0 → take (suc limit) bytes ≡ bytes
-whole limit bytes e = take-all (suc limit) bytes (omega (arith, valid-length limit bytes e))
-
 pub outcome-kept : (s t : List ℕ) → outcome (take 33 s) (take 65 t) ≡ outcome s t
 unfolding outcome
-outcome-kept s t = rw (fault-kept 32 s, fault-kept 64 t) (by-fault (fault 32 s) (fault 64 t) refl refl)
+outcome-kept s t = rw (prefix-fault 32 s, prefix-fault 64 t) (by-fault (fault 32 s) (fault 64 t) refl refl)
   where
     by-fault : (f g : ℕ) → fault 32 s ≡ f → fault 64 t ≡ g
         → outcomeBy (orElse f g) (leastOf (take 33 s) (take 65 t)) ≡ outcomeBy (orElse f g) (leastOf s t)
-    by-fault zero zero e d = rw (whole 32 s e, whole 64 t d) refl
+    by-fault zero zero e d = rw (prefix-whole 32 s e, prefix-whole 64 t d) refl
     by-fault zero (suc g) e d = refl
     by-fault (suc f) g e d = refl
 
@@ -60,7 +40,7 @@ module _ (s t : List ℕ) (limit : ℕ) where
   both-trees e = faultless s t (both-found e)
 
   pub both-whole : bothFault s t limit ≡ 0 → (take 33 s ≡ s) × (take 65 t ≡ t)
-  both-whole e = let f = both-trees e in (whole 32 s (f .0), whole 64 t (f .1))
+  both-whole e = let f = both-trees e in (prefix-whole 32 s (f .0), prefix-whole 64 t (f .1))
 
   pub both-few : bothFault s t limit ≡ 0 → length s ≤ 32
   both-few e = valid-length 32 s (both-trees e .0)

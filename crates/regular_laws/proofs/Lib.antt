@@ -1,5 +1,6 @@
 pub mod Enough
 pub mod Complete
+pub mod Sizes
 pub mod Room
 pub mod Kraft
 pub mod Placement

@@ -29,8 +29,9 @@ use Rattle.pair_state.proofs.Numbers.{both-most}
 use Rattle.embedding_laws.proofs.Maps.{image-fits}
 use Rattle.embedding_search.proofs.Found.{faultless, images-pass}
 use Rattle.text.specs.Text.{decimal, hex8}
-use Rattle.lines.specs.Lines.{allSpaced, inLine, outLine, noLine, mapLine}
+use Rattle.lines.specs.Lines.{allSpaced, inLine, outLine, mapLine}
 use Rattle.text.proofs.Digits.{length-decimal, length-hex8}
+use Rattle.lines.proofs.Lengths.{no-length}
 use Rattle.commands.specs.declared.Command.{Command}
 use Rattle.commands.specs.declared.Command.the-variants.{Setup, Compile, Call as Calling}
 use Rattle.commands.specs.declared.Setup.the-variants.{Source, Target, Limit}
@@ -44,17 +45,6 @@ use Rattle.commands.proofs.Found.{within as command-within, told, further}
 use Rattle.commands.proofs.Onward.{reads-by}
 
 -- ---- the lines
-
-no-length : (n at : ℕ) → n ≤ 99 → at < 65536 → length (noLine n at) ≤ 13
-unfolding noLine
-no-length n at h g =
-    omega (
-      arith,
-      length-append (decimal n) ((32 ∷ decimal at) ++ (10 ∷ [])),
-      length-append (decimal at) (10 ∷ []),
-      length-decimal 1 n (omega arith),
-      length-decimal 4 at (omega arith),
-    )
 
 in-length : (n : ℕ) → n ≤ 256 → length (inLine n) ≤ 13
 unfolding inLine
@@ -98,7 +88,7 @@ record Short (at : ℕ) (before : Sheet) (r : Reply × Sheet) : Type 0 where
 module _ (at : ℕ) (h : at < 65536) where
   short-compiled : (s t : List ℕ) (n f : ℕ) → bothFault s t n ≡ f → Short at (drawing s t (some n)) (compiled f s t n)
   unfolding bothFault
-  short-compiled s t n (suc f) e = record { good = tt; line = omega (arith, no-length (suc f) at (omega (arith, e, both-most s t n)) h) }
+  short-compiled s t n (suc f) e = record { good = tt; line = omega (arith, no-length (suc f) at (omega (arith, e, both-most s t n)) (omega arith)) }
   short-compiled s t n zero e =
       let none = orElse-none (searchFault s t) (limitFault n) e in
       let fine = faultless s t (none .0) in
@@ -131,11 +121,11 @@ module _ (at : ℕ) (h : at < 65536) where
           → Short at (serving m steps) (served (a, n) after)
       by-answer (accepted k) n t l x e = record { good = (t, l); line = omega (arith, in-length k (omega (arith, e k refl, t .limit, l))) }
       by-answer (departed p) n t l x e = record { good = (t, l); line = omega (arith, out-length p) }
-      by-answer (refused k) n t l x e = record { good = (t, l); line = omega (arith, no-length k at (omega (arith, x)) h) }
-      by-answer (full k c) n t l x e = record { good = (t, l); line = omega (arith, no-length k at (omega (arith, x)) h) }
+      by-answer (refused k) n t l x e = record { good = (t, l); line = omega (arith, no-length k at (omega (arith, x)) (omega arith)) }
+      by-answer (full k c) n t l x e = record { good = (t, l); line = omega (arith, no-length k at (omega (arith, x)) (omega arith)) }
 
   out-of-turn : (sheet : Sheet) → Good sheet → Short at sheet (no-by 22, sheet)
-  out-of-turn sheet g = record { good = g; line = omega (arith, no-length 22 at (omega arith) h) }
+  out-of-turn sheet g = record { good = g; line = omega (arith, no-length 22 at (omega arith) (omega arith)) }
 
   short : (sheet : Sheet) (c : Command) → Good sheet → Short at sheet (obey sheet c)
   unfolding obey

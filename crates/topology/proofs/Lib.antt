@@ -10,3 +10,4 @@ pub mod Cases
 pub mod Progress
 pub mod Lookup
 pub mod Refusals
+pub mod Prefix

@@ -18,6 +18,11 @@ pub orElse-first : (f r : ℕ) → f ≢ 0 → f ≡ orElse f r
 orElse-first zero r z = absurd (z refl)
 orElse-first (suc f) r z = refl
 
+-- nothing after it
+pub orElse-last : (f : ℕ) → orElse f 0 ≡ f
+orElse-last zero = refl
+orElse-last (suc f) = refl
+
 pub orElse-most : (k f r : ℕ) → f ≤ k → r ≤ k → orElse f r ≤ k
 orElse-most k zero r h g = g
 orElse-most k (suc f) r h g = h

@@ -1,0 +1,14 @@
+// Buychip: which regular chip to buy for a script's source. It reads the script as gatewalk does, from standard input, the first 65,536 bytes at
+// most, and writes the table.
+fn walk(input: &mut [u8], text: &mut [u8]) {
+    let n = io::read_full(0, input);
+    let end = chip_table::put_table(&input[..n], text);
+    stream::print(&text[..end]);
+}
+
+// The table fits: seven lines of at most 50 bytes (`table-fits` in chip_table/proofs/Lengths).
+fn main() {
+    let mut input = [0u8; 65536];
+    let mut text = [0u8; 350];
+    walk(&mut input, &mut text);
+}

@@ -1,0 +1,6 @@
+pub mod Sizes
+pub mod Lines
+pub mod Endings
+pub mod Once
+pub mod Lengths
+pub mod Examples
