@@ -50,7 +50,7 @@ fn overgrown(random: &mut Random) -> Vec<u8> {
 }
 
 /// A tree that suffered one accident.
-fn damaged(random: &mut Random, healthy: fn(&mut Random) -> Vec<u8>) -> Vec<u8> {
+pub fn damaged(random: &mut Random, healthy: impl FnOnce(&mut Random) -> Vec<u8>) -> Vec<u8> {
     let mut bytes = healthy(random);
     let length = bytes.len();
     match random.below(4) {
@@ -85,6 +85,24 @@ fn noise(random: &mut Random, highest: usize) -> Vec<u8> {
 /// A tree of that many nodes, one below the other.
 pub fn chain(nodes: usize) -> Vec<u8> {
     [vec![1; nodes - 1], vec![0]].concat()
+}
+
+/// A tree of at most `nodes` nodes for which a regular chip must be deep: it is
+/// made from below, of one or two like branches and some leaves to each node.
+pub fn steep(random: &mut Random, nodes: usize) -> Vec<u8> {
+    let any = random.within(0..=MOST_STEPS_DOWN);
+    let mut tree = vec![0];
+    for _ in 0..random.pick(&[any, MOST_STEPS_DOWN]) {
+        let branches = random.pick(&[1, 1, 1, 2]);
+        let leaves = random.pick(&[0, 1, 1, 1, 1, 2, 3, 4]);
+        let mut above = vec![(branches + leaves) as u8];
+        above.extend(tree.repeat(branches));
+        above.resize(above.len() + leaves, 0);
+        if above.len() <= nodes {
+            tree = above;
+        }
+    }
+    tree
 }
 
 /// All trees of that many nodes.

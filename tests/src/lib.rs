@@ -26,6 +26,7 @@ pub mod rattle_translator;
 pub mod rattle_tree;
 pub mod reached;
 pub mod reduced;
+pub mod regular;
 pub mod requests;
 pub mod rules;
 pub mod samples;
