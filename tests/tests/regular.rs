@@ -3,7 +3,7 @@
 //! of that depth and of every smaller one. The first difference ends the run.
 
 use linduvar_tests::embedding::Pair;
-use linduvar_tests::generate::{self, all_trees, chain, steep};
+use linduvar_tests::generate::{self, all_trees, chain, deepest, steep};
 use linduvar_tests::pairs::drawing;
 use linduvar_tests::random::{seeded, Random};
 use linduvar_tests::rattle_embedding;
@@ -26,8 +26,8 @@ const TINY_CHIP: usize = 15;
 /// The second implementation's search numbers nodes by bytes, and 255 is none.
 const MOST_PLACES: usize = PASSED_OVER as usize;
 
-/// The greatest depth that any drawing needs.
-const DEEPEST: usize = 11;
+/// The greatest depth that any drawing needs, for each d.
+const DEEPEST: [usize; 7] = [11, 10, 9, 9, 9, 9, 8];
 
 /// Each answer must be met this often.
 const OFTEN_ENOUGH: usize = 10;
@@ -68,11 +68,7 @@ fn examples(seed: u64) {
     depths(&[3, 2, 0, 0, 2, 0, 0, 0], [3, 2, 2, 2, 2, 2, 2]);
     // Eight steps down with a leaf beside each.
     depths(&[[2, 0].repeat(8), vec![0]].concat(), [8; 7]);
-    // As deep as it gets: two fans of five and a leaf, below six forks.
-    let fan = [5, 0, 0, 0, 0, 0];
-    let fans = [&[3], &fan[..], &fan, &[0]].concat();
-    let deep = [[2, 0].repeat(6), fans].concat();
-    depths(&deep, [DEEPEST, 9, 9, 8, 8, 8, 8]);
+    depths(&deepest(), [11, 9, 9, 8, 8, 8, 8]);
 
     // The drawing is tested first, then d.
     let mut refused = |source: &[u8], d: usize, refusal: u8| {
@@ -286,18 +282,14 @@ impl Comparison {
             let met = self.refusals.get(&refusal).copied().unwrap_or(0);
             assert!(met >= OFTEN_ENOUGH, "{refusal} was met only {met} times");
         }
-        for d in CHILDREN {
-            for depth in 0..=8 {
+        for (d, deepest) in CHILDREN.zip(DEEPEST) {
+            for depth in 0..=deepest {
                 let met = self.depths.get(&(d, depth)).copied().unwrap_or(0);
                 assert!(met >= OFTEN_ENOUGH, "d {d}, depth {depth}: only {met}");
             }
+            let deeper = self.depths.range((d, deepest + 1)..(d + 1, 0)).next();
+            assert_eq!(deeper, None, "deeper than any drawing needs");
         }
-        for depth in 0..=DEEPEST {
-            let met = self.depths.get(&(2, depth)).copied().unwrap_or(0);
-            assert!(met >= OFTEN_ENOUGH, "d 2, depth {depth}: only {met}");
-        }
-        let deepest = self.depths.keys().map(|&(_, depth)| depth).max();
-        assert_eq!(deepest, Some(DEEPEST));
         for met in [self.maps, self.no_maps, self.beyond] {
             assert!(met >= OFTEN_ENOUGH, "only {met} complete trees of a kind");
         }
