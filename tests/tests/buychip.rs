@@ -162,7 +162,7 @@ impl Comparison {
             let met = self.refusals.get(&refusal).copied().unwrap_or(0);
             assert!(met >= OFTEN_ENOUGH, "{refusal} was met only {met} times");
         }
-        for depth in 0..=9 {
+        for depth in 0..=11 {
             let met = self.depths.get(&depth).copied().unwrap_or(0);
             assert!(met >= OFTEN_ENOUGH, "depth {depth}: only {met}");
         }

@@ -26,7 +26,8 @@ const TINY_CHIP: usize = 15;
 /// The second implementation's search numbers nodes by bytes, and 255 is none.
 const MOST_PLACES: usize = PASSED_OVER as usize;
 
-/// The greatest depth that any drawing needs, for each d.
+/// The greatest depth that any drawing needs, for each d: found from below, by how
+/// few nodes within so many steps need each depth.
 const DEEPEST: [usize; 7] = [11, 10, 9, 9, 9, 9, 8];
 
 /// Each answer must be met this often.
@@ -163,7 +164,7 @@ fn any_drawing(random: &mut Random) -> Vec<u8> {
 /// Asks both sides, and counts how often each answer was met.
 struct Comparison {
     seed: u64,
-    drawings: usize,
+    calls: usize,
     refusals: BTreeMap<u8, usize>,
     /// By d and by depth.
     depths: BTreeMap<(usize, usize), usize>,
@@ -181,7 +182,7 @@ impl Comparison {
     fn new(seed: u64) -> Comparison {
         Comparison {
             seed,
-            drawings: 0,
+            calls: 0,
             refusals: BTreeMap::new(),
             depths: BTreeMap::new(),
             maps: 0,
@@ -211,7 +212,7 @@ impl Comparison {
                 self.seed
             );
         }
-        self.drawings += 1;
+        self.calls += 1;
         match rust {
             Ok(depth) => *self.depths.entry((d, depth)).or_default() += 1,
             Err(refusal) => *self.refusals.entry(refusal).or_default() += 1,
@@ -258,7 +259,7 @@ impl Comparison {
     }
 
     fn print(&self, what: &str) {
-        println!("{what}: {} calls; how many met each answer:", self.drawings);
+        println!("{what}: {} calls; how many met each answer:", self.calls);
         let refusals = self.refusals.iter();
         let refusals: Vec<String> = refusals
             .map(|(refusal, met)| format!("{refusal}: {met}"))
