@@ -1,4 +1,5 @@
-//! Starts the program gatewalk, or drawtrees, and sends a script down its pipe.
+//! Starts the program gatewalk, drawtrees or buychip, and sends a script down its
+//! pipe.
 
 use std::io::{self, ErrorKind, Read, Write};
 use std::path::{Path, PathBuf};
@@ -18,8 +19,12 @@ pub fn walk_slowly(write: impl FnOnce(&mut dyn Write) -> io::Result<()> + Send) 
 
 /// What drawtrees prints for a script.
 pub fn drawn(script: &[u8]) -> Vec<u8> {
-    let program = Path::new(env!("CARGO_MANIFEST_DIR")).join("../target/bin/drawtrees");
-    output_of(there(program), |input| input.write_all(script))
+    output_of(built("drawtrees"), |input| input.write_all(script))
+}
+
+/// What buychip prints for a script.
+pub fn bought(script: &[u8]) -> Vec<u8> {
+    output_of(built("buychip"), |input| input.write_all(script))
 }
 
 fn output_of(
@@ -91,10 +96,16 @@ pub fn end(script: &[u8], streams: &str, taken: u64) -> (ExitStatus, String) {
 
 /// The program, or another in its place.
 pub fn program() -> PathBuf {
-    there(match env::var_os("LINDUVAR_GATEWALK") {
-        Some(path) => PathBuf::from(path),
-        None => Path::new(env!("CARGO_MANIFEST_DIR")).join("../target/bin/gatewalk"),
-    })
+    match env::var_os("LINDUVAR_GATEWALK") {
+        Some(path) => there(PathBuf::from(path)),
+        None => built("gatewalk"),
+    }
+}
+
+/// A program of that name, as `rt check` has made it.
+fn built(name: &str) -> PathBuf {
+    let folder = Path::new(env!("CARGO_MANIFEST_DIR")).join("../target/bin");
+    there(folder.join(name))
 }
 
 fn there(program: PathBuf) -> PathBuf {

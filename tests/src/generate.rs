@@ -50,7 +50,7 @@ fn overgrown(random: &mut Random) -> Vec<u8> {
 }
 
 /// A tree that suffered one accident.
-fn damaged(random: &mut Random, healthy: fn(&mut Random) -> Vec<u8>) -> Vec<u8> {
+pub fn damaged(random: &mut Random, healthy: impl FnOnce(&mut Random) -> Vec<u8>) -> Vec<u8> {
     let mut bytes = healthy(random);
     let length = bytes.len();
     match random.below(4) {
@@ -85,6 +85,45 @@ fn noise(random: &mut Random, highest: usize) -> Vec<u8> {
 /// A tree of that many nodes, one below the other.
 pub fn chain(nodes: usize) -> Vec<u8> {
     [vec![1; nodes - 1], vec![0]].concat()
+}
+
+/// A tree of at most `nodes` nodes for which a regular chip must be deep. It is
+/// made from below: leaves, then one node over another, each over a few like
+/// branches and some leaves, and at last over one branch and one leaf.
+pub fn steep(random: &mut Random, nodes: usize) -> Vec<u8> {
+    let mut tree = over(&[], 0, random.within(0..=MOST_CHILDREN));
+    let forks = random.below(MOST_STEPS_DOWN);
+    for step in 1..MOST_STEPS_DOWN {
+        let branches = random.pick(&[1, 1, 2, 3]);
+        let leaves = random.pick(&[0, 1, 1, 1, 2, 3, 4]);
+        let above = match step < forks {
+            true => over(&tree, branches, leaves),
+            false => over(&tree, 1, 1),
+        };
+        if above.len() <= nodes {
+            tree = above;
+        }
+        if random.one_in(20) {
+            break;
+        }
+    }
+    tree
+}
+
+/// 32 nodes for which a chip with two children at each inner node must be as deep
+/// as it gets, 11: two fans of five and a leaf, below six nodes with two leaves
+/// each.
+pub fn deepest() -> Vec<u8> {
+    let fan = over(&[], 0, 5);
+    (0..6).fold(over(&fan, 2, 1), |tree, _| over(&tree, 1, 2))
+}
+
+/// A node over so many like branches, and over so many leaves after them.
+fn over(branch: &[u8], branches: usize, leaves: usize) -> Vec<u8> {
+    let mut bytes = vec![(branches + leaves) as u8];
+    bytes.extend(branch.repeat(branches));
+    bytes.resize(bytes.len() + leaves, 0);
+    bytes
 }
 
 /// All trees of that many nodes.

@@ -1,9 +1,10 @@
 //! A second implementation of the topology reader, of the search with its map
-//! check, of the queue tree, of the carrying of a path, of disciplines and of
-//! gatewalk, written from the papers, and what it takes to compare them with
-//! those proved in Rattle.
+//! check, of the least depth of a regular chip, of the queue tree, of the carrying
+//! of a path, of disciplines and of the programs, written from the papers, and what
+//! it takes to compare them with those proved in Rattle.
 
 pub mod both_trees;
+pub mod buychip;
 pub mod commands;
 pub mod drawing;
 pub mod embedding;
@@ -26,6 +27,7 @@ pub mod rattle_translator;
 pub mod rattle_tree;
 pub mod reached;
 pub mod reduced;
+pub mod regular;
 pub mod requests;
 pub mod rules;
 pub mod samples;

@@ -1,5 +1,5 @@
-//! The map check and the search of the Rattle library, made safe to call on
-//! slices.
+//! The map check, the search and the least depth of the Rattle library, made safe
+//! to call on slices.
 
 mod boundary {
     extern "C" {
@@ -19,12 +19,18 @@ mod boundary {
             map: *mut u8,
             map_len: usize,
         ) -> u8;
+        pub fn linduvar_least_depth(
+            source: *const u8,
+            source_len: usize,
+            d: usize,
+            depth: *mut usize,
+        ) -> u8;
     }
 }
 
-// Safety, for both calls below: each pointer and the length after it are those
+// Safety, for the calls below: each pointer and the length after it are those
 // of one slice, which outlives the call. The library writes to the map of a
-// search alone, and that is borrowed for writing.
+// search and to a depth alone, and these are borrowed for writing.
 
 /// 0 if the map passes, else the refusal.
 pub fn check(source: &[u8], target: &[u8], map: &[u8]) -> u8 {
@@ -53,4 +59,10 @@ pub fn search(source: &[u8], target: &[u8], map: &mut [u8]) -> u8 {
             map.len(),
         )
     }
+}
+
+/// 0 and the least depth of a complete tree in `depth`, or the refusal. Nothing
+/// is written unless it is 0.
+pub fn least_depth(source: &[u8], d: usize, depth: &mut usize) -> u8 {
+    unsafe { boundary::linduvar_least_depth(source.as_ptr(), source.len(), d, depth) }
 }

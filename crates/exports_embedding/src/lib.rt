@@ -1,11 +1,13 @@
 // The calls on maps for a program in C or Rust, on numbers and byte slices: what `tests/` links and compares.
 use embedding::Checked;
+use regular::Depth;
 ghost use mathlib.Core.Path.{_≡_};
 ghost use Prim.Native.Nat.{_≤_};
 ghost use mathlib.Core.List.{_++_};
 ghost use lib.ListN.{length, drop};
 ghost use Rattle.embedding_laws.specs.Check.{mapFault};
 ghost use Rattle.exports_embedding.specs.Search.{searchNumber, searchOut};
+ghost use Rattle.exports_embedding.specs.LeastDepth.{GivesDepth};
 
 // The refusal of a list as a map of the source into the target, or 0.
 #[no_mangle]
@@ -48,4 +50,19 @@ pub extern "C" fn linduvar_search(source: &[u8], target: &[u8], out: &mut [u8]) 
     let map = found.map;
     put_map(map, out);
     0
+}
+
+// The refusal of a drawing and a number d of children, or 0, and then in `depth` the least depth of a complete tree, with d children at each inner
+// node, into which the drawing has a map. Nothing is written unless the answer is 0.
+#[no_mangle]
+pub extern "C" fn linduvar_least_depth(source: &[u8], d: usize, depth: &mut usize) -> u8
+    ensures { λ r. ⌜ GivesDepth (now (source .entry)) d r (now (depth .entry)) (now (depth .exit)) ⌝ }
+{
+    match regular::least_depth(source, d) {
+        Depth::Least(least) => {
+            *depth = least;
+            0
+        }
+        Depth::Refused(number) => number,
+    }
 }

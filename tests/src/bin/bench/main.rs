@@ -3,6 +3,7 @@
 mod copies;
 mod embedding;
 mod queue_tree;
+mod regular;
 mod scheduler;
 mod stack;
 mod topology;
@@ -24,6 +25,7 @@ fn main() {
     println!("and in brackets the time of Rattle over that of Rust");
     topology::run(&mut random);
     embedding::run(&mut random);
+    regular::run(&mut random);
     queue_tree::run(&mut random);
     scheduler::run();
     translator::run(&mut random);
