@@ -34,8 +34,8 @@ TableBy (suc f) source at text = text ≡ noLine (suc f) at
 abbrev pub Table : List ℕ → ℕ → List ℕ → Type 0
 Table source at text = TableBy (fault 32 source) source at text
 
--- How the commands before 04 end here. Of the 04s gatewalk refuses one without a limit, and no other (`unlimited` in proofs/Unlimited). A buyer has no
--- limit to give, so that 04 counts.
+-- How the commands before 04 end here. An 04 is out of turn only for want of a limit (`unlimited` in proofs/Unlimited), and a buyer has none to give, so
+-- that it counts.
 abbrev pub ending : List ℕ → Ending → Ending
 ending script End = End
 ending script (Refused n at) = pick (eqb (getD script at 0) 4) (Compile at) (Refused n at)
