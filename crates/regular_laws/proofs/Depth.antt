@@ -4,8 +4,7 @@ use mathlib.Core.Logic.{_↔_, _≢_}
 use Prim.Native.Nat.{ℕ, _≤_, _<_}
 use native.Mathlib.Decide.{ℕ-discrete, decLt}
 use native.Mathlib.Omega.{arith}
-use mathlib.Core.List.{List, [], _∷_, append-nil}
-use lib.ListN.{length, length-append}
+use mathlib.Core.List.{List, [], append-nil}
 use Rattle.lists.proofs.Tabulate.{tabulate, length-tabulate, getD-tabulate}
 use Rattle.topology.specs.Tree.{Topo, Forest, node, fnil, fcons, width, size, code}
 use Rattle.topology.specs.Address.{Addr, In, Above, addr, num}

@@ -10,7 +10,7 @@ use Prim.Native.Nat.{ℕ, zero, suc, _+_, _-_, _^_, _≤_, _<_}
 use native.Mathlib.Nat.{not-suc-le-zero, le-of-suc-le-suc}
 use native.Mathlib.Decide.{ℕ-discrete}
 use native.Mathlib.Omega.{arith}
-use mathlib.Core.List.{List, [], _∷_, _++_, append-assoc, append-cancel-left}
+use mathlib.Core.List.{[], _∷_, _++_, append-assoc, append-cancel-left}
 use mathlib.Core.Bool.{true}
 use lib.ListN.{length, getD, drop, length-append}
 use lib.Seq.{drop-length, drop-append-seam}
@@ -59,15 +59,15 @@ forked-nth fnil f i l = absurd (not-suc-le-zero l)
 forked-nth (fcons t ts) f zero l = f .0
 forked-nth (fcons t ts) f (suc i) l = forked-nth ts (f .1) i (le-of-suc-le-suc l)
 
--- the way down to child i's branch, where the children need hs: `way` of proofs/Placement at the depth that their parent needs
-abbrev wayOf : ℕ → List ℕ → ℕ → Addr
-wayOf d hs i = wayTo d (enough d (sum (powers d hs)) - getD hs i 0) (slot d hs i)
+-- the way down to the branch of the child at index i: `way` of proofs/Placement at the depth that the parent needs
+abbrev wayOf : ℕ → Forest → ℕ → Addr
+wayOf d ts i = wayTo d (need d (node ts) - getD (needs d ts) i 0) (slot d (needs d ts) i)
 
 -- where address a goes: each step down by the way of the child's branch
 abbrev pub put : ℕ → Topo → Addr → Addr
 put d t [] = []
 put d t (zero ∷ a) = []
-put d t (suc i ∷ a) = wayOf d (needs d (kids t)) i ++ put d (nth (kids t) i) a
+put d t (suc i ∷ a) = wayOf d (kids t) i ++ put d (nth (kids t) i) a
 
 module _ (d : ℕ) (z : 2 ≤ d) where
   -- the laws of the placement at one node with children
@@ -78,20 +78,20 @@ module _ (d : ℕ) (z : 2 ≤ d) where
     in-list : (j : ℕ) → j < count ts → j < length (needs d ts)
     in-list j g = omega (arith, length-needs d ts)
 
-    way-there : In (complete d (need d (node ts))) (wayOf d (needs d ts) i)
+    way-there : In (complete d (need d (node ts))) (wayOf d ts i)
     way-there = placed-in d z (needs d ts) (need d (node ts)) has-room i (in-list i l) .0
 
-    way-sub : sub (complete d (need d (node ts))) (wayOf d (needs d ts) i) ≡ complete d (need d (nth ts i))
+    way-sub : sub (complete d (need d (node ts))) (wayOf d ts i) ≡ complete d (need d (nth ts i))
     way-sub = placed-in d z (needs d ts) (need d (node ts)) has-room i (in-list i l) .1 ∙ ap (complete d) (needs-nth d ts i l)
 
-    way-apart : (j : ℕ) → j < count ts → i ≢ j → Above (wayOf d (needs d ts) i) (wayOf d (needs d ts) j) → ⊥
+    way-apart : (j : ℕ) → j < count ts → i ≢ j → Above (wayOf d ts i) (wayOf d ts j) → ⊥
     way-apart j g n u = placed-apart d z (needs d ts) (need d (node ts)) has-room i j (in-list i l) (in-list j g) n u
 
     -- where there is another child, the way is not empty
-    way-strict : count ts ≢ 1 → 0 < length (wayOf d (needs d ts) i)
+    way-strict : count ts ≢ 1 → 0 < length (wayOf d ts i)
     way-strict n = by-index (ℕ-discrete i 0)
       where
-        beside : (j : ℕ) → j < count ts → i ≢ j → 0 < length (wayOf d (needs d ts) i)
+        beside : (j : ℕ) → j < count ts → i ≢ j → 0 < length (wayOf d ts i)
         beside j g ne =
             omega (
               arith,
@@ -99,7 +99,7 @@ module _ (d : ℕ) (z : 2 ≤ d) where
               placed-lower d z (needs d ts) (need d (node ts)) has-room i j (in-list i l) (in-list j g) ne,
             )
 
-        by-index : Dec (i ≡ 0) → 0 < length (wayOf d (needs d ts) i)
+        by-index : Dec (i ≡ 0) → 0 < length (wayOf d ts i)
         by-index (yes e) = beside 1 (omega (arith, n)) (λ q. omega arith)
         by-index (no e) = beside 0 (omega arith) e
 
@@ -107,7 +107,7 @@ module _ (d : ℕ) (z : 2 ≤ d) where
   put-there [] t i = tt
   put-there (zero ∷ a) t i = absurd (not-suc-le-zero (i .0))
   put-there (suc k ∷ a) (node ts) (p, l, i) =
-      in-join (complete d (need d (node ts))) (wayOf d (needs d ts) k) (put d (nth ts k) a) (way-there ts k l)
+      in-join (complete d (need d (node ts))) (wayOf d ts k) (put d (nth ts k) a) (way-there ts k l)
       (subst (λ (u : Topo). In u (put d (nth ts k) a)) (sym (way-sub ts k l)) (put-there a (nth ts k) i))
 
   put-leaf : (a : Addr) (t : Topo) → In t a → width (sub t a) ≡ 0 → width (sub (complete d (need d t)) (put d t a)) ≡ 0
@@ -116,7 +116,7 @@ module _ (d : ℕ) (z : 2 ≤ d) where
   put-leaf [] (node (fcons t ts)) i e = absurd (omega arith)
   put-leaf (zero ∷ a) t i e = absurd (not-suc-le-zero (i .0))
   put-leaf (suc k ∷ a) (node ts) (p, l, i) e =
-      ap width (sub-append (complete d (need d (node ts))) (wayOf d (needs d ts) k) (put d (nth ts k) a))
+      ap width (sub-append (complete d (need d (node ts))) (wayOf d ts k) (put d (nth ts k) a))
       ∙ ap (λ (u : Topo). width (sub u (put d (nth ts k) a))) (way-sub ts k l)
       ∙ put-leaf a (nth ts k) i e
 
@@ -125,13 +125,13 @@ module _ (d : ℕ) (z : 2 ≤ d) where
   put-down (zero ∷ a) e t i = absurd (not-suc-le-zero (i .0))
   put-down (suc k ∷ a) e (node ts) (p, l, i) =
       let r = put-down a e (nth ts k) i in
-      (r .0, ap (λ (x : Addr). wayOf d (needs d ts) k ++ x) (r .1) ∙ sym (append-assoc (wayOf d (needs d ts) k) (put d (nth ts k) a) (r .0)))
+      (r .0, ap (λ (x : Addr). wayOf d ts k ++ x) (r .1) ∙ sym (append-assoc (wayOf d ts k) (put d (nth ts k) a) (r .0)))
 
   put-up : (a b : Addr) (t : Topo) → Forked t → In t a → In t b → Above (put d t a) (put d t b) → Above a b
   put-up [] b t f i j u = (b, refl)
   put-up (zero ∷ a) b t f i j u = absurd (not-suc-le-zero (i .0))
   put-up (suc k ∷ a) [] (node ts) f i j u =
-      let w = wayOf d (needs d ts) k in
+      let w = wayOf d ts k in
       let p = put d (nth ts k) a in
       absurd (omega (arith, ap length (u .1), length-append (w ++ p) (u .0), length-append w p, way-strict ts k (i .1) (f .0)))
   put-up (suc k ∷ a) (zero ∷ b) t f i j u = absurd (not-suc-le-zero (j .0))
@@ -139,18 +139,18 @@ module _ (d : ℕ) (z : 2 ≤ d) where
     where
       by-child : Dec (k ≡ n) → (In (nth ts k) b → Above (put d (nth ts k) a) (put d (nth ts k) b) → Above a b) → Above (suc k ∷ a) (suc n ∷ b)
       by-child (yes e) r =
-          let v : Above (wayOf d (needs d ts) k ++ put d (nth ts k) a) (wayOf d (needs d ts) k ++ put d (nth ts k) b) =
-          subst (λ (x : ℕ). Above (wayOf d (needs d ts) k ++ put d (nth ts k) a) (wayOf d (needs d ts) x ++ put d (nth ts x) b)) (sym e) u in
+          let v : Above (wayOf d ts k ++ put d (nth ts k) a) (wayOf d ts k ++ put d (nth ts k) b) =
+          subst (λ (x : ℕ). Above (wayOf d ts k ++ put d (nth ts k) a) (wayOf d ts x ++ put d (nth ts x) b)) (sym e) u in
           let w : put d (nth ts k) b ≡ put d (nth ts k) a ++ v .0 =
-          append-cancel-left (wayOf d (needs d ts) k) (put d (nth ts k) b) (put d (nth ts k) a ++ v .0) (v .1 ∙ append-assoc (wayOf d (needs d ts) k) (put d (nth ts k) a) (v .0)) in
+          append-cancel-left (wayOf d ts k) (put d (nth ts k) b) (put d (nth ts k) a ++ v .0) (v .1 ∙ append-assoc (wayOf d ts k) (put d (nth ts k) a) (v .0)) in
           let s = r (subst (λ (x : ℕ). In (nth ts x) b) (sym e) j) (v .0, w) in
           (s .0, ap₂ (λ (x : ℕ) (c : Addr). suc x ∷ c) (sym e) (s .1))
-      by-child (no e) r = absurd (by-order (above-either (wayOf d (needs d ts) k) (wayOf d (needs d ts) n) (wayOf d (needs d ts) n ++ put d (nth ts n) b) over (put d (nth ts n) b, refl)))
+      by-child (no e) r = absurd (by-order (above-either (wayOf d ts k) (wayOf d ts n) (wayOf d ts n ++ put d (nth ts n) b) over (put d (nth ts n) b, refl)))
         where
-          over : Above (wayOf d (needs d ts) k) (wayOf d (needs d ts) n ++ put d (nth ts n) b)
-          over = above-trans (wayOf d (needs d ts) k) (wayOf d (needs d ts) k ++ put d (nth ts k) a) (wayOf d (needs d ts) n ++ put d (nth ts n) b) (put d (nth ts k) a, refl) u
+          over : Above (wayOf d ts k) (wayOf d ts n ++ put d (nth ts n) b)
+          over = above-trans (wayOf d ts k) (wayOf d ts k ++ put d (nth ts k) a) (wayOf d ts n ++ put d (nth ts n) b) (put d (nth ts k) a, refl) u
 
-          by-order : Above (wayOf d (needs d ts) k) (wayOf d (needs d ts) n) ⊎ Above (wayOf d (needs d ts) n) (wayOf d (needs d ts) k) → ⊥
+          by-order : Above (wayOf d ts k) (wayOf d ts n) ⊎ Above (wayOf d ts n) (wayOf d ts k) → ⊥
           by-order (inl v) = way-apart ts k l n g e v
           by-order (inr v) = way-apart ts n g k l (λ x. e (sym x)) v
 

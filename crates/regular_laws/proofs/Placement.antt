@@ -6,7 +6,7 @@
 use mathlib.Core.Path.{_≡_, refl, sym, ap, ap₂, _∙_, subst}
 use mathlib.Core.Logic.{_≢_, _⊎_, inl, inr}
 use Prim.Native.Nat.{ℕ, zero, suc, _+_, _-_, _*_, _/_, _%_, _^_, _≤_, _<_}
-use native.Mathlib.Nat.{not-suc-le-zero, le-of-suc-le-suc, mod-lt, div-add-mod, add-mul, suc-mul, mul-suc, mul-assoc, mul-comm, mul-le-mul-left, lt-of-mul-lt-mul-right, le-of-mul-le-mul-right, pow-zero, pow-succ', pow-le-pow-right}
+use native.Mathlib.Nat.{mod-lt, div-add-mod, suc-mul, mul-suc, mul-assoc, mul-comm, mul-le-mul-left, lt-of-mul-lt-mul-right, le-of-mul-le-mul-right, pow-zero, pow-succ', pow-le-pow-right}
 use native.Mathlib.Decide.{decLe, decLt}
 use native.Mathlib.Omega.{arith}
 use mathlib.Core.List.{List, [], _∷_, _++_, append-assoc, append-nil}
@@ -18,7 +18,6 @@ use borrow.Author.Tests.{eq-eqb, lt-ltb, le-ltb, eqb-true, ltb-true}
 use Rattle.lists.proofs.Last.{last-unique}
 use Rattle.topology.specs.Tree.{Topo, width}
 use Rattle.topology.specs.Address.{Addr, child, In, sub, Above}
-use Rattle.topology.specs.Reader.{pick}
 use Rattle.topology.proofs.Ancestry.{in-join, sub-append}
 use Rattle.topology.proofs.Order.{above-same}
 use Rattle.regular_laws.specs.Regular.{complete}
