@@ -29,8 +29,9 @@ mod boundary {
 }
 
 // Safety, for the calls below: each pointer and the length after it are those
-// of one slice, which outlives the call. The library writes to the map of a
-// search and to a depth alone, and these are borrowed for writing.
+// of one slice, which outlives the call, and `depth` is one number that does. The
+// library writes to the map of a search and to a depth alone, and these are
+// borrowed for writing.
 
 /// 0 if the map passes, else the refusal.
 pub fn check(source: &[u8], target: &[u8], map: &[u8]) -> u8 {

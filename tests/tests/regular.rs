@@ -26,8 +26,9 @@ const TINY_CHIP: usize = 15;
 /// The second implementation's search numbers nodes by bytes, and 255 is none.
 const MOST_PLACES: usize = PASSED_OVER as usize;
 
-/// The greatest depth that any drawing needs, for each d: found from below, by how
-/// few nodes within so many steps need each depth.
+/// The greatest depth that any drawing needs, for each d, as a table of how few
+/// nodes within so many steps need each depth gave it. That table is not kept
+/// here; a drawing that needs more would be seen.
 const DEEPEST: [usize; 7] = [11, 10, 9, 9, 9, 9, 8];
 
 /// Each answer must be met this often.
@@ -62,7 +63,8 @@ fn examples(seed: u64) {
     depths(&[1, 3, 0, 1, 0, 0], [2, 1, 1, 1, 1, 1, 1]);
     depths(&[2, 0, 0], [1; 7]);
     depths(&[8, 0, 0, 0, 0, 0, 0, 0, 0], [3, 2, 2, 2, 2, 2, 1]);
-    // A fork below a fork leaves three quarters of the leaves to others.
+    // A fork below a fork takes the whole branch of one chip node, however many
+    // children that has.
     depths(&[2, 2, 0, 0, 0], [2; 7]);
     depths(&[2, 2, 0, 0, 2, 0, 0], [2; 7]);
     depths(&[3, 2, 0, 0, 0, 0], [2; 7]);
@@ -123,6 +125,8 @@ fn every_small_drawing(seed: u64) {
         }
     }
     comparison.print("every drawing of up to 10 nodes");
+    comparison.require_searches();
+    assert!(comparison.tried >= OFTEN_ENOUGH, "lists were not tried");
 }
 
 /// Random drawings, shallow and steep, and damaged ones.
@@ -291,6 +295,10 @@ impl Comparison {
             let deeper = self.depths.range((d, deepest + 1)..(d + 1, 0)).next();
             assert_eq!(deeper, None, "deeper than any drawing needs");
         }
+        self.require_searches();
+    }
+
+    fn require_searches(&self) {
         for met in [self.maps, self.no_maps, self.beyond] {
             assert!(met >= OFTEN_ENOUGH, "only {met} complete trees of a kind");
         }

@@ -27,12 +27,13 @@ use Rattle.gathering.specs.declared.Ending.{Ending}
 use Rattle.gathering.specs.declared.Ending.the-variants.{End, Refused, Compile}
 use Rattle.chip_table.specs.Table.{chipLine, chipLines, TableBy, ending, TextBy, Prints}
 use Rattle.chip_table.proofs.Lines.{depth-is, depth-room}
+use Rattle.regular_laws.specs.Need.{mostLeaves}
 
-line-most : (d k : ℕ) → 2 ≤ d → d ≤ 8 → k ≤ 13 → d ^ k ≤ 536870912 → length (chipLine d k) ≤ 50
+line-most : (d k : ℕ) → 2 ≤ d → d ≤ 8 → k ≤ 13 → d ^ k ≤ mostLeaves → length (chipLine d k) ≤ 50
 unfolding chipLine filled decimal decimalLast
 line-most d k z h g most =
     filled-most (bytes "d #: depth #, # nodes, # leaves\n") (d ∷ k ∷ size (complete d k) ∷ leaves (complete d k) ∷ [])
-    (8 ∷ 13 ∷ 1073741823 ∷ 536870912 ∷ [])
+    (8 ∷ 13 ∷ 1073741823 ∷ mostLeaves ∷ [])
     (h, (g, (omega (arith, size-most d z k, most), (omega (arith, leaves-complete d (omega arith) k, most), tt)))) 0
 
 module _ (source : List ℕ) (f : fault 32 source ≡ 0) (depth : ℕ → ℕ)

@@ -11,7 +11,7 @@ use Rattle.topology.specs.Reader.{fault, tree}
 use Rattle.topology.proofs.Reader.{within}
 use Rattle.topology.proofs.Refusals.{orElse-last}
 use Rattle.regular_laws.specs.Depth.{LeastDepth, depthFault}
-use Rattle.regular_laws.specs.Need.{need}
+use Rattle.regular_laws.specs.Need.{need, mostLeaves}
 use Rattle.regular_laws.proofs.Depth.{depth-once}
 use Rattle.regular_laws.proofs.Passed.{depth-needed}
 use Rattle.regular_laws.proofs.Bounds.{need-most}
@@ -41,7 +41,7 @@ module _ (source : List ℕ) (d : ℕ) (from : 2 ≤ d) (to : d ≤ 8) where
   depth-is k l = depth-once (tree source) d k (need d (tree source)) l (depth-needed d from (tree source))
 
   -- a chip of the least depth has at most 2 ^ 29 leaves
-  pub depth-room : fault 32 source ≡ 0 → (k : ℕ) → LeastDepth (tree source) d k → d ^ k ≤ 536870912
+  pub depth-room : fault 32 source ≡ 0 → (k : ℕ) → LeastDepth (tree source) d k → d ^ k ≤ mostLeaves
   depth-room e k l = rw (depth-is k l) (need-most d from to (tree source) (within 32 source e))
 
 -- the depths of a table
@@ -61,7 +61,7 @@ lines-none source before =
 
 module _ (source before : List ℕ) (d : ℕ) (middle : List ℕ) (place : ℕ) (w : Lines source before d middle place) where
   -- what `put_chip` requires
-  pub line-room : (k : ℕ) → d < 9 → Answers source d (Least k) → (2 ≤ d) × (d ^ k ≤ 536870912)
+  pub line-room : (k : ℕ) → d < 9 → Answers source d (Least k) → (2 ≤ d) × (d ^ k ≤ mostLeaves)
   line-room k h a =
       (w .from, depth-room source d (w .from) (omega arith) (sym (fault-is source d (w .from) (omega arith)) ∙ a .0) k (a .1))
 

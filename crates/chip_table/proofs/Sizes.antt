@@ -7,6 +7,7 @@ use native.Mathlib.Omega.{arith}
 use Rattle.topology.specs.Tree.{size}
 use Rattle.regular_laws.specs.Regular.{complete, leaves}
 use Rattle.regular_laws.proofs.Sizes.{leaves-more, leaves-complete, size-complete, size-most}
+use Rattle.regular_laws.specs.Need.{mostLeaves}
 
 module _ (d k : ℕ) (z : 2 ≤ d) (n : ℕ) where
   -- one level more
@@ -19,11 +20,11 @@ module _ (d k : ℕ) (z : 2 ≤ d) (n : ℕ) where
       let deeper : size (complete d (k + 1)) ≡ size (complete d (suc k)) = ap (λ (j : ℕ). size (complete d j)) (add-one k) in
       omega (arith, product, deeper, size-complete d k)
 
-  module _ (depth : ℕ) (h : k < depth) (most : d ^ depth ≤ 536870912) where
-    power-next : d ^ (k + 1) ≤ 536870912
+  module _ (depth : ℕ) (h : k < depth) (most : d ^ depth ≤ mostLeaves) where
+    power-next : d ^ (k + 1) ≤ mostLeaves
     power-next = omega (arith, most, pow-le-pow-right {n = d} (omega arith) {i = k + 1} {j = depth} (omega arith))
 
-    pub leaves-room : n ≡ leaves (complete d k) → n * d ≤ 536870912
+    pub leaves-room : n ≡ leaves (complete d k) → n * d ≤ mostLeaves
     leaves-room e = omega (arith, power-next, leaves-next e, leaves-complete d (omega arith) (k + 1))
 
     pub nodes-room : n ≡ size (complete d k) → n * d + 1 < 1073741824

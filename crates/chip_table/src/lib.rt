@@ -11,12 +11,13 @@ ghost use lib.ListN.{length, getD, take};
 ghost use lib.Dec.{eqb};
 ghost use Rattle.topology.specs.Tree.{size};
 ghost use Rattle.regular_laws.specs.Regular.{complete, leaves};
+ghost use Rattle.regular_laws.specs.Need.{mostLeaves};
 ghost use Rattle.text.specs.Text.{Puts};
 ghost use Rattle.chip_table.specs.Table.{chipLine, Table, Prints, Writes};
 
 // The number of leaves of a complete tree. A chip that is asked for has at most 2^29, so that nothing overflows here and in the next function.
 fn leaves_of(d: usize, depth: usize) -> usize
-    requires { ⌜ (2 ≤ d) × (d ^ depth ≤ 536870912) ⌝ }
+    requires { ⌜ (2 ≤ d) × (d ^ depth ≤ mostLeaves) ⌝ }
     ensures { λ r. ⌜ r ≡ leaves (complete d depth) ⌝ }
 {
     let mut leaves = 1;
@@ -30,7 +31,7 @@ fn leaves_of(d: usize, depth: usize) -> usize
 
 // The number of its nodes: the root and d trees that are one less deep.
 fn nodes_of(d: usize, depth: usize) -> usize
-    requires { ⌜ (2 ≤ d) × (d ^ depth ≤ 536870912) ⌝ }
+    requires { ⌜ (2 ≤ d) × (d ^ depth ≤ mostLeaves) ⌝ }
     ensures { λ r. ⌜ r ≡ size (complete d depth) ⌝ }
 {
     let mut nodes = 1;
@@ -44,7 +45,7 @@ fn nodes_of(d: usize, depth: usize) -> usize
 
 // The line of a chip.
 fn put_chip(out: &mut [u8], at: usize, d: usize, depth: usize) -> usize
-    requires { ⌜ (2 ≤ d) × (d ^ depth ≤ 536870912) ⌝ }
+    requires { ⌜ (2 ≤ d) × (d ^ depth ≤ mostLeaves) ⌝ }
     ensures { λ r. ⌜ Puts (now (out .entry)) at (chipLine d depth) (now (out .exit)) r ⌝ }
 {
     let nodes = nodes_of(d, depth);

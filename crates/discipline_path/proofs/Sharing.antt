@@ -8,8 +8,8 @@ use mathlib.Core.List.{List}
 use mathlib.Core.Bool.{Bool, true, false, _&&_}
 use lib.ListN.{set}
 use borrow.Author.Tests.{eq-eqb, ne-eqb, le-leb, lt-leb}
+use Rattle.topology.proofs.Cases.{off}
 use Rattle.pifo.specs.Queue.{Rank}
-use Rattle.queue_state.proofs.Formed.{off}
 use Rattle.disciplines.specs.Figure.{weighted, weightAt, start, finish, mostFinish, finishBy}
 use Rattle.disciplines.specs.declared.Disciplines.{Disciplines}
 use Rattle.queue_push.specs.Calls.{extendedBy}

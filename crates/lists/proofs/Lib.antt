@@ -6,3 +6,4 @@ pub mod Prefix
 pub mod Slice
 pub mod Replicate
 pub mod Tabulate
+pub mod Set

@@ -30,6 +30,7 @@ use Rattle.simulation.specs.Sheet.{serveCarried}
 use Rattle.simulation.proofs.Reduced.{places-pass}
 use Rattle.regular_laws.specs.Regular.{complete}
 use Rattle.regular_laws.proofs.Searching.{depth-drawn, search-regular}
+use Rattle.regular.proofs.Answers.{answers-some}
 use Rattle.embedding_search.specs.Outcomes.{outcome, numberOf}
 use Rattle.embedding_search.specs.Search.{Searches}
 use Rattle.embedding_search.specs.declared.Searched.{Searched}
@@ -222,6 +223,7 @@ demand-3 =
         record { outcome = outcome source target; map = searchMap source target },
         record { outcome = refl; map = refl },
       );
+      depths = answers-some;
       twelve = twelve;
       twelve-reduced = λ source target f g r s.
           let exact = twelve source target f g r s in
@@ -233,8 +235,8 @@ demand-3 =
         kept-tree 32 source f,
         places-pass (tree source),
       );
-      bought = λ source d k a w r s.
+      zero-regular = λ source d k a w r s.
           searched-number source (code (complete d k)) r s ∙ search-regular source d k (depth-drawn source d (a .0)) (a .1) w .0;
-      bought-least = λ source d k a w j l r s.
+      twelve-regular = λ source d k a w j l r s.
           searched-number source (code (complete d j)) r s ∙ search-regular source d k (depth-drawn source d (a .0)) (a .1) w .1 j l;
     }

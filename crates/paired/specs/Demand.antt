@@ -20,6 +20,7 @@ use Rattle.embedding_laws.specs.Rules.{Passes}
 use Rattle.simulation.specs.Reduced.{placesOf}
 use Rattle.regular_laws.specs.Regular.{complete}
 use Rattle.regular.specs.Answers.{Answers}
+use Rattle.regular.specs.declared.Depth.{Depth}
 use Rattle.regular.specs.declared.Depth.the-variants.{Least}
 use Rattle.embedding_search.specs.Outcomes.{numberOf}
 use Rattle.embedding_search.specs.Search.{Searches, images}
@@ -125,10 +126,11 @@ pub record Demand3 : Type 0 where
   pub opens : (source target : List ℕ) (limit : ℕ) (rules : List Rule) → fault 32 source ≡ 0 → fault 64 target ≡ 0
       → 1 ≤ limit → limit ≤ 256 → ruleFault (tree source) rules ≡ 0
       → (openedTree source limit rules .refusal ≡ 0) × (openedChip source target limit rules .refusal ≡ 0)
-  -- There are such executions of every list of calls, from every tree on, and there is an answer of the search.
+  -- There are such executions of every list of calls, from every tree on, and there are answers of the search and about regular chips.
   pub source-executes : (t : Tree) (calls : List Request) → (vs : History Tree) × Execution SourceCall t calls vs
   pub chip-executes : (source m : List ℕ) (t : Tree) (calls : List Request) → (ws : History Tree) × Execution (ChipCall source m) t calls ws
   pub searches : (source target : List ℕ) → (r : Searched) × Searches source target r
+  pub depths : (source : List ℕ) (d : ℕ) → (a : Depth) × Answers source d a
   -- The search's half: whatever it answers, that is 12 exactly when every list of numbers fails as the map of the pair. A list fails unless it gives one
   -- target node for each kept node and 255 for each passed one, and breaks none of the rules (`Passes`).
   pub twelve : (source target : List ℕ) → fault 32 source ≡ 0 → fault 64 target ≡ 0 → (r : Searched) → Searches source target r
@@ -146,7 +148,7 @@ pub record Demand3 : Type 0 where
       × Passes (tree source) (reduced (tree source)) (placesOf (tree source))
   -- A regular chip of the depth that `least_depth` answers (paper 02, 2.3), where it is within the limits: the search answers 0 there, so that the first
   -- part holds with its map, and 12 at each smaller depth.
-  pub bought : (source : List ℕ) (d k : ℕ) → Answers source d (Least k) → Within 64 (complete d k)
+  pub zero-regular : (source : List ℕ) (d k : ℕ) → Answers source d (Least k) → Within 64 (complete d k)
       → (r : Searched) → Searches source (code (complete d k)) r → numberOf (r .outcome) ≡ 0
-  pub bought-least : (source : List ℕ) (d k : ℕ) → Answers source d (Least k) → Within 64 (complete d k)
+  pub twelve-regular : (source : List ℕ) (d k : ℕ) → Answers source d (Least k) → Within 64 (complete d k)
       → (j : ℕ) → j < k → (r : Searched) → Searches source (code (complete d j)) r → numberOf (r .outcome) ≡ 12

@@ -15,13 +15,13 @@ use borrow.Author.Tests.{eq-eqb, ne-eqb, le-leb, leb-true}
 use Rattle.lists.proofs.Replicate.{getD-everywhere}
 use Rattle.topology.specs.Reader.{pick}
 use Rattle.topology.specs.Branch.{start}
+use Rattle.topology.proofs.Cases.{off}
 use Rattle.pifo.specs.Queue.{Entry, risesFrom, every, allowed, isOf, occurs}
 use Rattle.pifo.proofs.Append.{lastFrom, last-append, rises-append, every-append, occurs-append}
 use Rattle.pifo.proofs.Order.{both, join}
 use Rattle.queue_state.specs.State.{entryOf, itemOf, startOf, queueIn}
 use Rattle.queue_state.specs.Entries.{noEntry, marked}
 use Rattle.queue_state.specs.declared.Entry.{Entry as CodeEntry}
-use Rattle.queue_state.proofs.Formed.{off}
 use Rattle.queue_state.proofs.Parts.{start-next, start-order, stretch, stretch-none, stretch-first, stretch-last, stretch-join}
 use Rattle.queue_check.specs.Tests.{headOf, Heading, noTest}
 use Rattle.queue_check.specs.Sound.{Placed, AllMatch, Mismatch, Fine, AllFine, Tallied}

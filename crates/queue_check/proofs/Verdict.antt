@@ -13,6 +13,7 @@ use Rattle.topology.specs.Reader.{fault, tree}
 use Rattle.topology.specs.Branch.{start}
 use Rattle.topology.proofs.Lookup.{valid-size, valid-width, valid-start, start-lt}
 use Rattle.topology.proofs.Ancestry.{size-pos}
+use Rattle.topology.proofs.Cases.{off}
 use Rattle.pifo.specs.Queue.{risesFrom, allowed, every, occurs}
 use Rattle.pifo.specs.Tree.{well, held}
 use Rattle.pifo.specs.Numbered.{Queues, assemble, assembleAll}
@@ -21,7 +22,7 @@ use Rattle.pifo.proofs.Local.{LocalAt, AllLocal, all-well, well-all}
 use Rattle.queue_state.specs.State.{startOf, queueIn, queues, bytes, treeOf, wellFormed}
 use Rattle.queue_state.specs.declared.Entry.{Entry as CodeEntry}
 use Rattle.queue_state.specs.declared.State.{State}
-use Rattle.queue_state.proofs.Formed.{off, Formed, formed, form, unformed}
+use Rattle.queue_state.proofs.Formed.{Formed, formed, form, unformed}
 use Rattle.queue_state.proofs.Arrays.{Arrays}
 use Rattle.queue_state.proofs.Parts.{start-order, queue-length}
 use Rattle.queue_check.specs.Sound.{Fine, AllFine, Tallied}

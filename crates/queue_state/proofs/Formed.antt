@@ -1,7 +1,6 @@
 -- `wellFormed` taken apart and put together.
 use mathlib.Core.Path.{_≡_, refl}
-use Prim.Native.Nat.{ℕ, _≤_}
-use native.Mathlib.Omega.{arith}
+use Prim.Native.Nat.{_≤_}
 use mathlib.Core.Bool.{Bool, true, false, _&&_}
 use lib.Dec.{leb, eqb}
 use borrow.Author.Tests.{leb-true, le-leb, eqb-true, eq-eqb}
@@ -10,9 +9,6 @@ use Rattle.pifo.specs.Tree.{well, held}
 use Rattle.pifo.proofs.Order.{both, join}
 use Rattle.queue_state.specs.State.{startOf, bytes, treeOf, inBounds, wellFormed}
 use Rattle.queue_state.specs.declared.State.{State}
-
-pub off : false ≡ true → ⊥
-off e = let z : _≡_ {A = ℕ} 0 1 = cc in omega arith
 
 -- the clauses of a well-formed state
 pub record Formed (s : State) : Type 0 where

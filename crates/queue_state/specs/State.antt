@@ -1,10 +1,11 @@
 -- A state of the code as a machine: its queues, its tree, and what makes it well formed.
-use Prim.Native.Nat.{ℕ, suc, _+_}
-use mathlib.Core.List.{List, [], _∷_, map}
+use Prim.Native.Nat.{ℕ, suc}
+use mathlib.Core.List.{List, map}
 use mathlib.Core.Bool.{Bool, _&&_}
 use lib.ListN.{take}
 use lib.Seq.{slice}
 use lib.Dec.{eqb, leb}
+use Rattle.lists.specs.Sum.{sum}
 use Rattle.topology.specs.Reader.{fault, tree}
 use Rattle.pifo.specs.Queue.{Item, Entry, child, packet, entry}
 use Rattle.pifo.specs.Tree.{PTree, well, held}
@@ -26,10 +27,6 @@ itemOf (PacketItem p) = packet p
 
 abbrev pub entryOf : CodeEntry → Entry Packet
 entryOf e = entry (e .rank) (itemOf (e .item))
-
-abbrev pub sum : List ℕ → ℕ
-sum [] = 0
-sum (n ∷ ns) = n + sum ns
 
 -- where the queue of node n begins: behind the queues of the nodes before it
 abbrev pub startOf : List ℕ → ℕ → ℕ

@@ -14,7 +14,7 @@ use Rattle.topology.proofs.Cases.{read-tree, read-refused}
 use Rattle.topology.proofs.Reader.{within}
 use Rattle.topology.proofs.Refusals.{orElse-first}
 use Rattle.regular_laws.specs.Depth.{LeastDepth, depthFault}
-use Rattle.regular_laws.specs.Need.{enough, need}
+use Rattle.regular_laws.specs.Need.{enough, need, mostLeaves}
 use Rattle.regular_laws.proofs.Enough.{enough-power}
 use Rattle.regular_laws.proofs.Bounds.{need-most}
 use Rattle.regular_laws.proofs.Passed.{depth-needed}
@@ -39,7 +39,7 @@ module _ (source : List ℕ) (d : ℕ) (r : Reading) (e : r ≡ reading (fault 3
     too-many h = rw (drawn-well, le-leb 2 d (omega arith), lt-leb d 8 h)
 
     module _ (z : 2 ≤ d) (most : d ≤ 8) (number : ℕ) (is : number ≡ d ^ need d (tree source)) where
-      pub number-most : number ≤ 536870912
+      pub number-most : number ≤ mostLeaves
       number-most = omega (arith, is, need-most d z most (tree source) (within 32 source drawn-well))
 
       pub answered : (k : ℕ) → k ≡ enough d number → (depthFault source d ≡ 0) × LeastDepth (tree source) d k

@@ -1,3 +1,4 @@
 pub mod Powers
 pub mod Stack
 pub mod Depths
+pub mod Answers

@@ -8,7 +8,8 @@ use native.Mathlib.Omega.{arith}
 use mathlib.Core.List.{List}
 use lib.ListN.{length, drop, getD, drop-of-length-le}
 use lib.Seq.{drop-cons}
-use Rattle.regular_laws.specs.Need.{enough, sum}
+use Rattle.lists.specs.Sum.{sum}
+use Rattle.regular_laws.specs.Need.{enough}
 use Rattle.regular_laws.proofs.Enough.{enough-holds, enough-least, power-above}
 
 -- The power is that of the exponent k, which is not past the least that is enough.

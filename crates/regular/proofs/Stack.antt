@@ -7,12 +7,14 @@ use native.Mathlib.Nat.{add-zero, mul-le-mul-right}
 use native.Mathlib.Omega.{arith}
 use mathlib.Core.List.{List, [], _∷_, _++_, append-assoc, append-nil}
 use lib.ListN.{length, take, drop, getD, set, length-append, length-drop, length-set}
-use lib.Seq.{length-take-le, drop-length, drop-cons, set-split, getD-drop, drop-drop, take-at, drop-at}
+use lib.Seq.{drop-length, drop-cons, getD-drop, drop-drop, take-at}
+use Rattle.lists.proofs.Set.{drop-set}
+use Rattle.lists.specs.Sum.{sum}
 use Rattle.topology.specs.Tree.{Topo, Forest, node, fnil, fcons, count, code, codes, size, sizes, height, heights}
 use Rattle.topology.specs.Reader.{fault, first, others, forest, tree}
 use Rattle.topology.proofs.Decoding.{forest-code, length-code}
 use Rattle.topology.proofs.Reader.{drawn, within}
-use Rattle.regular_laws.specs.Need.{enough, powers, sum, need, needs}
+use Rattle.regular_laws.specs.Need.{enough, powers, need, needs, mostLeaves}
 use Rattle.regular_laws.proofs.Bounds.{needs-room, room-most}
 
 -- the terms of Kraft's sum over a forest
@@ -44,10 +46,10 @@ module _ (d : ℕ) where
 -- There are as many terms as each byte asks for, and these are small together.
 abbrev Ready : ℕ → List ℕ → Type 0
 Ready d [] = Unit
-Ready d (b ∷ bs) = (b ≤ length (terms d (forest bs))) × (sum (take b (terms d (forest bs))) ≤ 536870912) × Ready d bs
+Ready d (b ∷ bs) = (b ≤ length (terms d (forest bs))) × (sum (take b (terms d (forest bs))) ≤ mostLeaves) × Ready d bs
 
 module _ (d : ℕ) (z : 2 ≤ d) (most : d ≤ 8) where
-  sum-most : (ts : Forest) → sizes ts ≤ 32 → heights ts ≤ 8 → sum (terms d ts) ≤ 536870912
+  sum-most : (ts : Forest) → sizes ts ≤ 32 → heights ts ≤ 8 → sum (terms d ts) ≤ mostLeaves
   sum-most ts few low =
       omega (arith, needs-room d z ts, room-most d (sizes ts) (heights ts) most few low, mul-le-mul-right {m = 2} {n = d} (sum (terms d ts)) z)
 
@@ -79,9 +81,6 @@ ready-drop d (suc n) (b ∷ bs) r = ready-drop d n bs (r .2)
 -- l[from..to]
 abbrev part : List ℕ → ℕ → ℕ → List ℕ
 part l from to = take (to - from) (drop from l)
-
-set-from : (l : List ℕ) (i v : ℕ) → i < length l → drop i (set l i v) ≡ v ∷ drop (suc i) l
-set-from l i v h = rw set-split (drop-at (take i l) (v ∷ drop (suc i) l) i (length-take-le i l (omega arith)))
 
 -- What the loop keeps: leaves[top..] has the terms of the trees that the bytes from i on draw. No more trees are drawn than bytes are read, so a place
 -- is left for each byte that is to come.
@@ -124,7 +123,7 @@ module _ (d : ℕ) (bytes : List ℕ) (given : (fault 32 bytes ≡ 0) × (2 ≤ 
         let n : top + b - top ≡ b = omega arith in
         rw (n, s .stack)
 
-    pub children-sum : sum (part leaves top (top + b)) ≤ 536870912
+    pub children-sum : sum (part leaves top (top + b)) ≤ mostLeaves
     children-sum = rw children (ready .1)
 
     behind : drop (top + b) leaves ≡ drop b (terms d (forest (drop i bytes)))
@@ -143,7 +142,7 @@ module _ (d : ℕ) (bytes : List ℕ) (given : (fault 32 bytes ≡ 0) × (2 ≤ 
           read = omega (arith, s .read);
           left = omega (arith, s .left);
           fits = omega (arith, children-there);
-          stack = set-from leaves (top + b - 1) v l ∙ rw (t, h, g) (sym node-read);
+          stack = drop-set leaves (top + b - 1) v l ∙ rw (t, h, g) (sym node-read);
         }
 
   -- The first byte is read: one tree is drawn.

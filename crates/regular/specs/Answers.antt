@@ -1,4 +1,4 @@
--- What an answer about a drawing and a number of children says.
+-- What an answer about a drawing and a number of children says. There is one for each, and no other (`answers-some`, `answers-once` in proofs/Answers).
 use mathlib.Core.Path.{_≡_}
 use mathlib.Core.Logic.{_≢_}
 use Prim.Native.Nat.{ℕ}

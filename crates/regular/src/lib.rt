@@ -5,9 +5,9 @@
 // needs, as it should, since it is passed over. The contract does not speak of this: it is by the rules of a map (regular_laws/specs/Depth).
 ghost use mathlib.Core.Path.{_≡_};
 ghost use Prim.Native.Nat.{_≤_, _^_};
-ghost use lib.ListN.{length};
+ghost use Rattle.lists.specs.Sum.{sum};
 ghost use Rattle.topology.specs.Reader.{fault, tree};
-ghost use Rattle.regular_laws.specs.Need.{enough, sum, need};
+ghost use Rattle.regular_laws.specs.Need.{enough, need, mostLeaves};
 ghost use Rattle.regular.specs.Answers.{Answers};
 use topology::Reading;
 use topology::SOURCE_NODES;
@@ -20,7 +20,7 @@ pub enum Depth {
 
 // The sum of a list of numbers.
 fn sum_of(numbers: &[usize]) -> usize
-    requires { ⌜ sum (now numbers) ≤ 536870912 ⌝ }
+    requires { ⌜ sum (now numbers) ≤ mostLeaves ⌝ }
     ensures { λ r. ⌜ r ≡ sum (now (numbers .entry)) ⌝ }
 {
     let mut total = 0;
@@ -34,7 +34,7 @@ fn sum_of(numbers: &[usize]) -> usize
 
 // The least power of d that is at least a number.
 fn power_from(d: usize, number: usize) -> usize
-    requires { ⌜ (2 ≤ d) × (d ≤ 8) × (number ≤ 536870912) ⌝ }
+    requires { ⌜ (2 ≤ d) × (d ≤ 8) × (number ≤ mostLeaves) ⌝ }
     ensures { λ r. ⌜ r ≡ d ^ enough d number ⌝ }
 {
     let mut power = 1;
@@ -46,7 +46,7 @@ fn power_from(d: usize, number: usize) -> usize
 
 // The exponent of that power.
 fn exponent_from(d: usize, number: usize) -> usize
-    requires { ⌜ (2 ≤ d) × (d ≤ 8) × (number ≤ 536870912) ⌝ }
+    requires { ⌜ (2 ≤ d) × (d ≤ 8) × (number ≤ mostLeaves) ⌝ }
     ensures { λ r. ⌜ r ≡ enough d number ⌝ }
 {
     let mut reached = 1;

@@ -7,9 +7,10 @@ use Prim.Native.Nat.{ℕ, zero, suc, _+_, _*_, _^_, _≤_, _<_, max}
 use native.Mathlib.Nat.{mul-le-mul-left, mul-le-mul-right, mul-le-mul, pow-zero, pow-succ', pow-le-pow-left, pow-le-pow-right, le-trans, mul-left-comm}
 use native.Mathlib.Decide.{decLe, decLt}
 use native.Mathlib.Omega.{arith}
+use Rattle.lists.specs.Sum.{sum}
 use Rattle.topology.specs.Tree.{Topo, Forest, node, fnil, fcons, size, sizes, height, heights}
 use Rattle.topology.specs.Reader.{Within}
-use Rattle.regular_laws.specs.Need.{enough, powers, sum, need, needs}
+use Rattle.regular_laws.specs.Need.{enough, powers, need, needs, mostLeaves}
 use Rattle.regular_laws.proofs.Enough.{enough-least, power-rises}
 
 module _ (d : ℕ) (z : 2 ≤ d) where
@@ -45,13 +46,13 @@ module _ (d : ℕ) (z : 2 ≤ d) where
         omega (arith, one, below (size t) (height t), up, needs-room ts, rises {j = heights ts} {k = h} (sizes ts) (omega arith))
 
 -- n powers of the height h, for at most 32 nodes on at most 8 levels below the root
-pub room-most : (d n h : ℕ) → d ≤ 8 → n ≤ 32 → h ≤ 8 → n * d ^ h ≤ 536870912
+pub room-most : (d n h : ℕ) → d ≤ 8 → n ≤ 32 → h ≤ 8 → n * d ^ h ≤ mostLeaves
 room-most d n h most few low =
     let l : 8 ^ h ≤ 8 ^ 8 = pow-le-pow-right {n = 8} (omega arith) low in
     mul-le-mul {n₁ = n} {m₁ = d ^ h} {n₂ = 32} {m₂ = 8 ^ 8} few (le-trans (pow-le-pow-left most h) l)
 
 -- A drawing within the limits needs at most 2 ^ 29 leaves, and a depth of at most 13: its 32 nodes are at most d ^ 5.
-pub need-most : (d : ℕ) → 2 ≤ d → d ≤ 8 → (t : Topo) → Within 32 t → d ^ need d t ≤ 536870912
+pub need-most : (d : ℕ) → 2 ≤ d → d ≤ 8 → (t : Topo) → Within 32 t → d ^ need d t ≤ mostLeaves
 need-most d z most t w = le-trans (need-room d z t) (room-most d (size t) (height t) most (w .nodes) (w .steps))
 
 pub need-depth : (d : ℕ) → 2 ≤ d → (t : Topo) → Within 32 t → need d t ≤ 13

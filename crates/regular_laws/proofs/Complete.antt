@@ -1,4 +1,4 @@
--- Complete trees: each child of the root is one of the next smaller depth, and so is each branch of a smaller depth.
+-- Complete trees: each child of the root is the complete tree that is one less deep, and the branch of a node n steps down the one that is n less deep.
 use mathlib.Core.Path.{_≡_, refl, ap, _∙_, subst}
 use Prim.Native.Nat.{ℕ, zero, suc, _-_, _≤_, _<_}
 use native.Mathlib.Nat.{not-suc-le-zero, le-of-suc-le-suc}

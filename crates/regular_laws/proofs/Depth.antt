@@ -17,7 +17,7 @@ use Rattle.embedding_laws.proofs.Maps.{embeds-passes, passes-reduced}
 use Rattle.regular_laws.specs.Regular.{complete}
 use Rattle.regular_laws.specs.Depth.{Loads, LeastDepth}
 use Rattle.regular_laws.specs.Need.{enough, need}
-use Rattle.regular_laws.proofs.Fitting.{Forked, AllForked, Fits, put, fits, bound}
+use Rattle.regular_laws.proofs.Fitting.{Forked, AllForked, Fits, imageOf, fits, bound}
 
 -- ---- an embedding by address is one by number
 
@@ -93,10 +93,10 @@ module _ (d : ℕ) (z : 2 ≤ d) (S : Topo) where
   T = complete d (need d R)
 
   abbrev images : List ℕ
-  images = tabulate (size R) (λ n. num T (put d R (addr R n)))
+  images = tabulate (size R) (λ n. num T (imageOf d R (addr R n)))
 
   embeds : Embeds R T images
-  embeds = fits-embeds R T (put d R) (fits d z R (forked-reduced S))
+  embeds = fits-embeds R T (imageOf d R) (fits d z R (forked-reduced S))
 
   not-lower : (j : ℕ) → j < need d R → Loads S (complete d j) → ⊥
   not-lower j h (m, p) = by-width (passes-reduced S (complete d j) m p .1) (ℕ-discrete (width R) 0)

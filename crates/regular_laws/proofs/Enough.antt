@@ -56,7 +56,7 @@ module _ (d : ℕ) (z : 2 ≤ d) (s : ℕ) where
   enough-least j h = from-least s d s 0 j (omega arith) h
 
   -- The exponent is determined.
-  pub enough-is : (k : ℕ) → s ≤ d ^ k → ((j : ℕ) → j < k → d ^ j < s) → enough d s ≡ k
+  enough-is : (k : ℕ) → s ≤ d ^ k → ((j : ℕ) → j < k → d ^ j < s) → enough d s ≡ k
   enough-is k h g = by-order (decLt (enough d s) k)
     where
       by-order : Dec (enough d s < k) → enough d s ≡ k

@@ -14,12 +14,13 @@ use mathlib.Core.List.{[], _∷_, _++_, append-assoc, append-cancel-left}
 use mathlib.Core.Bool.{true}
 use lib.ListN.{length, getD, drop, length-append}
 use lib.Seq.{drop-length, drop-append-seam}
+use Rattle.lists.specs.Sum.{sum}
 use Rattle.topology.specs.Tree.{Topo, Forest, node, fnil, fcons, count, kids, width}
 use Rattle.topology.specs.Address.{Addr, nth, In, sub, Above}
 use Rattle.topology.proofs.Ancestry.{in-below, in-join, sub-append}
 use Rattle.topology.proofs.Order.{above-trans, above-either}
 use Rattle.regular_laws.specs.Regular.{complete}
-use Rattle.regular_laws.specs.Need.{enough, powers, sum, need, needs}
+use Rattle.regular_laws.specs.Need.{enough, powers, need, needs}
 use Rattle.regular_laws.proofs.Enough.{enough-holds, enough-least}
 use Rattle.regular_laws.proofs.Complete.{sub-complete}
 use Rattle.regular_laws.proofs.Room.{room-all}
@@ -63,11 +64,11 @@ forked-nth (fcons t ts) f (suc i) l = forked-nth ts (f .1) i (le-of-suc-le-suc l
 abbrev wayOf : ℕ → Forest → ℕ → Addr
 wayOf d ts i = wayTo d (need d (node ts) - getD (needs d ts) i 0) (slot d (needs d ts) i)
 
--- where address a goes: each step down by the way of the child's branch
-abbrev pub put : ℕ → Topo → Addr → Addr
-put d t [] = []
-put d t (zero ∷ a) = []
-put d t (suc i ∷ a) = wayOf d (kids t) i ++ put d (nth (kids t) i) a
+-- the image of an address: each step goes the way down to the child's branch
+abbrev pub imageOf : ℕ → Topo → Addr → Addr
+imageOf d t [] = []
+imageOf d t (zero ∷ a) = []
+imageOf d t (suc i ∷ a) = wayOf d (kids t) i ++ imageOf d (nth (kids t) i) a
 
 module _ (d : ℕ) (z : 2 ≤ d) where
   -- the laws of the placement at one node with children
@@ -103,65 +104,65 @@ module _ (d : ℕ) (z : 2 ≤ d) where
         by-index (yes e) = beside 1 (omega (arith, n)) (λ q. omega arith)
         by-index (no e) = beside 0 (omega arith) e
 
-  put-there : (a : Addr) (t : Topo) → In t a → In (complete d (need d t)) (put d t a)
-  put-there [] t i = tt
-  put-there (zero ∷ a) t i = absurd (not-suc-le-zero (i .0))
-  put-there (suc k ∷ a) (node ts) (p, l, i) =
-      in-join (complete d (need d (node ts))) (wayOf d ts k) (put d (nth ts k) a) (way-there ts k l)
-      (subst (λ (u : Topo). In u (put d (nth ts k) a)) (sym (way-sub ts k l)) (put-there a (nth ts k) i))
+  image-there : (a : Addr) (t : Topo) → In t a → In (complete d (need d t)) (imageOf d t a)
+  image-there [] t i = tt
+  image-there (zero ∷ a) t i = absurd (not-suc-le-zero (i .0))
+  image-there (suc k ∷ a) (node ts) (p, l, i) =
+      in-join (complete d (need d (node ts))) (wayOf d ts k) (imageOf d (nth ts k) a) (way-there ts k l)
+      (subst (λ (u : Topo). In u (imageOf d (nth ts k) a)) (sym (way-sub ts k l)) (image-there a (nth ts k) i))
 
-  put-leaf : (a : Addr) (t : Topo) → In t a → width (sub t a) ≡ 0 → width (sub (complete d (need d t)) (put d t a)) ≡ 0
+  image-leaf : (a : Addr) (t : Topo) → In t a → width (sub t a) ≡ 0 → width (sub (complete d (need d t)) (imageOf d t a)) ≡ 0
   unfolding enough
-  put-leaf [] (node fnil) i e = refl
-  put-leaf [] (node (fcons t ts)) i e = absurd (omega arith)
-  put-leaf (zero ∷ a) t i e = absurd (not-suc-le-zero (i .0))
-  put-leaf (suc k ∷ a) (node ts) (p, l, i) e =
-      ap width (sub-append (complete d (need d (node ts))) (wayOf d ts k) (put d (nth ts k) a))
-      ∙ ap (λ (u : Topo). width (sub u (put d (nth ts k) a))) (way-sub ts k l)
-      ∙ put-leaf a (nth ts k) i e
+  image-leaf [] (node fnil) i e = refl
+  image-leaf [] (node (fcons t ts)) i e = absurd (omega arith)
+  image-leaf (zero ∷ a) t i e = absurd (not-suc-le-zero (i .0))
+  image-leaf (suc k ∷ a) (node ts) (p, l, i) e =
+      ap width (sub-append (complete d (need d (node ts))) (wayOf d ts k) (imageOf d (nth ts k) a))
+      ∙ ap (λ (u : Topo). width (sub u (imageOf d (nth ts k) a))) (way-sub ts k l)
+      ∙ image-leaf a (nth ts k) i e
 
-  put-down : (a e : Addr) (t : Topo) → In t a → Above (put d t a) (put d t (a ++ e))
-  put-down [] e t i = (put d t e, refl)
-  put-down (zero ∷ a) e t i = absurd (not-suc-le-zero (i .0))
-  put-down (suc k ∷ a) e (node ts) (p, l, i) =
-      let r = put-down a e (nth ts k) i in
-      (r .0, ap (λ (x : Addr). wayOf d ts k ++ x) (r .1) ∙ sym (append-assoc (wayOf d ts k) (put d (nth ts k) a) (r .0)))
+  image-down : (a e : Addr) (t : Topo) → In t a → Above (imageOf d t a) (imageOf d t (a ++ e))
+  image-down [] e t i = (imageOf d t e, refl)
+  image-down (zero ∷ a) e t i = absurd (not-suc-le-zero (i .0))
+  image-down (suc k ∷ a) e (node ts) (p, l, i) =
+      let r = image-down a e (nth ts k) i in
+      (r .0, ap (λ (x : Addr). wayOf d ts k ++ x) (r .1) ∙ sym (append-assoc (wayOf d ts k) (imageOf d (nth ts k) a) (r .0)))
 
-  put-up : (a b : Addr) (t : Topo) → Forked t → In t a → In t b → Above (put d t a) (put d t b) → Above a b
-  put-up [] b t f i j u = (b, refl)
-  put-up (zero ∷ a) b t f i j u = absurd (not-suc-le-zero (i .0))
-  put-up (suc k ∷ a) [] (node ts) f i j u =
+  image-up : (a b : Addr) (t : Topo) → Forked t → In t a → In t b → Above (imageOf d t a) (imageOf d t b) → Above a b
+  image-up [] b t f i j u = (b, refl)
+  image-up (zero ∷ a) b t f i j u = absurd (not-suc-le-zero (i .0))
+  image-up (suc k ∷ a) [] (node ts) f i j u =
       let w = wayOf d ts k in
-      let p = put d (nth ts k) a in
+      let p = imageOf d (nth ts k) a in
       absurd (omega (arith, ap length (u .1), length-append (w ++ p) (u .0), length-append w p, way-strict ts k (i .1) (f .0)))
-  put-up (suc k ∷ a) (zero ∷ b) t f i j u = absurd (not-suc-le-zero (j .0))
-  put-up (suc k ∷ a) (suc n ∷ b) (node ts) f (p, l, i) (q, g, j) u = by-child (ℕ-discrete k n) (λ h. put-up a b (nth ts k) (forked-nth ts (f .1) k l) i h)
+  image-up (suc k ∷ a) (zero ∷ b) t f i j u = absurd (not-suc-le-zero (j .0))
+  image-up (suc k ∷ a) (suc n ∷ b) (node ts) f (p, l, i) (q, g, j) u = by-child (ℕ-discrete k n) (λ h. image-up a b (nth ts k) (forked-nth ts (f .1) k l) i h)
     where
-      by-child : Dec (k ≡ n) → (In (nth ts k) b → Above (put d (nth ts k) a) (put d (nth ts k) b) → Above a b) → Above (suc k ∷ a) (suc n ∷ b)
+      by-child : Dec (k ≡ n) → (In (nth ts k) b → Above (imageOf d (nth ts k) a) (imageOf d (nth ts k) b) → Above a b) → Above (suc k ∷ a) (suc n ∷ b)
       by-child (yes e) r =
-          let v : Above (wayOf d ts k ++ put d (nth ts k) a) (wayOf d ts k ++ put d (nth ts k) b) =
-          subst (λ (x : ℕ). Above (wayOf d ts k ++ put d (nth ts k) a) (wayOf d ts x ++ put d (nth ts x) b)) (sym e) u in
-          let w : put d (nth ts k) b ≡ put d (nth ts k) a ++ v .0 =
-          append-cancel-left (wayOf d ts k) (put d (nth ts k) b) (put d (nth ts k) a ++ v .0) (v .1 ∙ append-assoc (wayOf d ts k) (put d (nth ts k) a) (v .0)) in
+          let v : Above (wayOf d ts k ++ imageOf d (nth ts k) a) (wayOf d ts k ++ imageOf d (nth ts k) b) =
+          subst (λ (x : ℕ). Above (wayOf d ts k ++ imageOf d (nth ts k) a) (wayOf d ts x ++ imageOf d (nth ts x) b)) (sym e) u in
+          let w : imageOf d (nth ts k) b ≡ imageOf d (nth ts k) a ++ v .0 =
+          append-cancel-left (wayOf d ts k) (imageOf d (nth ts k) b) (imageOf d (nth ts k) a ++ v .0) (v .1 ∙ append-assoc (wayOf d ts k) (imageOf d (nth ts k) a) (v .0)) in
           let s = r (subst (λ (x : ℕ). In (nth ts x) b) (sym e) j) (v .0, w) in
           (s .0, ap₂ (λ (x : ℕ) (c : Addr). suc x ∷ c) (sym e) (s .1))
-      by-child (no e) r = absurd (by-order (above-either (wayOf d ts k) (wayOf d ts n) (wayOf d ts n ++ put d (nth ts n) b) over (put d (nth ts n) b, refl)))
+      by-child (no e) r = absurd (by-order (above-either (wayOf d ts k) (wayOf d ts n) (wayOf d ts n ++ imageOf d (nth ts n) b) over (imageOf d (nth ts n) b, refl)))
         where
-          over : Above (wayOf d ts k) (wayOf d ts n ++ put d (nth ts n) b)
-          over = above-trans (wayOf d ts k) (wayOf d ts k ++ put d (nth ts k) a) (wayOf d ts n ++ put d (nth ts n) b) (put d (nth ts k) a, refl) u
+          over : Above (wayOf d ts k) (wayOf d ts n ++ imageOf d (nth ts n) b)
+          over = above-trans (wayOf d ts k) (wayOf d ts k ++ imageOf d (nth ts k) a) (wayOf d ts n ++ imageOf d (nth ts n) b) (imageOf d (nth ts k) a, refl) u
 
           by-order : Above (wayOf d ts k) (wayOf d ts n) ⊎ Above (wayOf d ts n) (wayOf d ts k) → ⊥
           by-order (inl v) = way-apart ts k l n g e v
           by-order (inr v) = way-apart ts n g k l (λ x. e (sym x)) v
 
-  pub fits : (t : Topo) → Forked t → Fits t (complete d (need d t)) (put d t)
+  pub fits : (t : Topo) → Forked t → Fits t (complete d (need d t)) (imageOf d t)
   fits t f =
       record {
         root = refl;
-        there = λ a i. put-there a t i;
-        leaf = λ a i e. put-leaf a t i e;
-        down = λ a b i j u. subst (λ (c : Addr). Above (put d t a) (put d t c)) (sym (u .1)) (put-down a (u .0) t i);
-        up = λ a b i j u. put-up a b t f i j u;
+        there = λ a i. image-there a t i;
+        leaf = λ a i e. image-leaf a t i e;
+        down = λ a b i j u. subst (λ (c : Addr). Above (imageOf d t a) (imageOf d t c)) (sym (u .1)) (image-down a (u .0) t i);
+        up = λ a b i j u. image-up a b t f i j u;
       }
 
 -- ---- nothing less deep will do

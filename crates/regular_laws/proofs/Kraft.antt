@@ -15,10 +15,11 @@ use lib.Dec.{eqb, leb}
 use borrow.Author.Tests.{eqb-true, leb-true, eq-eqb, le-leb}
 use Rattle.topology.specs.Tree.{Topo}
 use Rattle.topology.specs.Address.{Addr, child, In, Above}
+use Rattle.topology.proofs.Cases.{off}
 use Rattle.embedding_laws.proofs.All.{and-left, and-right}
 use Rattle.regular_laws.specs.Regular.{complete}
 use Rattle.regular_laws.proofs.Complete.{child-complete, width-complete}
-use Rattle.regular_laws.proofs.Room.{differ, None, room, room-more, room-split, room-none, room-only}
+use Rattle.regular_laws.proofs.Room.{None, room, room-more, room-split, room-none, room-only}
 
 -- Of trees of the heights hs those that a test chooses are at unrelated nodes of the complete tree of depth k.
 pub record Apart (d k : ℕ) (test : ℕ → Bool) (at : ℕ → Addr) (hs : List ℕ) : Type 0 where
@@ -52,7 +53,7 @@ find zero test = inr (λ i l. absurd (not-suc-le-zero l))
 find (suc n) test = by-first (test 0) refl (find n (λ i. test (suc i)))
   where
     past-first : test 0 ≡ false → None n (λ i. test (suc i)) → None (suc n) test
-    past-first e f zero l t = differ (sym e ∙ t)
+    past-first e f zero l t = off (sym e ∙ t)
     past-first e f (suc i) l t = f i (omega arith) t
 
     by-first : (b : Bool) → test 0 ≡ b → Some n (λ i. test (suc i)) ⊎ None n (λ i. test (suc i)) → Some (suc n) test ⊎ None (suc n) test

@@ -3,10 +3,11 @@ use mathlib.Core.Path.{_≡_, refl, sym, ap, _∙_}
 use Prim.Native.Nat.{ℕ, _^_, _≤_}
 use native.Mathlib.Nat.{add-zero}
 use mathlib.Core.List.{List}
+use Rattle.lists.specs.Sum.{sum}
 use Rattle.topology.specs.Tree.{Topo, Forest, node, fnil, fcons}
 use Rattle.reduction.specs.Reduced.{joined, reduced, reducedAll}
 use Rattle.regular_laws.specs.Depth.{LeastDepth}
-use Rattle.regular_laws.specs.Need.{enough, powers, sum, need, needs}
+use Rattle.regular_laws.specs.Need.{enough, powers, need, needs}
 use Rattle.regular_laws.proofs.Enough.{enough-power}
 use Rattle.regular_laws.proofs.Depth.{least-depth}
 

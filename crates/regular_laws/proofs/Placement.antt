@@ -15,16 +15,18 @@ use lib.ListN.{length, getD, length-append}
 use lib.Pow.{pow-add}
 use lib.Dec.{eqb, ltb}
 use borrow.Author.Tests.{eq-eqb, lt-ltb, le-ltb, eqb-true, ltb-true}
+use Rattle.lists.specs.Sum.{sum}
 use Rattle.lists.proofs.Last.{last-unique}
 use Rattle.topology.specs.Tree.{Topo, width}
 use Rattle.topology.specs.Address.{Addr, child, In, sub, Above}
+use Rattle.topology.proofs.Cases.{off}
 use Rattle.topology.proofs.Ancestry.{in-join, sub-append}
 use Rattle.topology.proofs.Order.{above-same}
 use Rattle.regular_laws.specs.Regular.{complete}
-use Rattle.regular_laws.specs.Need.{powers, sum}
+use Rattle.regular_laws.specs.Need.{powers}
 use Rattle.regular_laws.proofs.Enough.{power-pos, power-rises}
 use Rattle.regular_laws.proofs.Complete.{child-complete, width-complete}
-use Rattle.regular_laws.proofs.Room.{differ, room, room-all, room-leaves, room-one}
+use Rattle.regular_laws.proofs.Room.{room, room-all, room-leaves, room-one}
 
 -- ---- nodes by their number among those of one level, from the left
 
@@ -34,15 +36,15 @@ wayTo d zero s = []
 wayTo d (suc n) s = wayTo d n (s / d) ++ (suc (s % d) ∷ [])
 
 -- the number of the node n steps above
-abbrev lift : ℕ → ℕ → ℕ → ℕ
-lift d zero s = s
-lift d (suc n) s = lift d n (s / d)
+abbrev ancestor : ℕ → ℕ → ℕ → ℕ
+ancestor d zero s = s
+ancestor d (suc n) s = ancestor d n (s / d)
 
 way-length : (d n s : ℕ) → length (wayTo d n s) ≡ n
 way-length d zero s = refl
 way-length d (suc n) s = omega (arith, length-append (wayTo d n (s / d)) (suc (s % d) ∷ []), way-length d n (s / d))
 
-way-in : (d h n s : ℕ) → 0 < d → lift d n s ≡ 0 → In (complete d (n + h)) (wayTo d n s) × (sub (complete d (n + h)) (wayTo d n s) ≡ complete d h)
+way-in : (d h n s : ℕ) → 0 < d → ancestor d n s ≡ 0 → In (complete d (n + h)) (wayTo d n s) × (sub (complete d (n + h)) (wayTo d n s) ≡ complete d h)
 way-in d h zero s z e =
     let q : 0 + h ≡ h = omega arith in
     (tt, ap (complete d) q)
@@ -61,8 +63,8 @@ way-in d h (suc n) s z e =
     ∙ child-complete d h (suc (s % d)) (omega arith) small in
     subst (λ (k : ℕ). In (complete d k) (u ++ last) × (sub (complete d k) (u ++ last) ≡ complete d h)) q (there, low)
 
--- a way goes by way of each node above
-way-split : (d m n s : ℕ) → Above (wayTo d m (lift d n s)) (wayTo d (n + m) s)
+-- the way to a node leads through each node above it
+way-split : (d m n s : ℕ) → Above (wayTo d m (ancestor d n s)) (wayTo d (n + m) s)
 way-split d m zero s =
     let q : 0 + m ≡ m = omega arith in
     ([], ap (λ (k : ℕ). wayTo d k s) q ∙ sym (append-nil (wayTo d m s)))
@@ -71,10 +73,10 @@ way-split d m (suc n) s =
     let last : Addr = suc (s % d) ∷ [] in
     let q : suc n + m ≡ suc (n + m) = omega arith in (
       r .0 ++ last,
-      ap (λ (k : ℕ). wayTo d k s) q ∙ ap (λ (a : Addr). a ++ last) (r .1) ∙ append-assoc (wayTo d m (lift d n (s / d))) (r .0) last,
+      ap (λ (k : ℕ). wayTo d k s) q ∙ ap (λ (a : Addr). a ++ last) (r .1) ∙ append-assoc (wayTo d m (ancestor d n (s / d))) (r .0) last,
     )
 
-way-inj : (d m s u : ℕ) → lift d m s ≡ lift d m u → wayTo d m s ≡ wayTo d m u → s ≡ u
+way-inj : (d m s u : ℕ) → ancestor d m s ≡ ancestor d m u → wayTo d m s ≡ wayTo d m u → s ≡ u
 way-inj d zero s u e w = e
 way-inj d (suc m) s u e w =
     let l = last-unique (wayTo d m (s / d)) (wayTo d m (u / d)) (suc (s % d)) (suc (u % d)) w in
@@ -82,43 +84,43 @@ way-inj d (suc m) s u e w =
     omega (arith, l .1, ap (λ (x : ℕ). d * x) q, div-add-mod s d, div-add-mod u d)
 
 -- a node lies above another only where it has the number of the node above that one
-way-above : (d m n s u : ℕ) → lift d n s ≢ u → lift d m (lift d n s) ≡ lift d m u → Above (wayTo d m u) (wayTo d (n + m) s) → ⊥
+way-above : (d m n s u : ℕ) → ancestor d n s ≢ u → ancestor d m (ancestor d n s) ≡ ancestor d m u → Above (wayTo d m u) (wayTo d (n + m) s) → ⊥
 way-above d m n s u ne e a =
-    let v = wayTo d m (lift d n s) in
-    ne (way-inj d m (lift d n s) u e
-    (above-same v (wayTo d m u) (wayTo d (n + m) s) (way-length d m (lift d n s) ∙ sym (way-length d m u)) (way-split d m n s) a))
+    let v = wayTo d m (ancestor d n s) in
+    ne (way-inj d m (ancestor d n s) u e
+    (above-same v (wayTo d m u) (wayTo d (n + m) s) (way-length d m (ancestor d n s) ∙ sym (way-length d m u)) (way-split d m n s) a))
 
-lift-sum : (d n m s : ℕ) → lift d (n + m) s ≡ lift d m (lift d n s)
-lift-sum d zero m s =
+ancestor-sum : (d n m s : ℕ) → ancestor d (n + m) s ≡ ancestor d m (ancestor d n s)
+ancestor-sum d zero m s =
     let q : 0 + m ≡ m = omega arith in
-    ap (λ (x : ℕ). lift d x s) q
-lift-sum d (suc n) m s =
+    ap (λ (x : ℕ). ancestor d x s) q
+ancestor-sum d (suc n) m s =
     let q : suc n + m ≡ suc (n + m) = omega arith in
-    ap (λ (x : ℕ). lift d x s) q ∙ lift-sum d n m (s / d)
+    ap (λ (x : ℕ). ancestor d x s) q ∙ ancestor-sum d n m (s / d)
 
 -- The node n steps above has d ^ n numbers below it.
-lift-suc : (d n l : ℕ) → l * d ^ suc n ≡ d * (l * d ^ n)
-lift-suc d n l =
+ancestor-suc : (d n l : ℕ) → l * d ^ suc n ≡ d * (l * d ^ n)
+ancestor-suc d n l =
     ap (λ (x : ℕ). l * x) (pow-succ' d n) ∙ sym (mul-assoc l d (d ^ n)) ∙ ap (λ (x : ℕ). x * d ^ n) (mul-comm l d) ∙ mul-assoc d l (d ^ n)
 
-lift-least : (d n s : ℕ) → lift d n s * d ^ n ≤ s
-lift-least d zero s = omega (arith, ap (λ (x : ℕ). s * x) (pow-zero d))
-lift-least d (suc n) s =
-    let l = lift d n (s / d) in
-    omega (arith, lift-suc d n l, mul-le-mul-left {m = l * d ^ n} {n = s / d} d (lift-least d n (s / d)), div-add-mod s d)
+ancestor-least : (d n s : ℕ) → ancestor d n s * d ^ n ≤ s
+ancestor-least d zero s = omega (arith, ap (λ (x : ℕ). s * x) (pow-zero d))
+ancestor-least d (suc n) s =
+    let l = ancestor d n (s / d) in
+    omega (arith, ancestor-suc d n l, mul-le-mul-left {m = l * d ^ n} {n = s / d} d (ancestor-least d n (s / d)), div-add-mod s d)
 
-lift-most : (d n s : ℕ) → 0 < d → s < suc (lift d n s) * d ^ n
-lift-most d zero s z = omega (arith, ap (λ (x : ℕ). suc s * x) (pow-zero d))
-lift-most d (suc n) s z =
-    let l = suc (lift d n (s / d)) in
-    omega (arith, lift-suc d n l, mul-le-mul-left {m = suc (s / d)} {n = l * d ^ n} d (lift-most d n (s / d) z), mul-suc d (s / d), div-add-mod s d, mod-lt s z)
+ancestor-most : (d n s : ℕ) → 0 < d → s < suc (ancestor d n s) * d ^ n
+ancestor-most d zero s z = omega (arith, ap (λ (x : ℕ). suc s * x) (pow-zero d))
+ancestor-most d (suc n) s z =
+    let l = suc (ancestor d n (s / d)) in
+    omega (arith, ancestor-suc d n l, mul-le-mul-left {m = suc (s / d)} {n = l * d ^ n} d (ancestor-most d n (s / d) z), mul-suc d (s / d), div-add-mod s d, mod-lt s z)
 
-lift-none : (d n s : ℕ) → s < d ^ n → lift d n s ≡ 0
-lift-none d n s h = by-number (lift d n s) refl
+ancestor-none : (d n s : ℕ) → s < d ^ n → ancestor d n s ≡ 0
+ancestor-none d n s h = by-number (ancestor d n s) refl
   where
-    by-number : (x : ℕ) → lift d n s ≡ x → x ≡ 0
+    by-number : (x : ℕ) → ancestor d n s ≡ x → x ≡ 0
     by-number zero e = refl
-    by-number (suc x) e = absurd (omega (arith, lift-least d n s, ap (λ (y : ℕ). y * d ^ n) e, suc-mul x (d ^ n)))
+    by-number (suc x) e = absurd (omega (arith, ancestor-least d n s, ap (λ (y : ℕ). y * d ^ n) e, suc-mul x (d ^ n)))
 
 -- ---- the order in which the branches are laid
 
@@ -135,8 +137,8 @@ earlier-is hs i j e = by-tests (ltb (getD hs i 0) (getD hs j 0)) (eqb (getD hs i
     by-tests : (a b c : Bool) → ltb (getD hs i 0) (getD hs j 0) ≡ a → eqb (getD hs i 0) (getD hs j 0) ≡ b → ltb j i ≡ c → a || (b && c) ≡ true → Earlier hs i j
     by-tests true b c p q r e = inl (ltb-true (getD hs i 0) (getD hs j 0) p)
     by-tests false true true p q r e = inr (eqb-true (getD hs i 0) (getD hs j 0) q, ltb-true j i r)
-    by-tests false true false p q r e = absurd (differ e)
-    by-tests false false c p q r e = absurd (differ e)
+    by-tests false true false p q r e = absurd (off e)
+    by-tests false false c p q r e = absurd (off e)
 
 is-earlier : (hs : List ℕ) (i j : ℕ) → Earlier hs i j → earlier hs i j ≡ true
 is-earlier hs i j (inl l) = rw (lt-ltb (getD hs i 0) (getD hs j 0) l)
@@ -210,11 +212,12 @@ module _ (d : ℕ) (z : 2 ≤ d) (hs : List ℕ) where
         by-order (yes o) = o
         by-order (no o) = absurd (omega (arith, slot-end i l, suc-mul (slot d hs i) (d ^ getD hs i 0), power-rises d k (getD hs i 0) z (omega arith)))
 
-    -- and where there is another branch, none is as high
+    -- two branches have room together
     two-fit : (i j : ℕ) → i < length hs → j < length hs → Earlier hs i j → d ^ getD hs i 0 + d ^ getD hs j 0 ≤ d ^ k
     two-fit i j l g e =
         omega (arith, slot-after i j g e, slot-end i l, suc-mul (slot d hs i) (d ^ getD hs i 0), suc-mul (slot d hs j) (d ^ getD hs j 0))
 
+    -- so where there is another branch, none is as high as the tree
     pub placed-lower : (i j : ℕ) → i < length hs → j < length hs → i ≢ j → getD hs i 0 < k
     placed-lower i j l g n = by-order (decLt (getD hs i 0) k) (earlier-either hs i j n)
       where
@@ -231,11 +234,11 @@ module _ (d : ℕ) (z : 2 ≤ d) (hs : List ℕ) where
     way i = wayTo d (k - getD hs i 0) (slot d hs i)
 
     -- its way leads from the root
-    top : (i : ℕ) → i < length hs → lift d (k - getD hs i 0) (slot d hs i) ≡ 0
+    top : (i : ℕ) → i < length hs → ancestor d (k - getD hs i 0) (slot d hs i) ≡ 0
     top i l =
         let h = getD hs i 0 in
         let whole : d ^ k ≡ d ^ (k - h) * d ^ h = ap (λ (x : ℕ). d ^ x) (omega (arith, low i l)) ∙ pow-add d (k - h) h in
-        lift-none d (k - h) (slot d hs i)
+        ancestor-none d (k - h) (slot d hs i)
         (lt-of-mul-lt-mul-right (d ^ h) (omega (arith, slot-end i l, suc-mul (slot d hs i) (d ^ h), whole, power-pos d h pos)))
 
     pub placed-in : (i : ℕ) → i < length hs → In (complete d k) (way i) × (sub (complete d k) (way i) ≡ complete d (getD hs i 0))
@@ -248,7 +251,7 @@ module _ (d : ℕ) (z : 2 ≤ d) (hs : List ℕ) where
     placed-length i = way-length d (k - getD hs i 0) (slot d hs i)
 
     -- n steps above branch i's node, at branch j's height, is another node than branch j's
-    differs : (i j n : ℕ) → i < length hs → j < length hs → i ≢ j → getD hs j 0 ≡ n + getD hs i 0 → lift d n (slot d hs i) ≢ slot d hs j
+    differs : (i j n : ℕ) → i < length hs → j < length hs → i ≢ j → getD hs j 0 ≡ n + getD hs i 0 → ancestor d n (slot d hs i) ≢ slot d hs j
     differs i j n l g ne e q = by-order (earlier-either hs i j ne)
       where
         leaves : d ^ getD hs j 0 ≡ d ^ n * d ^ getD hs i 0
@@ -256,14 +259,14 @@ module _ (d : ℕ) (z : 2 ≤ d) (hs : List ℕ) where
 
         by-order : Earlier hs i j ⊎ Earlier hs j i → ⊥
         by-order (inl o) =
-            omega (arith, lift-most d n (slot d hs i) pos, ap (λ (x : ℕ). suc x * d ^ n) q, back)
+            omega (arith, ancestor-most d n (slot d hs i) pos, ap (λ (x : ℕ). suc x * d ^ n) q, back)
           where
             back : suc (slot d hs j) * d ^ n ≤ slot d hs i
             back = le-of-mul-le-mul-right (omega (arith, slot-after i j g o, ap (λ (x : ℕ). suc (slot d hs j) * x) leaves, mul-assoc (suc (slot d hs j)) (d ^ n) (d ^ getD hs i 0))) (power-pos d (getD hs i 0) pos)
         by-order (inr (inl o)) = omega (arith, e)
         by-order (inr (inr (same, o))) =
             let level : n ≡ 0 = omega (arith, e, same) in
-            let alike : slot d hs i ≡ slot d hs j = ap (λ (x : ℕ). lift d x (slot d hs i)) (sym level) ∙ q in
+            let alike : slot d hs i ≡ slot d hs j = ap (λ (x : ℕ). ancestor d x (slot d hs i)) (sym level) ∙ q in
             omega (arith, slot-after j i l (inr (same, o)), suc-mul (slot d hs i) (d ^ getD hs i 0), ap₂ (λ (x y : ℕ). x * d ^ y) alike (sym same), power-pos d (getD hs i 0) pos)
 
     -- the higher of two branches does not lie above the lower one
@@ -274,7 +277,7 @@ module _ (d : ℕ) (z : 2 ≤ d) (hs : List ℕ) where
         let s = slot d hs i in
         let total : k - getD hs i 0 ≡ n + m = omega (arith, low j g, o) in
         way-above d m n s (slot d hs j) (differs i j n l g ne (omega (arith, o)))
-        (sym (lift-sum d n m s) ∙ ap (λ (x : ℕ). lift d x s) (sym total) ∙ top i l ∙ sym (top j g))
+        (sym (ancestor-sum d n m s) ∙ ap (λ (x : ℕ). ancestor d x s) (sym total) ∙ top i l ∙ sym (top j g))
         (subst (λ (x : ℕ). Above (way j) (wayTo d x s)) total u)
 
     pub placed-apart : (i j : ℕ) → i < length hs → j < length hs → i ≢ j → Above (way i) (way j) → ⊥

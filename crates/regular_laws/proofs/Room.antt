@@ -8,12 +8,10 @@ use mathlib.Core.List.{List, [], _∷_}
 use mathlib.Core.Bool.{Bool, true, false}
 use lib.ListN.{length, getD}
 use lib.Pow.{pow-add}
+use Rattle.lists.specs.Sum.{sum}
 use Rattle.topology.specs.Reader.{pick}
-use Rattle.topology.proofs.Cases.{clash}
-use Rattle.regular_laws.specs.Need.{powers, sum}
-
-pub differ : false ≡ true → ⊥
-differ e = clash (cc)
+use Rattle.topology.proofs.Cases.{off}
+use Rattle.regular_laws.specs.Need.{powers}
 
 -- How many branches of height h have as many leaves as those chosen have together; for h = 0 it is how many leaves these have.
 abbrev pub room : ℕ → ℕ → (ℕ → Bool) → List ℕ → ℕ
@@ -26,7 +24,7 @@ room-all d (x ∷ hs) =
     let q : x - 0 ≡ x = omega arith in
     rw q (ap (λ (s : ℕ). d ^ x + s) (room-all d hs))
 
--- where none of those is lower than h
+-- Where no chosen branch is lower than h, so many branches of height h have exactly the leaves of those chosen.
 pub room-leaves : (d h : ℕ) (test : ℕ → Bool) (hs : List ℕ) → ((i : ℕ) → test i ≡ true → h ≤ getD hs i 0) → room d h test hs * d ^ h ≡ room d 0 test hs
 room-leaves d h test [] f = omega arith
 room-leaves d h test (x ∷ hs) f =
@@ -40,14 +38,14 @@ room-leaves d h test (x ∷ hs) f =
 pick-more : (n : ℕ) (a b : Bool) → (a ≡ true → b ≡ true) → pick a n 0 ≤ pick b n 0
 pick-more n false b g = omega arith
 pick-more n true true g = omega arith
-pick-more n true false g = absurd (differ (g refl))
+pick-more n true false g = absurd (off (g refl))
 
--- where others may be chosen beside them
+-- Where q chooses all that p chooses, they have at least as many leaves.
 pub room-more : (d : ℕ) (p q : ℕ → Bool) (hs : List ℕ) → ((i : ℕ) → i < length hs → p i ≡ true → q i ≡ true) → room d 0 p hs ≤ room d 0 q hs
 room-more d p q [] f = omega arith
 room-more d p q (x ∷ hs) f = omega (arith, pick-more (d ^ (x - 0)) (p 0) (q 0) (f 0 (omega arith)), room-more d (λ i. p (suc i)) (λ i. q (suc i)) hs (λ i l e. f (suc i) (omega arith) e))
 
--- and where the one at place j is, which is not among them
+-- Where q chooses the branch at place j besides, they have at least its leaves more.
 pub room-one : (d : ℕ) (p q : ℕ → Bool) (hs : List ℕ) (j : ℕ) → j < length hs → ((i : ℕ) → p i ≡ true → q i ≡ true) → p j ≡ false → q j ≡ true
     → room d 0 p hs + d ^ getD hs j 0 ≤ room d 0 q hs
 room-one d p q [] j l f e g = absurd (not-suc-le-zero l)
@@ -57,7 +55,7 @@ room-one d p q (x ∷ hs) zero l f e g =
 room-one d p q (x ∷ hs) (suc j) l f e g =
     omega (arith, room-one d (λ i. p (suc i)) (λ i. q (suc i)) hs j (le-of-suc-le-suc l) (λ i e. f (suc i) e) e g, pick-more (d ^ (x - 0)) (p 0) (q 0) (f 0))
 
--- where each of them is of the one kind or the other
+-- Where q or r chooses each that p chooses, those of p have at most the leaves of both together.
 pub room-split : (d : ℕ) (p q r : ℕ → Bool) (hs : List ℕ) → ((i : ℕ) → i < length hs → p i ≡ true → (q i ≡ true) ⊎ (r i ≡ true))
     → room d 0 p hs ≤ room d 0 q hs + room d 0 r hs
 room-split d p q r [] f = omega arith
@@ -71,10 +69,10 @@ room-split d p q r (x ∷ hs) f =
     one true false false g = absurd (neither (g refl))
       where
         neither : (false ≡ true) ⊎ (false ≡ true) → ⊥
-        neither (inl e) = differ e
-        neither (inr e) = differ e
+        neither (inl e) = off e
+        neither (inr e) = off e
 
--- where none is chosen
+-- Where none is chosen, there is no leaf.
 abbrev pub None : ℕ → (ℕ → Bool) → Type 0
 None n test = (i : ℕ) → i < n → test i ≡ true → ⊥
 
@@ -86,7 +84,7 @@ room-none d p (x ∷ hs) f = omega (arith, one (p 0) (f 0 (omega arith)), room-n
     one false g = refl
     one true g = absurd (g refl)
 
--- where only the one at place j is chosen
+-- Where only the branch at place j is chosen, there are at most its leaves.
 pub room-only : (d : ℕ) (p : ℕ → Bool) (hs : List ℕ) (j : ℕ) → j < length hs → ((i : ℕ) → i < length hs → p i ≡ true → i ≡ j) → room d 0 p hs ≤ d ^ getD hs j 0
 room-only d p [] j l f = absurd (not-suc-le-zero l)
 room-only d p (x ∷ hs) zero l f =

@@ -3,9 +3,10 @@
 --
 -- A complete tree of depth k has d ^ k leaves. The branches of a node's children lie apart on the chip, so their complete trees must have no
 -- more leaves together than the node's own has. That is Kraft's sum; that it suffices too is shown in proofs/Placement.
-use Prim.Native.Nat.{ℕ, zero, suc, _+_, _^_}
+use Prim.Native.Nat.{ℕ, zero, suc, _*_, _^_}
 use mathlib.Core.List.{List, [], _∷_}
 use lib.Dec.{leb}
+use Rattle.lists.specs.Sum.{sum}
 use Rattle.topology.specs.Tree.{Topo, Forest, node, fnil, fcons}
 use Rattle.topology.specs.Reader.{pick}
 
@@ -21,10 +22,6 @@ abbrev pub powers : ℕ → List ℕ → List ℕ
 powers d [] = []
 powers d (h ∷ hs) = d ^ h ∷ powers d hs
 
-abbrev pub sum : List ℕ → ℕ
-sum [] = 0
-sum (n ∷ ns) = n + sum ns
-
 -- What a tree needs, and what the trees of a forest need. A leaf needs 0, and a node with one child what that child needs.
 abbrev mutual
   pub need : ℕ → Topo → ℕ
@@ -33,3 +30,7 @@ abbrev mutual
   pub needs : ℕ → Forest → List ℕ
   needs d fnil = []
   needs d (fcons t ts) = need d t ∷ needs d ts
+
+-- No drawing within the limits needs more leaves (`need-most` in proofs/Bounds).
+abbrev pub mostLeaves : ℕ
+mostLeaves = 32 * 8 ^ 8

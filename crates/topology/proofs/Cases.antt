@@ -19,6 +19,9 @@ use Rattle.topology.specs.declared.Toward.the-variants.{Child, Nowhere}
 pub clash : _≡_ {A = ℕ} 0 1 → ⊥
 clash e = omega arith
 
+pub off : false ≡ true → ⊥
+off e = clash (cc)
+
 pub child-zero : (bytes : List ℕ) (n i : ℕ) → i ≡ 0 → Missing ≡ childAt bytes n i
 unfolding childAt
 child-zero bytes n i e = rw e

@@ -8,9 +8,10 @@ use lib.ListN.{take}
 use lib.Dec.{eqb}
 use Rattle.topology.specs.Tree.{Topo}
 use Rattle.topology.specs.Reader.{fault, tree}
+use Rattle.topology.proofs.Cases.{off}
 use Rattle.queue_state.specs.State.{bytes, wellFormed}
 use Rattle.queue_state.specs.declared.State.{State}
-use Rattle.queue_state.proofs.Formed.{off, formed}
+use Rattle.queue_state.proofs.Formed.{formed}
 use Rattle.queue_counts.specs.Amounts.{amount}
 use Rattle.queue_counts.specs.declared.Amount.{Amount}
 use Rattle.queue_counts.specs.declared.Amount.the-variants.{Refused}

@@ -5,7 +5,7 @@ use Prim.Native.Nat.{_+_, _-_, _≤_}
 use native.Mathlib.Omega.{arith}
 use lib.ListN.{length, drop}
 use denote.Ref.{now}
-use Rattle.regular_laws.specs.Need.{sum}
+use Rattle.lists.specs.Sum.{sum}
 use Rattle.regular.proofs.Powers.{sum-next, sum-end}
 use Rattle.regular.proofs.sum_of.Statement.{statement}
 use Rattle.regular.proofs.sum_of.Tie as tie
