@@ -29,8 +29,8 @@ use Rattle.embedding_laws.proofs.Searching.{search-twelve}
 use Rattle.simulation.specs.Sheet.{serveCarried}
 use Rattle.simulation.proofs.Reduced.{places-pass}
 use Rattle.regular_laws.specs.Regular.{complete}
-use Rattle.regular_laws.proofs.Searching.{depth-drawn, search-regular}
-use Rattle.regular.proofs.Answers.{answers-some}
+use Rattle.regular_laws.proofs.Searching.{search-regular}
+use Rattle.regular.proofs.Answers.{depth-drawn, answers-some}
 use Rattle.embedding_search.specs.Outcomes.{outcome, numberOf}
 use Rattle.embedding_search.specs.Search.{Searches}
 use Rattle.embedding_search.specs.declared.Searched.{Searched}

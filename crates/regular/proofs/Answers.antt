@@ -18,6 +18,11 @@ use Rattle.regular.specs.declared.Depth.{Depth}
 use Rattle.regular.specs.declared.Depth.the-variants.{Least, Refused}
 
 module _ (source : List ℕ) (d : ℕ) where
+  -- without a refusal the bytes are a tree, and d is 2 or more
+  pub depth-drawn : depthFault source d ≡ 0 → fault 32 source ≡ 0
+  unfolding depthFault
+  depth-drawn e = orElse-none (fault 32 source) (pick (leb 2 d && leb d 8) 0 27) e .0
+
   wide : depthFault source d ≡ 0 → 2 ≤ d
   unfolding depthFault
   wide e = by-test (leb 2 d && leb d 8) refl (orElse-none (fault 32 source) (pick (leb 2 d && leb d 8) 0 27) e .1)

@@ -4,23 +4,16 @@ use mathlib.Core.Path.{_≡_, sym, subst}
 use Prim.Native.Nat.{ℕ, _<_}
 use native.Mathlib.Omega.{arith}
 use mathlib.Core.List.{List}
-use mathlib.Core.Bool.{_&&_}
-use lib.Dec.{leb}
 use Rattle.topology.specs.Tree.{Topo, code}
-use Rattle.topology.specs.Reader.{Within, pick, fault, tree}
+use Rattle.topology.specs.Reader.{Within, fault, tree}
 use Rattle.topology.proofs.Reader.{accepts}
 use Rattle.topology.proofs.Decoding.{tree-code}
-use Rattle.topology.proofs.Refusals.{orElse-none}
 use Rattle.embedding_laws.specs.Rules.{Passes}
 use Rattle.embedding_laws.specs.Least.{searchFault}
 use Rattle.embedding_laws.proofs.Searching.{search-twelve, search-found}
 use Rattle.regular_laws.specs.Regular.{complete}
-use Rattle.regular_laws.specs.Depth.{LeastDepth, depthFault}
+use Rattle.regular_laws.specs.Depth.{LeastDepth}
 use Rattle.regular_laws.proofs.Limits.{complete-within}
-
-pub depth-drawn : (source : List ℕ) (d : ℕ) → depthFault source d ≡ 0 → fault 32 source ≡ 0
-unfolding depthFault
-depth-drawn source d e = orElse-none (fault 32 source) (pick (leb 2 d && leb d 8) 0 27) e .0
 
 pub search-regular : (source : List ℕ) (d k : ℕ) → fault 32 source ≡ 0 → LeastDepth (tree source) d k → Within 64 (complete d k)
     → (searchFault source (code (complete d k)) ≡ 0) × ((j : ℕ) → j < k → searchFault source (code (complete d j)) ≡ 12)
