@@ -93,6 +93,7 @@ fn every_short_string(seed: u64) {
             }
             for limit in [1, 3, SOURCE_NODES, TARGET_NODES] {
                 comparison.read(bytes, limit);
+                comparison.debts(bytes, limit);
             }
             comparison.every_node(bytes);
             comparison.next_input();
@@ -110,6 +111,8 @@ fn random_strings(seed: u64) {
         let bytes = generate::any(&mut random);
         comparison.read(&bytes, SOURCE_NODES);
         comparison.read(&bytes, TARGET_NODES);
+        comparison.debts(&bytes, SOURCE_NODES);
+        comparison.debts(&bytes, TARGET_NODES);
         if random.one_in(4) {
             comparison.read(&bytes, random.within(0..=130));
         }
@@ -187,6 +190,24 @@ impl Comparison {
         };
         self.agree(format_args!("read, limit {limit}"), bytes, rattle, rust);
         self.read_answers.meet(rust);
+    }
+
+    /// Reads ever more of the bytes. As long as each is accepted, the tree is
+    /// complete exactly where the debt is 0: one plus the child counts read so
+    /// far, less the number of bytes read. The first byte at fault decides.
+    fn debts(&self, bytes: &[u8], limit: usize) {
+        let whole = rattle::read(bytes, limit);
+        let mut debt = 1;
+        for length in 0..=bytes.len() {
+            let part = rattle::read(&bytes[..length], limit);
+            let expected = if part > 1 { whole } else { u8::from(debt != 0) };
+            let question = format_args!("read {length} bytes, limit {limit}");
+            self.agree(question, bytes, part, expected);
+            if part > 1 {
+                return;
+            }
+            debt += bytes.get(length).map_or(0, |&byte| i64::from(byte) - 1);
+        }
     }
 
     /// The branch under `node`: its refusal, its length and its bytes.

@@ -7,3 +7,4 @@ pub mod Slice
 pub mod Replicate
 pub mod Tabulate
 pub mod Set
+pub mod Sum

@@ -8,6 +8,7 @@ use lib.ListN.{length, take, drop, getD, length-append, length-drop}
 use lib.Seq.{slice, slice-empty, slice-cons, take-suc, take-at, drop-at, drop-append-le, length-take-le}
 use Rattle.lists.proofs.Map.{length-map}
 use Rattle.lists.proofs.Slice.{take-slice}
+use Rattle.lists.proofs.Sum.{sum-take}
 use Rattle.pifo.specs.Queue.{Entry}
 use Rattle.pifo.specs.Numbered.{Queues}
 use Rattle.queue_state.specs.State.{Packet, entryOf, startOf, queueIn}
@@ -17,10 +18,7 @@ use Rattle.queue_state.specs.declared.Entry.{Entry as CodeEntry}
 -- ---- starts
 
 pub start-next : (ls : List ℕ) (n : ℕ) → startOf ls (suc n) ≡ startOf ls n + getD ls n 0
-start-next [] zero = refl
-start-next [] (suc n) = refl
-start-next (l ∷ ls) zero = omega arith
-start-next (l ∷ ls) (suc n) = omega (arith, start-next ls n)
+start-next ls n = sum-take ls n
 
 pub start-later : (ls : List ℕ) (n k : ℕ) → startOf ls n ≤ startOf ls (n + k)
 start-later ls n zero = omega (arith, ap (startOf ls) (add-zero n))

@@ -56,7 +56,7 @@ unfolding isAbove
 above-not bytes a b h = rw (lt-leb a b h)
 
 -- a child comes after its parent
-start-after : (bytes : List ℕ) (n i : ℕ) → n < start bytes n i
+pub start-after : (bytes : List ℕ) (n i : ℕ) → n < start bytes n i
 unfolding branchEnd
 start-after bytes n zero = omega arith
 start-after bytes n (suc i) = omega (arith, start-after bytes n i)

@@ -4,10 +4,12 @@ pub mod Order
 pub mod Children
 pub mod Decoding
 pub mod Reader
-pub mod Scan
+pub mod Marks
+pub mod Debt
 pub mod Levels
-pub mod Cases
 pub mod Progress
+pub mod Scan
+pub mod Cases
 pub mod Lookup
 pub mod Refusals
 pub mod Prefix

@@ -6,7 +6,7 @@ use native.Mathlib.Omega.{arith}
 use mathlib.Core.List.{List, [], _∷_}
 use lib.ListN.{length, take}
 use lib.Seq.{take-all}
-use Rattle.topology.specs.Reader.{orElse, faultAt, faultFrom, fault, after}
+use Rattle.topology.specs.Reader.{orElse, owing, marking, faultAt, faultFrom, fault}
 use Rattle.topology.proofs.Reader.{sound}
 use Rattle.topology.proofs.Lookup.{valid-length}
 
@@ -15,17 +15,19 @@ orElse-same : (f r s : ℕ) → (f ≡ 0 → r ≡ s) → orElse f r ≡ orElse 
 orElse-same zero r s h = h refl
 orElse-same (suc f) r s h = refl
 
-fault-part : (limit n k : ℕ) (owed bs : List ℕ) → n ≤ limit → n + k ≡ suc limit → faultFrom limit n owed (take k bs) ≡ faultFrom limit n owed bs
-fault-part limit n zero owed bs l e = absurd (omega arith)
-fault-part limit n (suc k) owed [] l e = refl
-fault-part limit n (suc k) owed (b ∷ bs) l e =
-    orElse-same (faultAt limit n (length owed) b) (faultFrom limit (suc n) (after b owed) (take k bs)) (faultFrom limit (suc n) (after b owed) bs)
-    (λ z. fault-part limit (suc n) k (after b owed) bs (sound limit n (length owed) b z .nodes) (omega arith))
+fault-part : (limit n k debt : ℕ) (marks bs : List ℕ) → n ≤ limit → n + k ≡ suc limit
+    → faultFrom limit n debt marks (take k bs) ≡ faultFrom limit n debt marks bs
+fault-part limit n zero debt marks bs l e = absurd (omega arith)
+fault-part limit n (suc k) debt marks [] l e = refl
+fault-part limit n (suc k) debt marks (b ∷ bs) l e =
+    let rest : List ℕ → ℕ = faultFrom limit (suc n) (owing debt b) (marking debt marks b) in
+    orElse-same (faultAt limit n debt (length marks) b) (rest (take k bs)) (rest bs)
+    (λ z. fault-part limit (suc n) k (owing debt b) (marking debt marks b) bs (sound limit n debt (length marks) b z .nodes) (omega arith))
 
 module _ (limit : ℕ) (bytes : List ℕ) where
   pub prefix-fault : fault limit (take (suc limit) bytes) ≡ fault limit bytes
   unfolding fault
-  prefix-fault = fault-part limit 0 (suc limit) (1 ∷ []) bytes (omega arith) (omega arith)
+  prefix-fault = fault-part limit 0 (suc limit) 1 [] bytes (omega arith) (omega arith)
 
   pub prefix-whole : fault limit bytes ≡ 0 → take (suc limit) bytes ≡ bytes
   prefix-whole e = take-all (suc limit) bytes (omega (arith, valid-length limit bytes e))

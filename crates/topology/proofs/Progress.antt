@@ -1,76 +1,68 @@
 -- The reader at work: what is known when it has read i bytes without fault, and what follows at each of its steps.
-use mathlib.Core.Path.{_≡_, refl, sym, ap, _∙_, subst}
+use mathlib.Core.Path.{_≡_, refl, sym, ap, ap₂, _∙_}
 use mathlib.Core.Logic.{_≢_}
-use Prim.Native.Nat.{ℕ, zero, suc, _+_, _-_, _≤_, _<_}
+use Prim.Native.Nat.{ℕ, zero, suc, pred, _+_, _-_, _≤_, _<_}
 use native.Mathlib.Numerals.{add-one}
 use native.Mathlib.Omega.{arith}
 use mathlib.Core.List.{List, [], _∷_}
-use lib.ListN.{length, drop, getD, length-drop, drop-of-length-le}
+use lib.ListN.{length, take, drop, getD, set, replicate, length-drop, length-set, length-replicate, drop-of-length-le}
 use lib.Seq.{drop-cons}
 use lib.Dec.{eqb}
 use borrow.Author.Tests.{eq-eqb, ne-eqb}
-use Rattle.topology.specs.Reader.{pick, orElse, after, faultAt, faultFrom, fault, reading}
-use Rattle.topology.specs.Owing.{Settled, Counts}
-use Rattle.topology.specs.declared.Owed.{Owed}
+use Rattle.lists.specs.Sum.{sum}
+use Rattle.lists.proofs.Set.{drop-set}
+use Rattle.lists.proofs.Sum.{sum-take}
+use Rattle.topology.specs.Reader.{pick, orElse, owing, pending, marking, faultAt, faultFrom, fault, reading}
 use Rattle.topology.specs.declared.Reading.the-variants.{Tree, Refused}
-use Rattle.topology.proofs.Reader.{sound, settled}
+use Rattle.topology.proofs.Reader.{Sound, sound}
+use Rattle.topology.proofs.Marks.{Bounded, bounded-most, bounded-marking}
 
-abbrev pub levels : Owed → List ℕ
-levels o = drop (o .top) (o .counts)
-
-pub record Progress (limit : ℕ) (bytes : List ℕ) (o : Owed) (i : ℕ) : Type 0 where
+-- `value` is paper 02, 2.4's sentence about the running value of the code.
+pub record Progress (limit : ℕ) (bytes : List ℕ) (debt : ℕ) (marks : List ℕ) (top i : ℕ) : Type 0 where
   pub read : i ≤ length bytes
-  pub places : length (o .counts) ≡ 10
-  pub top : o .top ≤ 10
-  pub settled : Settled (levels o)
-  pub same : faultFrom limit i (levels o) (drop i bytes) ≡ fault limit bytes
+  pub places : length marks ≡ 9
+  pub within : top ≤ 9
+  pub value : debt + i ≡ 1 + sum (take i bytes)
+  pub bounded : Bounded debt (drop top marks)
+  pub same : faultFrom limit i debt (drop top marks) (drop i bytes) ≡ fault limit bytes
 
-settled-after : (b : ℕ) (ks : List ℕ) → Settled (after b ks)
-settled-after b [] = tt
-settled-after b (zero ∷ ks) = settled (b ∷ zero ∷ ks)
-settled-after b (suc k ∷ ks) = settled (b ∷ k ∷ ks)
-
-pub begin : (limit : ℕ) (bytes : List ℕ) (o : Owed) → Counts o (1 ∷ []) → Progress limit bytes o 0
+pub begin : (limit : ℕ) (bytes : List ℕ) → Progress limit bytes 1 (replicate 9 0) 9 0
 unfolding fault
-begin limit bytes o k =
+begin limit bytes =
     record {
       read = omega arith;
-      places = k .places;
-      top = k .top;
-      settled = subst Settled (sym (k .levels)) tt;
-      same = ap (λ (ks : List ℕ). faultFrom limit 0 ks bytes) (k .levels);
+      places = length-replicate {A = ℕ} 9 0;
+      within = omega arith;
+      value = refl;
+      bounded = omega arith;
+      same = refl;
     }
 
-module _ (limit : ℕ) (bytes : List ℕ) (o : Owed) (i : ℕ) (p : Progress limit bytes o i) where
-  levels-length : length (levels o) ≡ 10 - o .top
-  levels-length = length-drop (o .top) (o .counts) ∙ ap (λ (n : ℕ). n - o .top) (p .places)
+module _ (limit : ℕ) (bytes : List ℕ) (debt : ℕ) (marks : List ℕ) (top i : ℕ) (p : Progress limit bytes debt marks top i) where
+  depth-is : length (drop top marks) ≡ 9 - top
+  depth-is = length-drop top marks ∙ ap (λ (n : ℕ). n - top) (p .places)
 
   -- at the end the tree is complete, or bytes are missing
-  ends : length bytes ≤ i → fault limit bytes ≡ pick (eqb (10 - o .top) 0) 0 1
-  ends h =
-      sym (p .same)
-      ∙ ap (faultFrom limit i (levels o)) (drop-of-length-le bytes h)
-      ∙ ap (λ (n : ℕ). pick (eqb n 0) 0 1) levels-length
+  ends : length bytes ≤ i → fault limit bytes ≡ pick (eqb debt 0) 0 1
+  ends h = sym (p .same) ∙ ap (faultFrom limit i debt (drop top marks)) (drop-of-length-le bytes h)
 
-  pub complete : length bytes ≤ i → o .top ≡ 10 → Tree ≡ reading (fault limit bytes)
-  complete h e = rw (ends h, eq-eqb (10 - o .top) 0 (omega arith))
+  pub complete : length bytes ≤ i → debt ≡ 0 → Tree ≡ reading (fault limit bytes)
+  complete h e = rw (ends h, eq-eqb debt 0 e)
 
-  pub incomplete : length bytes ≤ i → o .top ≢ 10 → Refused 1 ≡ reading (fault limit bytes)
-  incomplete h e =
-      let l = p .top in
-      rw (ends h, ne-eqb (10 - o .top) 0 (omega arith))
+  pub incomplete : length bytes ≤ i → debt ≢ 0 → Refused 1 ≡ reading (fault limit bytes)
+  incomplete h e = rw (ends h, ne-eqb debt 0 e)
 
-  module _ (number : ℕ) (h : i < length bytes) (is : number ≡ faultAt limit i (10 - o .top) (getD bytes i 0)) where
+  module _ (number : ℕ) (h : i < length bytes) (is : number ≡ faultAt limit i debt (9 - top) (getD bytes i 0)) where
     -- the next byte's fault, or what comes after it
     rest : ℕ
-    rest = faultFrom limit (suc i) (after (getD bytes i 0) (levels o)) (drop (suc i) bytes)
+    rest = faultFrom limit (suc i) (owing debt (getD bytes i 0)) (marking debt (drop top marks) (getD bytes i 0)) (drop (suc i) bytes)
 
     unrolled : fault limit bytes ≡ orElse number rest
     unfolding rest
     unrolled =
         sym (p .same)
-        ∙ ap (faultFrom limit i (levels o)) (drop-cons bytes i 0 h)
-        ∙ ap (λ (n : ℕ). orElse n rest) (ap (λ (l : ℕ). faultAt limit i l (getD bytes i 0)) levels-length ∙ sym is)
+        ∙ ap (faultFrom limit i debt (drop top marks)) (drop-cons bytes i 0 h)
+        ∙ ap (λ (n : ℕ). orElse n rest) (ap (λ (d : ℕ). faultAt limit i debt d (getD bytes i 0)) depth-is ∙ sym is)
 
     pub refuse : number ≢ 0 → Refused number ≡ reading (fault limit bytes)
     refuse n = rw unrolled (refused number rest n)
@@ -79,18 +71,37 @@ module _ (limit : ℕ) (bytes : List ℕ) (o : Owed) (i : ℕ) (p : Progress lim
         refused zero r n = absurd (n refl)
         refused (suc f) r n = refl
 
-    pub awaits : number ≡ 0 → (0 < o .top) × (o .top < 10) × Settled (levels o)
-    awaits z =
-        let s = sound limit i (10 - o .top) (getD bytes i 0) (sym is ∙ z) in
-        (omega arith, omega arith, p .settled)
+    module _ (z : number ≡ 0) where
+      fine : Sound limit i debt (9 - top) (getD bytes i 0)
+      fine = sound limit i debt (9 - top) (getD bytes i 0) (sym is ∙ z)
 
-    pub advance : number ≡ 0 → (next : Owed) → Counts next (after (getD bytes i 0) (levels o)) → Progress limit bytes next (i + 1)
-    unfolding rest
-    advance z next k =
-        record {
-          read = omega arith;
-          places = k .places;
-          top = k .top;
-          settled = subst Settled (sym (k .levels)) (settled-after (getD bytes i 0) (levels o));
-          same = rw (add-one, k .levels) (sym (unrolled ∙ ap (λ (n : ℕ). orElse n rest) z));
-        }
+      -- the byte can be paid, there is a place for its mark, and its children can be added
+      pub payable : (0 < debt) × (0 < top) × (debt ≤ 65) × (getD bytes i 0 ≤ 8)
+      payable =
+          let s = fine in
+          let d = depth-is in
+          let w = p .within in
+          (s .owed, omega (arith, s .steps), omega (arith, s .steps, bounded-most debt (drop top marks) (p .bounded)), s .children)
+
+      pub advance : (children next : ℕ) → children ≡ getD bytes i 0 → next ≤ 9
+          → drop next (set marks (top - 1) (debt - 1)) ≡ pending (debt - 1 + children) (drop (top - 1) (set marks (top - 1) (debt - 1)))
+          → Progress limit bytes (debt - 1 + children) (set marks (top - 1) (debt - 1)) next (i + 1)
+      unfolding rest
+      advance children next q w e =
+          let ok = payable in
+          let owed : debt - 1 + children ≡ owing debt (getD bytes i 0) = omega (arith, ok .0) in
+          let left : debt - 1 ≡ pred debt = omega arith in
+          let above : suc (top - 1) ≡ top = omega (arith, ok .1) in
+          let marked : drop next (set marks (top - 1) (debt - 1)) ≡ marking debt (drop top marks) (getD bytes i 0) =
+          e
+          ∙ ap (pending (debt - 1 + children)) (drop-set marks (top - 1) (debt - 1) (omega (arith, ok .1, p .within, p .places)))
+          ∙ ap (λ (t : ℕ). pending (debt - 1 + children) ((debt - 1) ∷ drop t marks)) above
+          ∙ ap₂ (λ (x y : ℕ). pending x (y ∷ drop top marks)) owed left in
+          record {
+            read = omega arith;
+            places = length-set marks (top - 1) (debt - 1) ∙ p .places;
+            within = w;
+            value = rw add-one (omega (arith, ok .0, p .value, sum-take bytes i));
+            bounded = rw (owed, marked) (bounded-marking debt (drop top marks) (getD bytes i 0) (ok .3) (p .bounded));
+            same = rw (add-one, owed, marked) (sym (unrolled ∙ ap (λ (n : ℕ). orElse n rest) z));
+          }

@@ -1,114 +1,119 @@
 -- The reader accepts exactly the codes of the trees within the limits.
 --
--- One way (`accepts`), by induction over trees: to read the code of a tree that fits costs one node of the first level and leaves the
--- levels behind it as they were. Other way: as long as no byte is at fault, the bytes that are left draw as many trees as nodes are
--- owed (`draws`), so all bytes draw one; and the same induction over that tree gives back the limits (`fits`).
-use mathlib.Core.Path.{_≡_, refl, sym, ap, _∙_}
+-- One way (`accepts`), by induction over trees: to read the code of a tree that fits takes one from the debt and leaves the marks of the branches
+-- that are then not complete. Other way: as long as no byte is at fault, the bytes that are left draw as many trees as nodes are owed (`draws`),
+-- so all bytes draw one; and the same induction over that tree gives back the limits (`fits`).
+use mathlib.Core.Path.{_≡_, refl, sym, ap, ap₂, _∙_}
 use mathlib.Core.Logic.{_≢_}
-use Prim.Native.Nat.{ℕ, zero, suc, _+_, _≤_, _<_}
+use Prim.Native.Nat.{ℕ, zero, suc, pred, _+_, _≤_, _<_}
 use native.Mathlib.Nat.{zero-add, not-suc-le-zero, le-of-suc-le-suc}
 use native.Mathlib.Omega.{arith}
 use mathlib.Core.List.{List, [], _∷_, _++_, append-assoc, append-nil}
 use mathlib.Core.Bool.{Bool, true, false}
 use lib.ListN.{length}
 use lib.Dec.{eqb, leb, ltb, eqb·suc-zero}
-use borrow.Author.Tests.{eqb-false, leb-false, ltb-false, ne-eqb, lt-leb, le-ltb}
+use borrow.Author.Tests.{eqb-false, leb-false, ltb-false, ne-eqb, lt-leb, le-ltb, lt-ltb}
 use Rattle.topology.specs.Tree.{Topo, Forest, node, fnil, fcons, count, code, codes, size, sizes, height, heights, breadth, breadths}
-use Rattle.topology.specs.Reader.{Within, pick, orElse, settle, faultAt, faultFrom, fault, first, others, forest, head, tree}
-use Rattle.topology.specs.Owing.{Settled}
+use Rattle.topology.specs.Reader.{Within, pick, orElse, owing, pending, marking, faultAt, faultFrom, fault, first, others, forest, head, tree}
+use Rattle.topology.proofs.Refusals.{orElse-none}
 
--- a byte without fault, where nodes are owed at so many levels
-pub record Sound (limit n levels b : ℕ) : Type 0 where
-  pub owed : 0 < levels
+-- a byte without fault
+pub record Sound (limit n debt depth b : ℕ) : Type 0 where
+  pub owed : 0 < debt
   pub nodes : n < limit
   pub children : b ≤ 8
-  pub steps : levels ≤ 9
+  pub steps : depth ≤ 8
 
-faultAt-none : (limit n levels b : ℕ) → Sound limit n levels b → faultAt limit n levels b ≡ 0
-faultAt-none limit n levels b s =
-    simp (ne-eqb levels 0 (omega arith), lt-leb limit n (s .nodes), le-ltb 8 b (s .children), le-ltb 9 levels (s .steps))
+faultAt-none : (limit n debt depth b : ℕ) → Sound limit n debt depth b → faultAt limit n debt depth b ≡ 0
+faultAt-none limit n debt depth b s =
+    simp (ne-eqb debt 0 (omega arith), lt-leb limit n (s .nodes), le-ltb 8 b (s .children), le-ltb 8 depth (s .steps))
 
-pub sound : (limit n levels b : ℕ) → faultAt limit n levels b ≡ 0 → Sound limit n levels b
-sound limit n levels b e = by-tests (eqb levels 0) (leb limit n) (ltb 8 b) (ltb 9 levels) refl refl refl refl e
+pub sound : (limit n debt depth b : ℕ) → faultAt limit n debt depth b ≡ 0 → Sound limit n debt depth b
+sound limit n debt depth b e = by-tests (eqb debt 0) (leb limit n) (ltb 8 b) (ltb 8 depth) refl refl refl refl e
   where
-    by-tests : (w x y z : Bool) → eqb levels 0 ≡ w → leb limit n ≡ x → ltb 8 b ≡ y → ltb 9 levels ≡ z
-        → _≡_ {A = ℕ} (pick w 2 (pick x 3 (pick y 4 (pick z 5 0)))) 0 → Sound limit n levels b
+    by-tests : (w x y z : Bool) → eqb debt 0 ≡ w → leb limit n ≡ x → ltb 8 b ≡ y → ltb 8 depth ≡ z
+        → _≡_ {A = ℕ} (pick w 2 (pick x 3 (pick y 4 (pick z 5 0)))) 0 → Sound limit n debt depth b
     by-tests true x y z ew ex ey ez e = absurd (omega arith)
     by-tests false true y z ew ex ey ez e = absurd (omega arith)
     by-tests false false true z ew ex ey ez e = absurd (omega arith)
     by-tests false false false true ew ex ey ez e = absurd (omega arith)
     by-tests false false false false ew ex ey ez e =
-        let owed : levels ≢ 0 = eqb-false levels 0 ew in
-        omega (arith, leb-false limit n ex, ltb-false 8 b ey, ltb-false 9 levels ez)
+        let owed : debt ≢ 0 = eqb-false debt 0 ew in
+        omega (arith, leb-false limit n ex, ltb-false 8 b ey, ltb-false 8 depth ez)
 
-orElse-none : (f r : ℕ) → orElse f r ≡ 0 → (f ≡ 0) × (r ≡ 0)
-orElse-none zero r e = (refl, e)
-orElse-none (suc f) r e = absurd (omega arith)
+-- a branch below which nodes are owed is pending, one whose mark the debt has reached is complete
+pending-open : (k m : ℕ) (marks : List ℕ) → pending (suc k + m) (m ∷ marks) ≡ m ∷ marks
+pending-open k m marks = rw (lt-ltb m (suc k + m) (omega arith))
 
--- What s nodes with at most b children each, on h levels below a node d - 1 steps down, need where n nodes came before them.
-record Room (limit n d s b h : ℕ) : Type 0 where
+pending-complete : (m : ℕ) (marks : List ℕ) → pending m (m ∷ marks) ≡ pending m marks
+pending-complete m marks = rw (le-ltb m m (omega arith))
+
+-- What s nodes with at most b children each need, on h levels below a node `depth` steps down, where n nodes came before them.
+record Room (limit n depth s b h : ℕ) : Type 0 where
   nodes : n + s ≤ limit
   children : b ≤ 8
-  steps : d + h ≤ 9
+  steps : depth + h ≤ 8
 
 abbrev RoomFor : ℕ → ℕ → List ℕ → Topo → Type 0
-RoomFor limit n ks t = Room limit n (length ks) (size t) (breadth t) (suc (height t))
+RoomFor limit n marks t = Room limit n (length marks) (size t) (breadth t) (height t)
 
 abbrev RoomsFor : ℕ → ℕ → List ℕ → Forest → Type 0
-RoomsFor limit n ks ts = Room limit n (length ks) (sizes ts) (breadths ts) (heights ts)
+RoomsFor limit n marks ts = Room limit n (length marks) (sizes ts) (breadths ts) (heights ts)
 
--- where n nodes came before, by another way of writing n
-faultFrom-at : (limit : ℕ) (ks bs : List ℕ) {n m : ℕ} → n ≡ m → faultFrom limit n ks bs ≡ faultFrom limit m ks bs
-faultFrom-at limit ks bs e = ap (λ (m : ℕ). faultFrom limit m ks bs) e
+-- the first fault of the bytes that are left, where the branches that are complete at the debt may still have marks
+abbrev onward : ℕ → ℕ → ℕ → List ℕ → List ℕ → ℕ
+onward limit n debt marks bs = faultFrom limit n debt (pending debt marks) bs
 
-mutual
-  accepts-tree : (t : Topo) (limit n k : ℕ) (ks bs : List ℕ) → RoomFor limit n ks t
-      → faultFrom limit n (suc k ∷ ks) (code t ++ bs) ≡ faultFrom limit (n + size t) (settle (k ∷ ks)) bs
-  accepts-tree (node ts) limit n k ks bs r =
-      rw (faultAt-none limit n (suc (length ks)) (count ts) (omega arith))
-      (accepts-forest ts limit (suc n) (k ∷ ks) bs (omega arith) ∙ faultFrom-at limit (settle (k ∷ ks)) bs (omega arith))
+-- the same where n and the debt are written otherwise
+onward-at : (limit : ℕ) (marks bs : List ℕ) {n m d e : ℕ} → n ≡ m → d ≡ e → onward limit n d marks bs ≡ onward limit m e marks bs
+onward-at limit marks bs p q = ap₂ (λ (m e : ℕ). onward limit m e marks bs) p q
 
-  accepts-forest : (ts : Forest) (limit n : ℕ) (ks bs : List ℕ) → RoomsFor limit n ks ts
-      → faultFrom limit n (settle (count ts ∷ ks)) (codes ts ++ bs) ≡ faultFrom limit (n + sizes ts) (settle ks) bs
-  accepts-forest fnil limit n ks bs r = faultFrom-at limit (settle ks) bs (omega arith)
-  accepts-forest (fcons t ts) limit n ks bs r =
-      ap (faultFrom limit n (suc (count ts) ∷ ks)) (append-assoc (code t) (codes ts) bs)
-      ∙ accepts-tree t limit n (count ts) ks (codes ts ++ bs) (omega arith)
-      ∙ accepts-forest ts limit (n + size t) ks bs (omega arith)
-      ∙ faultFrom-at limit (settle ks) bs (omega arith)
+-- the branch whose mark is m: complete at m, and not where children are owed above that
+onward-complete : (limit n m : ℕ) (marks bs : List ℕ) → onward limit n (0 + m) (m ∷ marks) bs ≡ onward limit n m marks bs
+onward-complete limit n m marks bs = rw (zero-add m, le-ltb m m (omega arith))
+
+onward-open : (limit n k m : ℕ) (marks bs : List ℕ) → onward limit n (suc k + m) (m ∷ marks) bs ≡ faultFrom limit n (suc (k + m)) (m ∷ marks) bs
+onward-open limit n k m marks bs =
+    let e : suc k + m ≡ suc (k + m) = omega arith in
+    rw (e, lt-ltb m (suc (k + m)) (omega arith))
 
 mutual
-  fits-tree : (t : Topo) (limit n k : ℕ) (ks bs : List ℕ) → faultFrom limit n (suc k ∷ ks) (code t ++ bs) ≡ 0
-      → RoomFor limit n ks t × (faultFrom limit (n + size t) (settle (k ∷ ks)) bs ≡ 0)
-  fits-tree (node ts) limit n k ks bs e =
-      let o = orElse-none (faultAt limit n (suc (length ks)) (count ts)) (faultFrom limit (suc n) (settle (count ts ∷ k ∷ ks)) (codes ts ++ bs)) e in
-      let s = sound limit n (suc (length ks)) (count ts) (o .0) in
-      let r = fits-forest ts limit (suc n) (k ∷ ks) bs (s .nodes) (omega arith) (o .1) in
-      (omega (arith, s, r .0), sym (faultFrom-at limit (settle (k ∷ ks)) bs (omega arith)) ∙ r .1)
+  accepts-tree : (t : Topo) (limit n m : ℕ) (marks bs : List ℕ) → RoomFor limit n marks t
+      → faultFrom limit n (suc m) marks (code t ++ bs) ≡ onward limit (n + size t) m marks bs
+  accepts-tree (node ts) limit n m marks bs r =
+      rw (faultAt-none limit n (suc m) (length marks) (count ts) (omega arith))
+      (accepts-forest ts limit (suc n) m marks bs (omega arith) ∙ onward-at limit marks bs (omega arith) refl)
 
-  fits-forest : (ts : Forest) (limit n : ℕ) (ks bs : List ℕ) → n ≤ limit → length ks ≤ 9
-      → faultFrom limit n (settle (count ts ∷ ks)) (codes ts ++ bs) ≡ 0
-      → RoomsFor limit n ks ts × (faultFrom limit (n + sizes ts) (settle ks) bs ≡ 0)
-  fits-forest fnil limit n ks bs l d e = (omega arith, faultFrom-at limit (settle ks) bs (omega arith) ∙ e)
-  fits-forest (fcons t ts) limit n ks bs l d e =
-      let a = fits-tree t limit n (count ts) ks (codes ts ++ bs) (rw append-assoc at e) in
-      let b = fits-forest ts limit (n + size t) ks bs (a .0 .nodes) d (a .1) in
-      (omega (arith, a .0, b .0), faultFrom-at limit (settle ks) bs (omega arith) ∙ b .1)
+  accepts-forest : (ts : Forest) (limit n m : ℕ) (marks bs : List ℕ) → RoomsFor limit n marks ts
+      → onward limit n (count ts + m) (m ∷ marks) (codes ts ++ bs) ≡ onward limit (n + sizes ts) m marks bs
+  accepts-forest fnil limit n m marks bs r = onward-complete limit n m marks bs ∙ onward-at limit marks bs (omega arith) refl
+  accepts-forest (fcons t ts) limit n m marks bs r =
+      onward-open limit n (count ts) m marks ((code t ++ codes ts) ++ bs)
+      ∙ ap (faultFrom limit n (suc (count ts + m)) (m ∷ marks)) (append-assoc (code t) (codes ts) bs)
+      ∙ accepts-tree t limit n (count ts + m) (m ∷ marks) (codes ts ++ bs) (omega arith)
+      ∙ accepts-forest ts limit (n + size t) m marks bs (omega arith)
+      ∙ onward-at limit marks bs (omega arith) refl
 
--- how many nodes are owed in all
-abbrev total : List ℕ → ℕ
-total [] = 0
-total (k ∷ ks) = k + total ks
+mutual
+  fits-tree : (t : Topo) (limit n m : ℕ) (marks bs : List ℕ) → faultFrom limit n (suc m) marks (code t ++ bs) ≡ 0
+      → RoomFor limit n marks t × (onward limit (n + size t) m marks bs ≡ 0)
+  fits-tree (node ts) limit n m marks bs e =
+      let o = orElse-none (faultAt limit n (suc m) (length marks) (count ts)) (onward limit (suc n) (count ts + m) (m ∷ marks) (codes ts ++ bs)) e in
+      let s = sound limit n (suc m) (length marks) (count ts) (o .0) in
+      let r = fits-forest ts limit (suc n) m marks bs (s .nodes) (s .steps) (o .1) in
+      (omega (arith, s, r .0), sym (onward-at limit marks bs (omega arith) refl) ∙ r .1)
 
-total-settle : (ks : List ℕ) → total (settle ks) ≡ total ks
-total-settle [] = refl
-total-settle (zero ∷ ks) = omega (arith, total-settle ks)
-total-settle (suc k ∷ ks) = refl
-
-pub settled : (ks : List ℕ) → Settled (settle ks)
-settled [] = tt
-settled (zero ∷ ks) = settled ks
-settled (suc k ∷ ks) = tt
+  fits-forest : (ts : Forest) (limit n m : ℕ) (marks bs : List ℕ) → n ≤ limit → length marks ≤ 8
+      → onward limit n (count ts + m) (m ∷ marks) (codes ts ++ bs) ≡ 0 → RoomsFor limit n marks ts × (onward limit (n + sizes ts) m marks bs ≡ 0)
+  fits-forest fnil limit n m marks bs l d e =
+      (omega arith, onward-at limit marks bs (omega arith) refl ∙ sym (onward-complete limit n m marks bs) ∙ e)
+  fits-forest (fcons t ts) limit n m marks bs l d e =
+      let f : faultFrom limit n (suc (count ts + m)) (m ∷ marks) (code t ++ (codes ts ++ bs)) ≡ 0 =
+      ap (faultFrom limit n (suc (count ts + m)) (m ∷ marks)) (sym (append-assoc (code t) (codes ts) bs))
+      ∙ sym (onward-open limit n (count ts) m marks ((code t ++ codes ts) ++ bs)) ∙ e in
+      let a = fits-tree t limit n (count ts + m) (m ∷ marks) (codes ts ++ bs) f in
+      let b = fits-forest ts limit (n + size t) m marks bs (a .0 .nodes) d (a .1) in
+      (omega (arith, a .0, b .0), onward-at limit marks bs (omega arith) refl ∙ b .1)
 
 count-first : (b : ℕ) (ts : Forest) → b ≤ count ts → count (first b ts) ≡ b
 count-first zero ts h = refl
@@ -125,19 +130,15 @@ codes-split zero ts = refl
 codes-split (suc b) fnil = refl
 codes-split (suc b) (fcons t ts) = append-assoc (code t) (codes (first b ts)) (codes (others b ts)) ∙ ap (λ (l : List ℕ). code t ++ l) (codes-split b ts)
 
-draws : (limit n : ℕ) (owed bs : List ℕ) → Settled owed → faultFrom limit n owed bs ≡ 0
-    → (count (forest bs) ≡ total owed) × (codes (forest bs) ≡ bs)
-draws limit n [] [] s e = (refl, refl)
-draws limit n (zero ∷ ks) [] s e = absurd s
-draws limit n (suc k ∷ ks) [] s e = absurd (omega (arith, rw (eqb·suc-zero (length ks)) at e))
-draws limit n [] (b ∷ bs) s e = absurd (omega arith)
-draws limit n (zero ∷ ks) (b ∷ bs) s e = absurd s
-draws limit n (suc k ∷ ks) (b ∷ bs) s e =
-    let o = orElse-none (faultAt limit n (suc (length ks)) b) (faultFrom limit (suc n) (settle (b ∷ k ∷ ks)) bs) e in
-    let r = draws limit (suc n) (settle (b ∷ k ∷ ks)) bs (settled (b ∷ k ∷ ks)) (o .1) in
-    let c : count (forest bs) ≡ b + (k + total ks) = r .0 ∙ total-settle (b ∷ k ∷ ks) in
+draws : (limit n debt : ℕ) (marks bs : List ℕ) → faultFrom limit n debt marks bs ≡ 0 → (count (forest bs) ≡ debt) × (codes (forest bs) ≡ bs)
+draws limit n zero marks [] e = (refl, refl)
+draws limit n (suc m) marks [] e = absurd (omega (arith, rw (eqb·suc-zero m) at e))
+draws limit n debt marks (b ∷ bs) e =
+    let o = orElse-none (faultAt limit n debt (length marks) b) (faultFrom limit (suc n) (owing debt b) (marking debt marks b) bs) e in
+    let s = sound limit n debt (length marks) b (o .0) in
+    let r = draws limit (suc n) (owing debt b) (marking debt marks b) bs (o .1) in
     let l : b ≤ count (forest bs) = omega arith in (
-      omega (arith, count-others b (forest bs) l),
+      omega (arith, s .owed, count-others b (forest bs) l),
       ap (λ (m : ℕ). m ∷ (codes (first b (forest bs)) ++ codes (others b (forest bs)))) (count-first b (forest bs) l)
           ∙ ap (λ (l : List ℕ). b ∷ l) (codes-split b (forest bs) ∙ r .1),
     )
@@ -145,15 +146,14 @@ draws limit n (suc k ∷ ks) (b ∷ bs) s e =
 -- The bytes of a tree within the limits have no fault.
 pub accepts : (limit : ℕ) (t : Topo) → Within limit t → fault limit (code t) ≡ 0
 unfolding fault
-accepts limit t w =
-    ap (faultFrom limit 0 (1 ∷ [])) (sym (append-nil (code t))) ∙ accepts-tree t limit 0 0 [] [] (omega arith)
+accepts limit t w = ap (faultFrom limit 0 1 []) (sym (append-nil (code t))) ∙ accepts-tree t limit 0 0 [] [] (omega arith)
 
 -- Bytes without fault are the code of a tree within the limits, the one that `tree` gives.
 pub drawn : (limit : ℕ) (bytes : List ℕ) → fault limit bytes ≡ 0 → code (tree bytes) ≡ bytes
 unfolding fault tree
-drawn limit bytes e = one (forest bytes) (draws limit 0 (1 ∷ []) bytes tt e)
+drawn limit bytes e = one (forest bytes) (draws limit 0 1 [] bytes e)
   where
-    one : (ts : Forest) → (count ts ≡ total (1 ∷ [])) × (codes ts ≡ bytes) → code (head ts) ≡ bytes
+    one : (ts : Forest) → (count ts ≡ 1) × (codes ts ≡ bytes) → code (head ts) ≡ bytes
     one fnil r = absurd (omega (arith, r .0))
     one (fcons t fnil) r = sym (append-nil (code t)) ∙ r .1
     one (fcons t (fcons u ts)) r = absurd (omega (arith, r .0))
@@ -161,7 +161,7 @@ drawn limit bytes e = one (forest bytes) (draws limit 0 (1 ∷ []) bytes tt e)
 pub within : (limit : ℕ) (bytes : List ℕ) → fault limit bytes ≡ 0 → Within limit (tree bytes)
 unfolding fault
 within limit bytes e =
-    let f : faultFrom limit 0 (1 ∷ []) (code (tree bytes) ++ []) ≡ 0 = rw append-nil (rw (drawn limit bytes e) e) in
+    let f : faultFrom limit 0 1 [] (code (tree bytes) ++ []) ≡ 0 = rw append-nil (rw (drawn limit bytes e) e) in
     let r = fits-tree (tree bytes) limit 0 0 [] [] f in
     omega (arith, r .0)
 

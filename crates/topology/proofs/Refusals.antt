@@ -7,7 +7,7 @@ use mathlib.Core.List.{List, [], _∷_}
 use mathlib.Core.Bool.{Bool, true, false}
 use lib.ListN.{length}
 use lib.Dec.{eqb, leb, ltb}
-use Rattle.topology.specs.Reader.{pick, orElse, after, faultAt, faultFrom, fault}
+use Rattle.topology.specs.Reader.{pick, orElse, owing, marking, faultAt, faultFrom, fault}
 
 pub orElse-none : (f r : ℕ) → orElse f r ≡ 0 → (f ≡ 0) × (r ≡ 0)
 orElse-none zero r e = (refl, e)
@@ -33,13 +33,14 @@ pick-most k false x y h g = g
 
 pub fault-most : (limit : ℕ) (bytes : List ℕ) → fault limit bytes ≤ 5
 unfolding fault
-fault-most limit bytes = from 0 (1 ∷ []) bytes
+fault-most limit bytes = from 0 1 [] bytes
   where
-    from : (n : ℕ) (owed bs : List ℕ) → faultFrom limit n owed bs ≤ 5
-    from n owed [] = pick-most 5 (eqb (length owed) 0) 0 1 (omega arith) (omega arith)
-    from n owed (b ∷ bs) =
-        let f5 = pick-most 5 (ltb 9 (length owed)) 5 0 (omega arith) (omega arith) in
-        let f4 = pick-most 5 (ltb 8 b) 4 (pick (ltb 9 (length owed)) 5 0) (omega arith) f5 in
-        let f3 = pick-most 5 (leb limit n) 3 (pick (ltb 8 b) 4 (pick (ltb 9 (length owed)) 5 0)) (omega arith) f4 in
-        let f2 = pick-most 5 (eqb (length owed) 0) 2 (pick (leb limit n) 3 (pick (ltb 8 b) 4 (pick (ltb 9 (length owed)) 5 0))) (omega arith) f3 in
-        orElse-most 5 (faultAt limit n (length owed) b) (faultFrom limit (suc n) (after b owed) bs) f2 (from (suc n) (after b owed) bs)
+    from : (n debt : ℕ) (marks bs : List ℕ) → faultFrom limit n debt marks bs ≤ 5
+    from n debt marks [] = pick-most 5 (eqb debt 0) 0 1 (omega arith) (omega arith)
+    from n debt marks (b ∷ bs) =
+        let f5 = pick-most 5 (ltb 8 (length marks)) 5 0 (omega arith) (omega arith) in
+        let f4 = pick-most 5 (ltb 8 b) 4 (pick (ltb 8 (length marks)) 5 0) (omega arith) f5 in
+        let f3 = pick-most 5 (leb limit n) 3 (pick (ltb 8 b) 4 (pick (ltb 8 (length marks)) 5 0)) (omega arith) f4 in
+        let f2 = pick-most 5 (eqb debt 0) 2 (pick (leb limit n) 3 (pick (ltb 8 b) 4 (pick (ltb 8 (length marks)) 5 0))) (omega arith) f3 in
+        orElse-most 5 (faultAt limit n debt (length marks) b) (faultFrom limit (suc n) (owing debt b) (marking debt marks b) bs) f2
+        (from (suc n) (owing debt b) (marking debt marks b) bs)

@@ -1,13 +1,13 @@
 -- The scan for a branch's end: the bytes up to i are read, and what they owe ends at `end` or later.
 use mathlib.Core.Path.{_≡_, refl, sym, ap, _∙_}
 use Prim.Native.Nat.{ℕ, zero, suc, _+_, _-_, _≤_, _<_, zero-le, suc-le-suc}
-use native.Mathlib.Nat.{add-zero, not-suc-le-zero}
+use native.Mathlib.Nat.{add-zero, zero-add, not-suc-le-zero}
 use native.Mathlib.Numerals.{add-one}
 use native.Mathlib.Omega.{arith}
 use mathlib.Core.List.{List, [], _∷_}
 use lib.ListN.{length, drop, getD, length-drop, drop-of-length-le}
-use lib.Seq.{drop-cons}
-use Rattle.topology.specs.Branch.{span, branchEnd}
+use lib.Seq.{drop-cons, drop-drop}
+use Rattle.topology.specs.Branch.{span, branchEnd, start}
 
 pub span-zero : (bs : List ℕ) → span 0 bs ≡ 0
 span-zero [] = refl
@@ -66,3 +66,30 @@ end-bounds bytes n h =
     let l = span-le 1 (drop n bytes) in
     let d = length-drop n bytes in
     (omega arith, omega arith)
+
+-- ---- a branch ends where one child more would start
+
+-- j trees and then k more
+span-add : (j k : ℕ) (bs : List ℕ) → span (j + k) bs ≡ span j bs + span k (drop (span j bs) bs)
+span-add j k [] = refl
+span-add zero k (b ∷ bs) = ap (λ (n : ℕ). span n (b ∷ bs)) (zero-add k) ∙ sym (zero-add (span k (b ∷ bs)))
+span-add (suc j) k (b ∷ bs) =
+    let e : suc j + k ≡ suc (j + k) = omega arith in
+    let f : b + (j + k) ≡ b + j + k = omega arith in
+    rw (e, f) (omega (arith, span-add (b + j) k bs))
+
+start-span : (bytes : List ℕ) (n i : ℕ) → start bytes n i ≡ suc n + span i (drop (suc n) bytes)
+unfolding branchEnd
+start-span bytes n zero = omega (arith, span-zero (drop (suc n) bytes))
+start-span bytes n (suc i) =
+    rw (start-span bytes n i)
+    (let bs = drop (suc n) bytes in
+    let d = ap (span 1) (drop-drop (span i bs) (suc n) bytes) in
+    let e = ap (λ (k : ℕ). span k bs) (add-one i) in
+    omega (arith, span-add i 1 bs))
+
+pub end-start : (bytes : List ℕ) (n : ℕ) → n < length bytes → branchEnd bytes n ≡ start bytes n (getD bytes n 0)
+unfolding branchEnd
+end-start bytes n h =
+    let b = getD bytes n 0 in
+    rw (start-span bytes n b, drop-cons bytes n 0 h, add-zero b) (omega arith)

@@ -1,6 +1,6 @@
--- Public contracts cite Tree, Address, Reader and Branch; a reader has to believe those. Owing is for private functions.
+-- Contracts cite these, and a reader has to believe them.
 pub mod Tree
 pub mod Address
 pub mod Reader
 pub mod Branch
-pub mod Owing
+pub mod Debt

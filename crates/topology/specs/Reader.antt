@@ -1,5 +1,5 @@
 -- The topology reader of paper 01, "Drawing a tree": which byte strings are trees, and by which number the others are refused.
-use Prim.Native.Nat.{ℕ, zero, suc, pred, _≤_}
+use Prim.Native.Nat.{ℕ, zero, suc, pred, _+_, _≤_}
 use mathlib.Core.List.{List, [], _∷_}
 use mathlib.Core.Bool.{Bool, true, false}
 use lib.ListN.{length}
@@ -23,31 +23,35 @@ abbrev pub orElse : ℕ → ℕ → ℕ
 orElse zero rest = rest
 orElse (suc f) rest = suc f
 
--- The nodes still owed are counted level by level, the deepest first, the root alone at first. So the next node belongs to the
--- first level and lies as many steps down as there are levels behind that one. No level that is complete stands first.
-abbrev pub settle : List ℕ → List ℕ
-settle [] = []
-settle (zero ∷ ks) = settle ks
-settle (suc k ∷ ks) = suc k ∷ ks
+-- The nodes still owed are one running value, the debt (paper 02, 2.4): the root alone at first. A byte pays for its own node and owes the
+-- node's children.
+abbrev pub owing : ℕ → ℕ → ℕ
+owing debt b = b + pred debt
 
--- what is owed once the next node has come, with b children
-abbrev pub after : ℕ → List ℕ → List ℕ
-after b [] = []
-after b (k ∷ ks) = settle (b ∷ pred k ∷ ks)
+-- How far down the next node lies does not follow from the debt: after `2 2` and after `4 0` three nodes are owed, and the next lies 2 steps
+-- down and 1. So each branch that is not complete has a mark, the value that the debt has when it is, the deepest branch first; the next node
+-- lies as many steps down as there are marks. A branch is complete once the debt is no more than its mark.
+abbrev pub pending : ℕ → List ℕ → List ℕ
+pending debt [] = []
+pending debt (m ∷ ms) = pick (ltb m debt) (m ∷ ms) (pending debt ms)
 
--- The fault of byte b where n nodes came before it and nodes are owed at so many levels, in the order of the tests; 0: none.
-abbrev pub faultAt : ℕ → ℕ → ℕ → ℕ → ℕ
-faultAt limit n levels b = pick (eqb levels 0) 2 (pick (leb limit n) 3 (pick (ltb 8 b) 4 (pick (ltb 9 levels) 5 0)))
+-- the marks once the next node has come, with b children
+abbrev pub marking : ℕ → List ℕ → ℕ → List ℕ
+marking debt marks b = pending (owing debt b) (pred debt ∷ marks)
+
+-- The fault of byte b where n nodes came before it, in the order of the tests; the node lies `depth` steps down. 0: none.
+abbrev pub faultAt : ℕ → ℕ → ℕ → ℕ → ℕ → ℕ
+faultAt limit n debt depth b = pick (eqb debt 0) 2 (pick (leb limit n) 3 (pick (ltb 8 b) 4 (pick (ltb 8 depth) 5 0)))
 
 -- the first fault of the bytes that are left
-abbrev pub faultFrom : ℕ → ℕ → List ℕ → List ℕ → ℕ
-faultFrom limit n owed [] = pick (eqb (length owed) 0) 0 1
-faultFrom limit n owed (b ∷ bs) =
-    let rest = faultFrom limit (suc n) (after b owed) bs in orElse (faultAt limit n (length owed) b) rest
+abbrev pub faultFrom : ℕ → ℕ → ℕ → List ℕ → List ℕ → ℕ
+faultFrom limit n debt marks [] = pick (eqb debt 0) 0 1
+faultFrom limit n debt marks (b ∷ bs) =
+    let rest = faultFrom limit (suc n) (owing debt b) (marking debt marks b) bs in orElse (faultAt limit n debt (length marks) b) rest
 
 -- The number by which the bytes are refused, 0 where they are a tree.
 unfoldable pub fault : ℕ → List ℕ → ℕ
-fault limit bytes = faultFrom limit 0 (1 ∷ []) bytes
+fault limit bytes = faultFrom limit 0 1 [] bytes
 
 -- The tree that the bytes draw, read from the last byte to the first: a node takes the first b of the trees behind it as its
 -- children. It is of use where there is no fault.

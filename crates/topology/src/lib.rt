@@ -3,10 +3,8 @@
 // `read` is the call of paper 01; `wide` serves the crates above.
 ghost use mathlib.Core.Path.{_≡_};
 ghost use Prim.Native.Nat.{_≤_, _<_};
-ghost use mathlib.Core.List.{[], _∷_};
-ghost use lib.ListN.{drop};
-ghost use Rattle.topology.specs.Reader.{fault, faultAt, reading, settle, after};
-ghost use Rattle.topology.specs.Owing.{Settled, Counts};
+ghost use lib.ListN.{length, drop};
+ghost use Rattle.topology.specs.Reader.{fault, faultAt, reading, pending};
 
 // The most nodes that a source has.
 pub const SOURCE_NODES: usize = 32;
@@ -31,30 +29,14 @@ pub enum Toward {
     Nowhere,
 }
 
-// The nodes that the reader is still owed, level by level: counts[top..], the deepest level first. Ten levels are open at the most,
-// since a node is refused once nine lie above it.
-struct Owed {
-    counts: [u8; 10],
-    top: usize,
-}
-
-// The root alone is owed.
-fn root_owed() -> Owed
-    ensures { λ r. ⌜ Counts r (1 ∷ []) ⌝ }
-{
-    let mut counts = [0u8; 10];
-    counts[9] = 1;
-    Owed { counts, top: 9 }
-}
-
-// The first level from `top` on that is not complete.
-fn first_open(counts: [u8; 10], top: usize) -> usize
-    requires { ⌜ top ≤ 10 ⌝ }
-    ensures { λ r. ⌜ (r ≤ 10) × (drop r counts ≡ settle (drop top counts)) ⌝ }
+// The first place from `top` on whose mark is less than the debt, so that its branch is not complete.
+fn first_pending(marks: &[usize; 9], top: usize, debt: usize) -> usize
+    requires { ⌜ (length (now marks) ≡ 9) × (top ≤ 9) ⌝ }
+    ensures { λ r. ⌜ (r ≤ 9) × (drop r (now (marks .entry)) ≡ pending debt (drop top (now (marks .entry)))) ⌝ }
 {
     let mut i = top;
-    while i < 10 {
-        if counts[i] != 0 {
+    while i < 9 {
+        if marks[i] < debt {
             return i;
         }
         i += 1;
@@ -62,26 +44,11 @@ fn first_open(counts: [u8; 10], top: usize) -> usize
     i
 }
 
-// What is owed once the next node has come, with `children` children.
-fn owed_after(owed: Owed, children: u8) -> Owed
-    requires { ⌜ (0 < owed .top) × (owed .top < 10) × Settled (drop (owed .top) (owed .counts)) ⌝ }
-    ensures { λ r. ⌜ Counts r (after children (drop (owed .top) (owed .counts))) ⌝ }
+// The refusal of one byte, in the order of the tests, where `nodes` nodes came before it and it lies `depth` steps down; or 0.
+fn fault_at(limit: usize, nodes: usize, debt: usize, depth: usize, children: u8) -> u8
+    ensures { λ r. ⌜ r ≡ faultAt limit nodes debt depth children ⌝ }
 {
-    let mut counts = owed.counts;
-    let top = owed.top;
-    counts[top] -= 1;
-    counts[top - 1] = children;
-    Owed {
-        counts,
-        top: first_open(counts, top - 1),
-    }
-}
-
-// The refusal of one byte, in the order of the tests, where `nodes` nodes came before it and nodes are owed at `levels` levels; or 0.
-fn fault_at(limit: usize, nodes: usize, levels: usize, children: u8) -> u8
-    ensures { λ r. ⌜ r ≡ faultAt limit nodes levels children ⌝ }
-{
-    if levels == 0 {
+    if debt == 0 {
         return 2;
     }
     if limit <= nodes {
@@ -90,31 +57,40 @@ fn fault_at(limit: usize, nodes: usize, levels: usize, children: u8) -> u8
     if 8 < children {
         return 4;
     }
-    if 9 < levels {
+    if 8 < depth {
         return 5;
     }
     0
 }
 
 // Reads a topology of at most `limit` nodes: bytes in turn, and the first byte at fault decides.
+//
+// `debt` is how many nodes are still owed: after each byte one plus the child counts read so far, less the number of bytes read. Beside it stand
+// earlier values of it, marks[top..], the deepest first: for each branch that is not complete the debt at which it will be. Nine are enough,
+// since a node is refused once nine lie above it.
 pub fn read(bytes: &[u8], limit: usize) -> Reading
     ensures { λ r. ⌜ r ≡ reading (fault limit (now (bytes .entry))) ⌝ }
 {
-    let mut owed = root_owed();
+    let mut debt = 1;
+    let mut marks = [0usize; 9];
+    let mut top = 9;
     let mut i = 0;
     while i < bytes.len() {
-        let number = fault_at(limit, i, 10 - owed.top, bytes[i]);
+        let number = fault_at(limit, i, debt, 9 - top, bytes[i]);
         if number != 0 {
             return Reading::Refused(number);
         }
-        owed = owed_after(owed, bytes[i]);
+        debt -= 1;
+        top -= 1;
+        marks[top] = debt;
+        debt += wide(bytes[i]);
+        top = first_pending(&marks, top, debt);
         i += 1;
     }
-    if owed.top == 10 {
-        Reading::Tree
-    } else {
-        Reading::Refused(1)
+    if debt != 0 {
+        return Reading::Refused(1);
     }
+    Reading::Tree
 }
 
 // A byte as an index.

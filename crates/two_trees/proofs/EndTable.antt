@@ -1,4 +1,4 @@
--- The table of branch ends: what the loop has filled in, and what the table is good for where the bytes are few enough.
+-- The table of branch ends: how it is filled, and what the table is good for where the bytes are few enough.
 use mathlib.Core.Path.{_≡_, refl, sym, ap, _∙_}
 use Prim.Native.Nat.{ℕ, zero, suc, _+_, _≤_, _<_}
 use native.Mathlib.Nat.{not-suc-le-zero, le-of-suc-le-suc}
@@ -11,6 +11,7 @@ use Rattle.topology.specs.Branch.{branchEnd}
 use Rattle.topology.proofs.Scan.{scan-none, end-bounds}
 use Rattle.embedding_laws.specs.Tables.{Ends}
 use Rattle.two_trees.specs.Trees.{endsFrom, branchEnds}
+use Rattle.two_trees.specs.Filling.{EndsFrom}
 
 module _ (bytes : List ℕ) where
   length-ends : (k n : ℕ) → length (endsFrom k bytes n) ≡ k
@@ -30,32 +31,29 @@ module _ (bytes : List ℕ) where
       by-place (yes g) (yes b) = omega (arith, getD-ends k 0 n n (omega arith) g, end-bounds bytes n (omega arith))
       by-place (yes g) (no b) = omega (arith, getD-ends k 0 n n (omega arith) g, scan-none bytes n (omega arith))
 
--- filled in for the nodes before i
-pub record Filled (bytes ends : List ℕ) (i : ℕ) : Type 0 where
-  pub upto : i ≤ 64
-  pub places : length ends ≡ 64
-  pub at : (n : ℕ) → n < i → getD ends n 0 ≡ branchEnd bytes n
+-- ---- the table, from the last node to the first
 
-pub filled-none : (bytes : List ℕ) → Filled bytes (replicate 64 0) 0
-filled-none bytes = record { upto = omega arith; places = length-replicate {A = ℕ} 64 0; at = λ n h. absurd (omega arith) }
+pub filled-none : (bytes : List ℕ) → EndsFrom bytes (replicate 64 0) 64
+filled-none bytes = record { places = length-replicate {A = ℕ} 64 0; at = λ n h g. absurd (omega arith) }
 
-pub filled-next : (bytes ends : List ℕ) (i x : ℕ) → Filled bytes ends i → i < 64 → x ≡ branchEnd bytes i → Filled bytes (set ends i x) (i + 1)
-filled-next bytes ends i x f h e =
-    record {
-      upto = omega arith;
-      places = length-set ends i x ∙ f .places;
-      at = λ n g. here-or-before n g (ℕ-discrete n i);
-    }
-  where
-    here-or-before : (n : ℕ) → n < i + 1 → Dec (n ≡ i) → getD (set ends i x) n 0 ≡ branchEnd bytes n
-    here-or-before n g (yes q) = rw q (getD-set-same ends i x 0 (omega (arith, f .places)) ∙ e)
-    here-or-before n g (no q) = getD-set-other ends i n x 0 q ∙ f .at n (omega arith)
+module _ (bytes ends : List ℕ) where
+  pub filled-later : (node later : ℕ) → node ≤ later → EndsFrom bytes ends node → EndsFrom bytes ends later
+  filled-later node later h f = record { places = f .places; at = λ n l g. f .at n (omega arith) g }
 
-pub filled-end : (bytes ends : List ℕ) (i : ℕ) → Filled bytes ends i → 64 ≤ i → ends ≡ branchEnds bytes
-unfolding branchEnds
-filled-end bytes ends i f h =
-    ext-getD 0 ends (endsFrom 64 bytes 0) (f .places ∙ sym (length-ends bytes 64 0))
-    (λ n g. f .at n (omega (arith, f .places)) ∙ sym (getD-ends bytes 64 0 n n (omega arith) (omega (arith, f .places))))
+  pub filled-next : (node x : ℕ) → EndsFrom bytes ends (suc node) → node < 64 → x ≡ branchEnd bytes node → EndsFrom bytes (set ends node x) node
+  filled-next node x f h e = record { places = length-set ends node x ∙ f .places; at = λ n l g. here-or-behind n l g (ℕ-discrete n node) }
+    where
+      here-or-behind : (n : ℕ) → node ≤ n → n < 64 → Dec (n ≡ node) → getD (set ends node x) n 0 ≡ branchEnd bytes n
+      here-or-behind n l g (yes q) = rw q (getD-set-same ends node x 0 (omega (arith, f .places)) ∙ e)
+      here-or-behind n l g (no q) = getD-set-other ends node n x 0 q ∙ f .at n (omega arith) g
+
+  pub filled-all : EndsFrom bytes ends 0 → ends ≡ branchEnds bytes
+  unfolding branchEnds
+  filled-all f =
+      ext-getD 0 ends (endsFrom 64 bytes 0) (f .places ∙ sym (length-ends bytes 64 0))
+      (λ n g.
+      let l : n < 64 = omega (arith, f .places) in
+      f .at n (omega arith) l ∙ sym (getD-ends bytes 64 0 n n (omega arith) l))
 
 pub is-table : (bytes ends : List ℕ) → length bytes ≤ 64 → ends ≡ branchEnds bytes → Ends bytes ends
 unfolding branchEnds

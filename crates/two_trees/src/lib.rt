@@ -1,11 +1,15 @@
 // What the check and the search of a map both ask first of two drawings: whether both are trees, and where their branches end.
 ghost use mathlib.Core.Path.{_≡_};
+ghost use Prim.Native.Nat.{suc};
+ghost use Rattle.topology.specs.Branch.{branchEnd};
 ghost use Rattle.two_trees.specs.Trees.{treesFault, branchEnds};
+ghost use Rattle.two_trees.specs.Filling.{EndsFrom};
 use branches::branch_end;
 use topology::Reading;
 use topology::SOURCE_NODES;
 use topology::TARGET_NODES;
 use topology::read;
+use topology::wide;
 
 // The reader's refusal of the source or, where that is a tree, of the target; or 0.
 pub fn trees_fault(source: &[u8], target: &[u8]) -> u8
@@ -20,15 +24,46 @@ pub fn trees_fault(source: &[u8], target: &[u8]) -> u8
     }
 }
 
-// Where the branches of the nodes 0 to 63 end; past the last node a number stands for itself.
+// One past the last node of the branch under `node`, by the table for a node that is in it.
+fn known_end(bytes: &[u8], ends: &[usize; 64], node: usize) -> usize
+    requires { ⌜ EndsFrom (now bytes) (now ends) node ⌝ }
+    ensures { λ r. ⌜ r ≡ branchEnd (now (bytes .entry)) node ⌝ }
+{
+    if node < 64 {
+        ends[node]
+    } else {
+        branch_end(bytes, node)
+    }
+}
+
+// The same of a node before those that are in the table: a branch ends where its last child's does.
+fn end_of(bytes: &[u8], ends: &[usize; 64], node: usize) -> usize
+    requires { ⌜ EndsFrom (now bytes) (now ends) (suc node) ⌝ }
+    ensures { λ r. ⌜ r ≡ branchEnd (now (bytes .entry)) node ⌝ }
+{
+    if bytes.len() <= node {
+        return node;
+    }
+    let children = wide(bytes[node]);
+    let mut end = node + 1;
+    let mut i = 0;
+    while i < children {
+        end = known_end(bytes, ends, end);
+        i += 1;
+    }
+    end
+}
+
+// Where the branches of the nodes 0 to 63 end; past the last node a number stands for itself. The table is filled from the last node to the
+// first, and each node is asked for once.
 pub fn branch_ends(bytes: &[u8]) -> [usize; 64]
     ensures { λ r. ⌜ r ≡ branchEnds (now (bytes .entry)) ⌝ }
 {
     let mut ends = [0usize; 64];
-    let mut i = 0;
-    while i < 64 {
-        ends[i] = branch_end(bytes, i);
-        i += 1;
+    let mut node = 64;
+    while 0 < node {
+        node -= 1;
+        ends[node] = end_of(bytes, &ends, node);
     }
     ends
 }

@@ -1,25 +1,24 @@
 -- `read` meets its contract. The loop's invariant is `Progress`; each step and each return is one of its laws.
 use borrow.Author.Needs.{needs}
 use Prim.Native.Nat.{_-_}
-use lib.ListN.{length}
-use Rattle.topology.proofs.Progress.{Progress, begin, refuse, awaits, advance, complete, incomplete}
+use native.Mathlib.Omega.{arith}
+use mathlib.Core.Path.{_∙_}
+use lib.ListN.{length, length-set}
+use Rattle.topology.proofs.Progress.{Progress, begin, refuse, payable, advance, complete, incomplete}
 use Rattle.topology.proofs.read.Statement.{statement}
 use Rattle.topology.proofs.read.Tie as tie
 
 abbrev Inv-loop : tie.InvT-loop
-Inv-loop bytes limit owed₀ i₀ owed i = Progress limit bytes owed i
+Inv-loop bytes limit debt₀ marks₀ top₀ i₀ debt marks top i = Progress limit bytes debt marks top i
 
 abbrev μ-loop : tie.MeasureT-loop
-μ-loop bytes limit owed₀ i₀ owed i = length bytes - i
-
-root-owed-requires : tie.Need-root-owed-requires Inv-loop μ-loop
-root-owed-requires c κs = search needs
+μ-loop bytes limit debt₀ marks₀ top₀ i₀ debt marks top i = length bytes - i
 
 loop-holds : tie.Need-loop-holds Inv-loop μ-loop
-loop-holds c = begin _ _ _ (c .root-owed .ensures)
+loop-holds c = begin _ _
 
 sub-fault-at : tie.Need-sub-fault-at Inv-loop μ-loop
-sub-fault-at c = c .before .before .loop .inv .top
+sub-fault-at c = c .before .loop .inv .within
 
 shared-slice-read-fault-at : tie.Need-shared-slice-read-fault-at Inv-loop μ-loop
 shared-slice-read-fault-at c = search needs
@@ -29,16 +28,46 @@ fault-at-requires c κs = search needs
 
 returns : tie.Need-returns Inv-loop μ-loop
 returns c =
-    let at = c .before .before .before .before in
-    refuse _ _ _ _ (at .before .loop .inv) _ (at .loop-test .taken) (c .before .fault-at .ensures) (c .if1 .taken)
+    let at = c .before .before .before in
+    refuse _ _ _ _ _ _ (at .before .loop .inv) _ (at .loop-test .taken) (c .before .fault-at .ensures) (c .if1 .taken)
 
-shared-slice-read-owed-after : tie.Need-shared-slice-read-owed-after Inv-loop μ-loop
-shared-slice-read-owed-after c = search needs
+sub-debt : tie.Need-sub-debt Inv-loop μ-loop
+sub-debt c =
+    let at = c .before .before .before in
+    payable _ _ _ _ _ _ (at .before .loop .inv) _ (at .loop-test .taken) (c .before .fault-at .ensures) (c .if1 .left) .0
 
-owed-after-requires : tie.Need-owed-after-requires Inv-loop μ-loop
-owed-after-requires c κs =
+sub-top : tie.Need-sub-top Inv-loop μ-loop
+sub-top c =
+    let at = c .before .before .before in
+    payable _ _ _ _ _ _ (at .before .loop .inv) _ (at .loop-test .taken) (c .before .fault-at .ensures) (c .if1 .left) .1
+
+mul-marks : tie.Need-mul-marks Inv-loop μ-loop
+mul-marks c =
+    let top = c .before .before .before .before .loop .inv .within in
+    omega arith
+
+array-write-marks : tie.Need-array-write-marks Inv-loop μ-loop
+array-write-marks c =
+    let at = c .before .before .before in
+    let ok = payable _ _ _ _ _ _ (at .before .loop .inv) _ (at .loop-test .taken) (c .before .fault-at .ensures) (c .if1 .left) in
+    omega (arith, ok .1, at .before .loop .inv .within)
+
+shared-slice-read-wide : tie.Need-shared-slice-read-wide Inv-loop μ-loop
+shared-slice-read-wide c = search needs
+
+wide-requires : tie.Need-wide-requires Inv-loop μ-loop
+wide-requires c κs = search needs
+
+add-debt : tie.Need-add-debt Inv-loop μ-loop
+add-debt c =
     let at = c .before .before .before .before .before in
-    awaits _ _ _ _ (at .before .loop .inv) _ (at .loop-test .taken) (c .before .before .fault-at .ensures) (c .before .if1 .left)
+    let ok = payable _ _ _ _ _ _ (at .before .loop .inv) _ (at .loop-test .taken) (c .before .before .before .fault-at .ensures) (c .before .before .if1 .left) in
+    omega (arith, ok .2, c .wide .ensures .1)
+
+first-pending-requires : tie.Need-first-pending-requires Inv-loop μ-loop
+first-pending-requires c κs =
+    let inv = c .before .before .before .before .before .before .before .loop .inv in
+    (search (needs, inv .places), omega (arith, inv .within))
 
 add-i : tie.Need-add-i Inv-loop μ-loop
 add-i c = search needs
@@ -48,14 +77,16 @@ loop-less c = search needs
 
 loop-again : tie.Need-loop-again Inv-loop μ-loop
 loop-again c =
-    let at = c .before .before .before .before .before .before in
-    advance _ _ _ _ (at .before .loop .inv) _ (at .loop-test .taken) (c .before .before .before .fault-at .ensures) (c .before .before .if1 .left) _ (c .owed-after .ensures)
+    let paid = c .before .before .before .before in
+    let at = paid .before .before .before in
+    advance _ _ _ _ _ _ (at .before .loop .inv) _ (at .loop-test .taken) (paid .before .fault-at .ensures) (paid .if1 .left) _ _ (c .before .before .wide .ensures .0)
+    (c .first-pending .ensures .0) (c .first-pending .ensures .1)
 
 returns-2 : tie.Need-returns-2 Inv-loop μ-loop
-returns-2 c = complete _ _ _ _ (c .before .before .before .loop .inv) (c .before .before .loop-test .left) (c .if2 .taken)
+returns-2 c = incomplete _ _ _ _ _ _ (c .before .before .loop .inv) (c .before .loop-test .left) (c .if2 .taken)
 
 returns-3 : tie.Need-returns-3 Inv-loop μ-loop
-returns-3 c = incomplete _ _ _ _ (c .before .before .before .loop .inv) (c .before .before .loop-test .left) (c .if2 .left)
+returns-3 c = complete _ _ _ _ _ _ (c .before .before .loop .inv) (c .before .loop-test .left) (c .if2 .left)
 
 pub read-spec : {M : Type 1} → statement M
 read-spec =
@@ -63,14 +94,19 @@ read-spec =
     (tie.spec
     Inv-loop
     μ-loop
-    root-owed-requires
     loop-holds
     sub-fault-at
     shared-slice-read-fault-at
     fault-at-requires
     returns
-    shared-slice-read-owed-after
-    owed-after-requires
+    sub-debt
+    sub-top
+    mul-marks
+    array-write-marks
+    shared-slice-read-wide
+    wide-requires
+    add-debt
+    first-pending-requires
     add-i
     loop-less
     loop-again

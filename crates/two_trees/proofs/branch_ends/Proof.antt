@@ -1,22 +1,26 @@
--- `branch_ends` meets its contract. The table is filled for the nodes before i.
+-- `branch_ends` meets its contract. The table is filled from `node` on.
 use borrow.Author.Needs.{needs}
-use Prim.Native.Nat.{_-_}
 use denote.Ref.{now}
-use Rattle.two_trees.proofs.EndTable.{Filled, filled-none, filled-next, filled-end}
+use Prim.Native.Nat.{_≤_}
+use Rattle.two_trees.specs.Filling.{EndsFrom}
+use Rattle.two_trees.proofs.EndTable.{filled-none, filled-later, filled-next, filled-all}
 use Rattle.two_trees.proofs.branch_ends.Statement.{statement}
 use Rattle.two_trees.proofs.branch_ends.Tie as tie
 
 abbrev Inv-loop : tie.InvT-loop
-Inv-loop bytes ends₀ i₀ ends i = Filled bytes ends i
+Inv-loop bytes ends₀ node₀ ends node = (node ≤ 64) × EndsFrom bytes ends node
 
 abbrev μ-loop : tie.MeasureT-loop
-μ-loop bytes ends₀ i₀ ends i = 64 - i
+μ-loop bytes ends₀ node₀ ends node = node
 
 loop-holds : tie.Need-loop-holds Inv-loop μ-loop
-loop-holds c = filled-none _
+loop-holds c = (search needs, filled-none _)
 
-branch-end-requires : tie.Need-branch-end-requires Inv-loop μ-loop
-branch-end-requires c κs = search needs
+sub-node : tie.Need-sub-node Inv-loop μ-loop
+sub-node c = search needs
+
+end-of-requires : tie.Need-end-of-requires Inv-loop μ-loop
+end-of-requires c κs = filled-later _ _ _ _ (search needs) (c .before .before .loop .inv .1)
 
 mul-ends : tie.Need-mul-ends Inv-loop μ-loop
 mul-ends c = search needs
@@ -24,24 +28,16 @@ mul-ends c = search needs
 array-write-ends : tie.Need-array-write-ends Inv-loop μ-loop
 array-write-ends c = search needs
 
-add-i : tie.Need-add-i Inv-loop μ-loop
-add-i c = search needs
-
 loop-less : tie.Need-loop-less Inv-loop μ-loop
 loop-less c = search needs
 
 loop-again : tie.Need-loop-again Inv-loop μ-loop
 loop-again c =
-    let loop-test = c .before .loop-test in
-    let loop = c .before .before .loop in
-    let args = c .before .before .before .before .args in
-    filled-next (now (args .bytes)) _ _ _ (loop .inv) (loop-test .taken) (c .branch-end .ensures)
+    let loop = c .before .before .before .loop in
+    (search needs, filled-next _ _ _ _ (filled-later _ _ _ _ (search needs) (loop .inv .1)) (search needs) (c .end-of .ensures))
 
 returns : tie.Need-returns Inv-loop μ-loop
-returns c =
-    let loop = c .before .loop in
-    let args = c .before .before .before .args in
-    filled-end (now (args .bytes)) _ _ (loop .inv) (c .loop-test .left)
+returns c = filled-all _ _ (filled-later _ _ _ _ (search needs) (c .before .loop .inv .1))
 
 pub branch-ends-spec : {M : Type 1} → statement M
 branch-ends-spec =
@@ -50,10 +46,10 @@ branch-ends-spec =
     Inv-loop
     μ-loop
     loop-holds
-    branch-end-requires
+    sub-node
+    end-of-requires
     mul-ends
     array-write-ends
-    add-i
     loop-less
     loop-again
     returns)

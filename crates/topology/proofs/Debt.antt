@@ -1,0 +1,105 @@
+-- The running debt, as paper 02, 2.4 has it. After accepted bytes the reader goes on with the debt and the marks that these bytes leave
+-- (`goes-on`), and bytes before accepted ones are accepted (`accepted-before`); so whatever is said of accepted bytes holds after each accepted
+-- byte. The debt is then one plus the child counts read so far, less the number of bytes read (`debt-value`), and the tree is complete, that is,
+-- the bytes are the code of a tree, exactly when it is 0 (`debt-complete`).
+use mathlib.Core.Path.{_≡_, refl, sym, ap, _∙_}
+use mathlib.Core.Logic.{_↔_}
+use Prim.Native.Nat.{ℕ, zero, suc, pred, _+_, _≤_}
+use native.Mathlib.Nat.{add-zero, zero-add}
+use native.Mathlib.Omega.{arith}
+use mathlib.Core.List.{List, [], _∷_, _++_, append-assoc, append-nil}
+use mathlib.Core.Bool.{Bool, true, false}
+use lib.ListN.{length}
+use lib.Dec.{eqb, leb, ltb}
+use borrow.Author.Tests.{eq-eqb}
+use Rattle.lists.specs.Sum.{sum}
+use Rattle.topology.specs.Tree.{Topo, Forest, node, fnil, fcons, count, code, codes}
+use Rattle.topology.specs.Reader.{pick, orElse, owing, marking, faultAt, faultFrom, fault, tree}
+use Rattle.topology.specs.Debt.{debtAfter, marksAfter, Accepted}
+use Rattle.topology.proofs.Refusals.{pick-most}
+use Rattle.topology.proofs.Reader.{sound, drawn}
+
+-- an accepted byte has no fault, and the bytes after it are accepted
+accepted-byte : (limit n debt : ℕ) (marks : List ℕ) (b : ℕ) (bs : List ℕ) → faultFrom limit n debt marks (b ∷ bs) ≤ 1
+    → (faultAt limit n debt (length marks) b ≡ 0) × (faultFrom limit (suc n) (owing debt b) (marking debt marks b) bs ≤ 1)
+accepted-byte limit n debt marks b bs h =
+    by-tests (eqb debt 0) (leb limit n) (ltb 8 b) (ltb 8 (length marks)) (faultFrom limit (suc n) (owing debt b) (marking debt marks b) bs) h
+  where
+    by-tests : (w x y z : Bool) (rest : ℕ) → orElse (pick w 2 (pick x 3 (pick y 4 (pick z 5 0)))) rest ≤ 1
+        → (_≡_ {A = ℕ} (pick w 2 (pick x 3 (pick y 4 (pick z 5 0)))) 0) × (rest ≤ 1)
+    by-tests true x y z rest h = absurd (omega arith)
+    by-tests false true y z rest h = absurd (omega arith)
+    by-tests false false true z rest h = absurd (omega arith)
+    by-tests false false false true rest h = absurd (omega arith)
+    by-tests false false false false rest h = (refl, h)
+
+-- ---- after each byte
+
+goes-on-from : (limit n debt : ℕ) (marks bs cs : List ℕ) → faultFrom limit n debt marks bs ≤ 1
+    → faultFrom limit n debt marks (bs ++ cs) ≡ faultFrom limit (n + length bs) (debtAfter debt bs) (marksAfter debt marks bs) cs
+goes-on-from limit n debt marks [] cs h = ap (λ (k : ℕ). faultFrom limit k debt marks cs) (sym (add-zero n))
+goes-on-from limit n debt marks (b ∷ bs) cs h =
+    let a = accepted-byte limit n debt marks b bs h in
+    let e : suc n + length bs ≡ n + suc (length bs) = omega arith in
+    rw (a .0)
+    (goes-on-from limit (suc n) (owing debt b) (marking debt marks b) bs cs (a .1)
+    ∙ ap (λ (k : ℕ). faultFrom limit k (debtAfter (owing debt b) bs) (marksAfter (owing debt b) (marking debt marks b) bs) cs) e)
+
+pub goes-on : (limit : ℕ) (bytes rest : List ℕ) → Accepted limit bytes
+    → fault limit (bytes ++ rest) ≡ faultFrom limit (length bytes) (debtAfter 1 bytes) (marksAfter 1 [] bytes) rest
+unfolding fault
+goes-on limit bytes rest h =
+    goes-on-from limit 0 1 [] bytes rest h
+    ∙ ap (λ (k : ℕ). faultFrom limit k (debtAfter 1 bytes) (marksAfter 1 [] bytes) rest) (zero-add (length bytes))
+
+before-from : (limit n debt : ℕ) (marks bs cs : List ℕ) → faultFrom limit n debt marks (bs ++ cs) ≤ 1 → faultFrom limit n debt marks bs ≤ 1
+before-from limit n debt marks [] cs h = pick-most 1 (eqb debt 0) 0 1 (omega arith) (omega arith)
+before-from limit n debt marks (b ∷ bs) cs h =
+    let a = accepted-byte limit n debt marks b (bs ++ cs) h in
+    rw (a .0) (before-from limit (suc n) (owing debt b) (marking debt marks b) bs cs (a .1))
+
+pub accepted-before : (limit : ℕ) (bytes rest : List ℕ) → Accepted limit (bytes ++ rest) → Accepted limit bytes
+unfolding fault
+accepted-before limit bytes rest h = before-from limit 0 1 [] bytes rest h
+
+-- ---- the value
+
+value-from : (limit n debt : ℕ) (marks bs : List ℕ) → faultFrom limit n debt marks bs ≤ 1 → debtAfter debt bs + length bs ≡ debt + sum bs
+value-from limit n debt marks [] h = refl
+value-from limit n debt marks (b ∷ bs) h =
+    let a = accepted-byte limit n debt marks b bs h in
+    let s = sound limit n debt (length marks) b (a .0) in
+    omega (arith, s .owed, value-from limit (suc n) (owing debt b) (marking debt marks b) bs (a .1))
+
+pub debt-value : (limit : ℕ) (bytes : List ℕ) → Accepted limit bytes → debtAfter 1 bytes + length bytes ≡ 1 + sum bytes
+unfolding fault
+debt-value limit bytes h = value-from limit 0 1 [] bytes h
+
+-- ---- complete
+
+mutual
+  debt-tree : (t : Topo) (m : ℕ) (bs : List ℕ) → debtAfter (suc m) (code t ++ bs) ≡ debtAfter m bs
+  debt-tree (node ts) m bs = debt-forest ts m bs
+
+  debt-forest : (ts : Forest) (m : ℕ) (bs : List ℕ) → debtAfter (count ts + m) (codes ts ++ bs) ≡ debtAfter m bs
+  debt-forest fnil m bs = ap (λ (k : ℕ). debtAfter k bs) (zero-add m)
+  debt-forest (fcons t ts) m bs =
+      let e : suc (count ts) + m ≡ suc (count ts + m) = omega arith in
+      ap (λ (k : ℕ). debtAfter k ((code t ++ codes ts) ++ bs)) e
+      ∙ ap (debtAfter (suc (count ts + m))) (append-assoc (code t) (codes ts) bs)
+      ∙ debt-tree t (count ts + m) (codes ts ++ bs)
+      ∙ debt-forest ts m bs
+
+complete-from : (limit n debt : ℕ) (marks bs : List ℕ) → faultFrom limit n debt marks bs ≤ 1 → debtAfter debt bs ≡ 0
+    → faultFrom limit n debt marks bs ≡ 0
+complete-from limit n debt marks [] h e = rw (eq-eqb debt 0 e)
+complete-from limit n debt marks (b ∷ bs) h e =
+    let a = accepted-byte limit n debt marks b bs h in
+    rw (a .0) (complete-from limit (suc n) (owing debt b) (marking debt marks b) bs (a .1) e)
+
+pub debt-complete : (limit : ℕ) (bytes : List ℕ) → Accepted limit bytes → ((t : Topo) × (code t ≡ bytes)) ↔ (debtAfter 1 bytes ≡ 0)
+unfolding fault
+debt-complete limit bytes h = (
+  λ d. ap (debtAfter 1) (sym (append-nil (code (d .0)) ∙ d .1)) ∙ debt-tree (d .0) 0 [],
+  λ z. (tree bytes, drawn limit bytes (complete-from limit 0 1 [] bytes h z)),
+)

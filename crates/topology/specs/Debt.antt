@@ -1,0 +1,17 @@
+-- What paper 02, 2.4 says of the running debt speaks of these; proofs/Debt.antt shows it.
+use Prim.Native.Nat.{ℕ, _≤_}
+use mathlib.Core.List.{List, [], _∷_}
+use Rattle.topology.specs.Reader.{owing, marking, fault}
+
+-- the running value after some bytes, and the marks
+abbrev pub debtAfter : ℕ → List ℕ → ℕ
+debtAfter debt [] = debt
+debtAfter debt (b ∷ bs) = debtAfter (owing debt b) bs
+
+abbrev pub marksAfter : ℕ → List ℕ → List ℕ → List ℕ
+marksAfter debt marks [] = marks
+marksAfter debt marks (b ∷ bs) = marksAfter (owing debt b) (marking debt marks b) bs
+
+-- Each of the bytes is accepted: none is at fault by 2 to 5. Refusal 1, which comes only after the last byte, says that more are missing.
+abbrev pub Accepted : ℕ → List ℕ → Type 0
+Accepted limit bytes = fault limit bytes ≤ 1
