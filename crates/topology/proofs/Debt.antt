@@ -1,11 +1,11 @@
 -- The running debt, as paper 02, 2.4 has it. After accepted bytes the reader goes on with the debt and the marks that these bytes leave
--- (`goes-on`), and bytes before accepted ones are accepted (`accepted-before`); so whatever is said of accepted bytes holds after each accepted
--- byte. The debt is then one plus the child counts read so far, less the number of bytes read (`debt-value`), and the tree is complete, that is,
--- the bytes are the code of a tree, exactly when it is 0 (`debt-complete`).
+-- (`goes-on`); bytes before accepted ones are accepted (`accepted-before`), and the first byte that is not decides (`first-decides`). So what is
+-- said of accepted bytes holds after each accepted byte: the debt is one plus the child counts read so far, less the number of bytes read
+-- (`debt-value`), and the tree is complete, that is, the bytes are the code of a tree, exactly when it is 0 (`debt-complete`).
 use mathlib.Core.Path.{_≡_, refl, sym, ap, _∙_}
 use mathlib.Core.Logic.{_↔_}
-use Prim.Native.Nat.{ℕ, zero, suc, pred, _+_, _≤_}
-use native.Mathlib.Nat.{add-zero, zero-add}
+use Prim.Native.Nat.{ℕ, suc, _+_, _≤_, _<_}
+use native.Mathlib.Nat.{add-zero, zero-add, suc-add}
 use native.Mathlib.Omega.{arith}
 use mathlib.Core.List.{List, [], _∷_, _++_, append-assoc, append-nil}
 use mathlib.Core.Bool.{Bool, true, false}
@@ -14,9 +14,10 @@ use lib.Dec.{eqb, leb, ltb}
 use borrow.Author.Tests.{eq-eqb}
 use Rattle.lists.specs.Sum.{sum}
 use Rattle.topology.specs.Tree.{Topo, Forest, node, fnil, fcons, count, code, codes}
-use Rattle.topology.specs.Reader.{pick, orElse, owing, marking, faultAt, faultFrom, fault, tree}
+use Rattle.topology.specs.Reader.{pick, orElse, owing, pending, marking, faultAt, faultFrom, fault, tree}
 use Rattle.topology.specs.Debt.{debtAfter, marksAfter, Accepted}
-use Rattle.topology.proofs.Refusals.{pick-most}
+use Rattle.topology.proofs.Refusals.{orElse-same, pick-most}
+use Rattle.topology.proofs.Marks.{mark-met, mark-open}
 use Rattle.topology.proofs.Reader.{sound, drawn}
 
 -- an accepted byte has no fault, and the bytes after it are accepted
@@ -62,6 +63,18 @@ pub accepted-before : (limit : ℕ) (bytes rest : List ℕ) → Accepted limit (
 unfolding fault
 accepted-before limit bytes rest h = before-from limit 0 1 [] bytes rest h
 
+decides-from : (limit n debt : ℕ) (marks bs cs : List ℕ) → 1 < faultFrom limit n debt marks bs
+    → faultFrom limit n debt marks (bs ++ cs) ≡ faultFrom limit n debt marks bs
+decides-from limit n debt marks [] cs h = absurd (omega (arith, pick-most 1 (eqb debt 0) 0 1 (omega arith) (omega arith)))
+decides-from limit n debt marks (b ∷ bs) cs h =
+    let rest : List ℕ → ℕ = faultFrom limit (suc n) (owing debt b) (marking debt marks b) in
+    orElse-same (faultAt limit n debt (length marks) b) (rest (bs ++ cs)) (rest bs)
+    (λ z. decides-from limit (suc n) (owing debt b) (marking debt marks b) bs cs (rw z at h))
+
+pub first-decides : (limit : ℕ) (bytes rest : List ℕ) → (Accepted limit bytes → ⊥) → fault limit (bytes ++ rest) ≡ fault limit bytes
+unfolding fault
+first-decides limit bytes rest h = decides-from limit 0 1 [] bytes rest (omega arith)
+
 -- ---- the value
 
 value-from : (limit n debt : ℕ) (marks bs : List ℕ) → faultFrom limit n debt marks bs ≤ 1 → debtAfter debt bs + length bs ≡ debt + sum bs
@@ -75,20 +88,26 @@ pub debt-value : (limit : ℕ) (bytes : List ℕ) → Accepted limit bytes → d
 unfolding fault
 debt-value limit bytes h = value-from limit 0 1 [] bytes h
 
--- ---- complete
+-- ---- past a tree
 
+-- from one debt and marks these bytes lead to where those lead from others
+abbrev pub LeadAlike : ℕ → List ℕ → List ℕ → ℕ → List ℕ → List ℕ → Type 0
+LeadAlike d ms bs e ns cs = (debtAfter d bs ≡ debtAfter e cs) × (marksAfter d ms bs ≡ marksAfter e ns cs)
+
+-- The code of a tree takes one from the debt and leaves the marks of the branches that are then not complete.
 mutual
-  debt-tree : (t : Topo) (m : ℕ) (bs : List ℕ) → debtAfter (suc m) (code t ++ bs) ≡ debtAfter m bs
-  debt-tree (node ts) m bs = debt-forest ts m bs
+  pub past-tree : (t : Topo) (m : ℕ) (ms bs : List ℕ) → LeadAlike (suc m) ms (code t ++ bs) m (pending m ms) bs
+  past-tree (node ts) m ms bs = past-forest ts m ms bs
 
-  debt-forest : (ts : Forest) (m : ℕ) (bs : List ℕ) → debtAfter (count ts + m) (codes ts ++ bs) ≡ debtAfter m bs
-  debt-forest fnil m bs = ap (λ (k : ℕ). debtAfter k bs) (zero-add m)
-  debt-forest (fcons t ts) m bs =
-      let e : suc (count ts) + m ≡ suc (count ts + m) = omega arith in
-      ap (λ (k : ℕ). debtAfter k ((code t ++ codes ts) ++ bs)) e
-      ∙ ap (debtAfter (suc (count ts + m))) (append-assoc (code t) (codes ts) bs)
-      ∙ debt-tree t (count ts + m) (codes ts ++ bs)
-      ∙ debt-forest ts m bs
+  past-forest : (ts : Forest) (m : ℕ) (ms bs : List ℕ)
+      → LeadAlike (count ts + m) (pending (count ts + m) (m ∷ ms)) (codes ts ++ bs) m (pending m ms) bs
+  past-forest fnil m ms bs = rw (zero-add m, mark-met m ms) (refl, refl)
+  past-forest (fcons t ts) m ms bs =
+      let a = past-tree t (count ts + m) (m ∷ ms) (codes ts ++ bs) in
+      let b = past-forest ts m ms bs in
+      rw (suc-add (count ts) m, mark-open (count ts) m ms, append-assoc (code t) (codes ts) bs) (a .0 ∙ b .0, a .1 ∙ b .1)
+
+-- ---- complete
 
 complete-from : (limit n debt : ℕ) (marks bs : List ℕ) → faultFrom limit n debt marks bs ≤ 1 → debtAfter debt bs ≡ 0
     → faultFrom limit n debt marks bs ≡ 0
@@ -100,6 +119,6 @@ complete-from limit n debt marks (b ∷ bs) h e =
 pub debt-complete : (limit : ℕ) (bytes : List ℕ) → Accepted limit bytes → ((t : Topo) × (code t ≡ bytes)) ↔ (debtAfter 1 bytes ≡ 0)
 unfolding fault
 debt-complete limit bytes h = (
-  λ d. ap (debtAfter 1) (sym (append-nil (code (d .0)) ∙ d .1)) ∙ debt-tree (d .0) 0 [],
+  λ d. ap (debtAfter 1) (sym (append-nil (code (d .0)) ∙ d .1)) ∙ past-tree (d .0) 0 [] [] .0,
   λ z. (tree bytes, drawn limit bytes (complete-from limit 0 1 [] bytes h z)),
 )

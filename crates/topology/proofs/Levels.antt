@@ -2,7 +2,7 @@
 -- before (`reads-as-before`). The levels stand for a debt, all their nodes together, and for marks, the nodes owed behind each level but the last;
 -- to pass over levels that are complete is to pass over the marks that the debt has reached.
 use mathlib.Core.Path.{_≡_, refl, sym, ap, ap₂, _∙_}
-use Prim.Native.Nat.{ℕ, zero, suc, pred, _+_, _≤_, _<_}
+use Prim.Native.Nat.{ℕ, zero, suc, pred, _+_, _<_}
 use native.Mathlib.Decide.{decLt}
 use native.Mathlib.Omega.{arith}
 use mathlib.Core.List.{List, [], _∷_}

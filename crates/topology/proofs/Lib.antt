@@ -6,6 +6,7 @@ pub mod Decoding
 pub mod Reader
 pub mod Marks
 pub mod Debt
+pub mod Depth
 pub mod Levels
 pub mod Progress
 pub mod Scan

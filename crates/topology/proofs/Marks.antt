@@ -1,8 +1,7 @@
 -- The marks of the branches that are not complete, kept in an array from an index on; and how large a debt can be.
-use mathlib.Core.Path.{_≡_, refl, sym, ap, _∙_}
-use Prim.Native.Nat.{ℕ, zero, suc, pred, _+_, _*_, _≤_, _<_}
+use mathlib.Core.Path.{_≡_, refl}
+use Prim.Native.Nat.{ℕ, suc, pred, _+_, _*_, _≤_, _<_}
 use native.Mathlib.Omega.{arith}
-use native.Mathlib.Decide.{decLt}
 use mathlib.Core.List.{List, [], _∷_}
 use mathlib.Core.Bool.{Bool, true, false}
 use lib.ListN.{length, getD, drop, drop-of-length-le}
@@ -10,6 +9,15 @@ use lib.Seq.{drop-cons}
 use lib.Dec.{ltb}
 use borrow.Author.Tests.{lt-ltb, le-ltb, ltb-false}
 use Rattle.topology.specs.Reader.{pick, pending, owing, marking}
+
+-- the branch whose mark is m: complete at the debt m, and not where more is owed
+pub mark-met : (m : ℕ) (ms : List ℕ) → pending m (m ∷ ms) ≡ pending m ms
+mark-met m ms = rw (le-ltb m m (omega arith))
+
+pub mark-open : (k m : ℕ) (ms : List ℕ) → pending (suc (k + m)) (m ∷ ms) ≡ m ∷ ms
+mark-open k m ms = rw (lt-ltb m (suc (k + m)) (omega arith))
+
+-- ---- in an array
 
 module _ (debt : ℕ) (l : List ℕ) (i : ℕ) where
   -- a branch whose mark is less than the debt is the first that is not complete; one whose mark is not is passed over
@@ -21,6 +29,8 @@ module _ (debt : ℕ) (l : List ℕ) (i : ℕ) where
 
   pub mark-none : length l ≤ i → drop i l ≡ pending debt (drop i l)
   mark-none h = rw (drop-of-length-le l h)
+
+-- ---- how large a debt can be
 
 -- A node has at most 8 children: above the mark of the deepest branch at most 8 nodes are owed, and above each other mark likewise.
 abbrev pub Bounded : ℕ → List ℕ → Type 0

@@ -6,14 +6,10 @@ use native.Mathlib.Omega.{arith}
 use mathlib.Core.List.{List, [], _∷_}
 use lib.ListN.{length, take}
 use lib.Seq.{take-all}
-use Rattle.topology.specs.Reader.{orElse, owing, marking, faultAt, faultFrom, fault}
+use Rattle.topology.specs.Reader.{owing, marking, faultAt, faultFrom, fault}
+use Rattle.topology.proofs.Refusals.{orElse-same}
 use Rattle.topology.proofs.Reader.{sound}
 use Rattle.topology.proofs.Lookup.{valid-length}
-
--- what comes after matters only where the first is 0
-orElse-same : (f r s : ℕ) → (f ≡ 0 → r ≡ s) → orElse f r ≡ orElse f s
-orElse-same zero r s h = h refl
-orElse-same (suc f) r s h = refl
 
 fault-part : (limit n k debt : ℕ) (marks bs : List ℕ) → n ≤ limit → n + k ≡ suc limit
     → faultFrom limit n debt marks (take k bs) ≡ faultFrom limit n debt marks bs

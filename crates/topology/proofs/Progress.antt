@@ -4,7 +4,7 @@ use mathlib.Core.Logic.{_≢_}
 use Prim.Native.Nat.{ℕ, zero, suc, pred, _+_, _-_, _≤_, _<_}
 use native.Mathlib.Numerals.{add-one}
 use native.Mathlib.Omega.{arith}
-use mathlib.Core.List.{List, [], _∷_}
+use mathlib.Core.List.{List, _∷_}
 use lib.ListN.{length, take, drop, getD, set, replicate, length-drop, length-set, length-replicate, drop-of-length-le}
 use lib.Seq.{drop-cons}
 use lib.Dec.{eqb}
@@ -14,7 +14,7 @@ use Rattle.lists.proofs.Set.{drop-set}
 use Rattle.lists.proofs.Sum.{sum-take}
 use Rattle.topology.specs.Reader.{pick, orElse, owing, pending, marking, faultAt, faultFrom, fault, reading}
 use Rattle.topology.specs.declared.Reading.the-variants.{Tree, Refused}
-use Rattle.topology.proofs.Reader.{Sound, sound}
+use Rattle.topology.proofs.Reader.{sound}
 use Rattle.topology.proofs.Marks.{Bounded, bounded-most, bounded-marking}
 
 -- `value` is paper 02, 2.4's sentence about the running value of the code.
@@ -25,6 +25,13 @@ pub record Progress (limit : ℕ) (bytes : List ℕ) (debt : ℕ) (marks : List 
   pub value : debt + i ≡ 1 + sum (take i bytes)
   pub bounded : Bounded debt (drop top marks)
   pub same : faultFrom limit i debt (drop top marks) (drop i bytes) ≡ fault limit bytes
+
+-- the byte can be paid, there is a place for its mark, and its children can be added
+pub record Payable (debt top children : ℕ) : Type 0 where
+  pub owed : 0 < debt
+  pub place : 0 < top
+  pub small : debt ≤ 65
+  pub few : children ≤ 8
 
 pub begin : (limit : ℕ) (bytes : List ℕ) → Progress limit bytes 1 (replicate 9 0) 9 0
 unfolding fault
@@ -72,16 +79,13 @@ module _ (limit : ℕ) (bytes : List ℕ) (debt : ℕ) (marks : List ℕ) (top i
         refused (suc f) r n = refl
 
     module _ (z : number ≡ 0) where
-      fine : Sound limit i debt (9 - top) (getD bytes i 0)
-      fine = sound limit i debt (9 - top) (getD bytes i 0) (sym is ∙ z)
-
-      -- the byte can be paid, there is a place for its mark, and its children can be added
-      pub payable : (0 < debt) × (0 < top) × (debt ≤ 65) × (getD bytes i 0 ≤ 8)
+      pub payable : Payable debt top (getD bytes i 0)
       payable =
-          let s = fine in
-          let d = depth-is in
+          let s = sound limit i debt (9 - top) (getD bytes i 0) (sym is ∙ z) in
           let w = p .within in
-          (s .owed, omega (arith, s .steps), omega (arith, s .steps, bounded-most debt (drop top marks) (p .bounded)), s .children)
+          let l = bounded-most debt (drop top marks) (p .bounded) in
+          let d = depth-is in
+          record { owed = s .owed; place = omega (arith, s .steps); small = omega (arith, s .steps); few = s .children }
 
       pub advance : (children next : ℕ) → children ≡ getD bytes i 0 → next ≤ 9
           → drop next (set marks (top - 1) (debt - 1)) ≡ pending (debt - 1 + children) (drop (top - 1) (set marks (top - 1) (debt - 1)))
@@ -89,19 +93,19 @@ module _ (limit : ℕ) (bytes : List ℕ) (debt : ℕ) (marks : List ℕ) (top i
       unfolding rest
       advance children next q w e =
           let ok = payable in
-          let owed : debt - 1 + children ≡ owing debt (getD bytes i 0) = omega (arith, ok .0) in
+          let owed : debt - 1 + children ≡ owing debt (getD bytes i 0) = omega (arith, ok .owed) in
           let left : debt - 1 ≡ pred debt = omega arith in
-          let above : suc (top - 1) ≡ top = omega (arith, ok .1) in
+          let above : suc (top - 1) ≡ top = omega (arith, ok .place) in
           let marked : drop next (set marks (top - 1) (debt - 1)) ≡ marking debt (drop top marks) (getD bytes i 0) =
           e
-          ∙ ap (pending (debt - 1 + children)) (drop-set marks (top - 1) (debt - 1) (omega (arith, ok .1, p .within, p .places)))
+          ∙ ap (pending (debt - 1 + children)) (drop-set marks (top - 1) (debt - 1) (omega (arith, ok .place, p .within, p .places)))
           ∙ ap (λ (t : ℕ). pending (debt - 1 + children) ((debt - 1) ∷ drop t marks)) above
           ∙ ap₂ (λ (x y : ℕ). pending x (y ∷ drop top marks)) owed left in
           record {
             read = omega arith;
             places = length-set marks (top - 1) (debt - 1) ∙ p .places;
             within = w;
-            value = rw add-one (omega (arith, ok .0, p .value, sum-take bytes i));
-            bounded = rw (owed, marked) (bounded-marking debt (drop top marks) (getD bytes i 0) (ok .3) (p .bounded));
+            value = rw add-one (omega (arith, ok .owed, p .value, sum-take bytes i));
+            bounded = rw (owed, marked) (bounded-marking debt (drop top marks) (getD bytes i 0) (ok .few) (p .bounded));
             same = rw (add-one, owed, marked) (sym (unrolled ∙ ap (λ (n : ℕ). orElse n rest) z));
           }

@@ -3,19 +3,20 @@
 -- One way (`accepts`), by induction over trees: to read the code of a tree that fits takes one from the debt and leaves the marks of the branches
 -- that are then not complete. Other way: as long as no byte is at fault, the bytes that are left draw as many trees as nodes are owed (`draws`),
 -- so all bytes draw one; and the same induction over that tree gives back the limits (`fits`).
-use mathlib.Core.Path.{_≡_, refl, sym, ap, ap₂, _∙_}
+use mathlib.Core.Path.{_≡_, refl, sym, ap, _∙_}
 use mathlib.Core.Logic.{_≢_}
-use Prim.Native.Nat.{ℕ, zero, suc, pred, _+_, _≤_, _<_}
-use native.Mathlib.Nat.{zero-add, not-suc-le-zero, le-of-suc-le-suc}
+use Prim.Native.Nat.{ℕ, zero, suc, _+_, _≤_, _<_}
+use native.Mathlib.Nat.{zero-add, suc-add, not-suc-le-zero, le-of-suc-le-suc}
 use native.Mathlib.Omega.{arith}
 use mathlib.Core.List.{List, [], _∷_, _++_, append-assoc, append-nil}
 use mathlib.Core.Bool.{Bool, true, false}
 use lib.ListN.{length}
 use lib.Dec.{eqb, leb, ltb, eqb·suc-zero}
-use borrow.Author.Tests.{eqb-false, leb-false, ltb-false, ne-eqb, lt-leb, le-ltb, lt-ltb}
+use borrow.Author.Tests.{eqb-false, leb-false, ltb-false, ne-eqb, lt-leb, le-ltb}
 use Rattle.topology.specs.Tree.{Topo, Forest, node, fnil, fcons, count, code, codes, size, sizes, height, heights, breadth, breadths}
-use Rattle.topology.specs.Reader.{Within, pick, orElse, owing, pending, marking, faultAt, faultFrom, fault, first, others, forest, head, tree}
+use Rattle.topology.specs.Reader.{Within, pick, owing, pending, marking, faultAt, faultFrom, fault, first, others, forest, head, tree}
 use Rattle.topology.proofs.Refusals.{orElse-none}
+use Rattle.topology.proofs.Marks.{mark-met, mark-open}
 
 -- a byte without fault
 pub record Sound (limit n debt depth b : ℕ) : Type 0 where
@@ -41,13 +42,6 @@ sound limit n debt depth b e = by-tests (eqb debt 0) (leb limit n) (ltb 8 b) (lt
         let owed : debt ≢ 0 = eqb-false debt 0 ew in
         omega (arith, leb-false limit n ex, ltb-false 8 b ey, ltb-false 8 depth ez)
 
--- a branch below which nodes are owed is pending, one whose mark the debt has reached is complete
-pending-open : (k m : ℕ) (marks : List ℕ) → pending (suc k + m) (m ∷ marks) ≡ m ∷ marks
-pending-open k m marks = rw (lt-ltb m (suc k + m) (omega arith))
-
-pending-complete : (m : ℕ) (marks : List ℕ) → pending m (m ∷ marks) ≡ pending m marks
-pending-complete m marks = rw (le-ltb m m (omega arith))
-
 -- What s nodes with at most b children each need, on h levels below a node `depth` steps down, where n nodes came before them.
 record Room (limit n depth s b h : ℕ) : Type 0 where
   nodes : n + s ≤ limit
@@ -64,35 +58,33 @@ RoomsFor limit n marks ts = Room limit n (length marks) (sizes ts) (breadths ts)
 abbrev onward : ℕ → ℕ → ℕ → List ℕ → List ℕ → ℕ
 onward limit n debt marks bs = faultFrom limit n debt (pending debt marks) bs
 
--- the same where n and the debt are written otherwise
-onward-at : (limit : ℕ) (marks bs : List ℕ) {n m d e : ℕ} → n ≡ m → d ≡ e → onward limit n d marks bs ≡ onward limit m e marks bs
-onward-at limit marks bs p q = ap₂ (λ (m e : ℕ). onward limit m e marks bs) p q
+-- the same by another way of writing n
+onward-at : (limit debt : ℕ) (marks bs : List ℕ) {n m : ℕ} → n ≡ m → onward limit n debt marks bs ≡ onward limit m debt marks bs
+onward-at limit debt marks bs e = ap (λ (m : ℕ). onward limit m debt marks bs) e
 
--- the branch whose mark is m: complete at m, and not where children are owed above that
-onward-complete : (limit n m : ℕ) (marks bs : List ℕ) → onward limit n (0 + m) (m ∷ marks) bs ≡ onward limit n m marks bs
-onward-complete limit n m marks bs = rw (zero-add m, le-ltb m m (omega arith))
-
+-- a branch before its first child and behind its last one
 onward-open : (limit n k m : ℕ) (marks bs : List ℕ) → onward limit n (suc k + m) (m ∷ marks) bs ≡ faultFrom limit n (suc (k + m)) (m ∷ marks) bs
-onward-open limit n k m marks bs =
-    let e : suc k + m ≡ suc (k + m) = omega arith in
-    rw (e, lt-ltb m (suc (k + m)) (omega arith))
+onward-open limit n k m marks bs = rw (suc-add k m, mark-open k m marks)
+
+onward-met : (limit n m : ℕ) (marks bs : List ℕ) → onward limit n (0 + m) (m ∷ marks) bs ≡ onward limit n m marks bs
+onward-met limit n m marks bs = rw (zero-add m, mark-met m marks)
 
 mutual
   accepts-tree : (t : Topo) (limit n m : ℕ) (marks bs : List ℕ) → RoomFor limit n marks t
       → faultFrom limit n (suc m) marks (code t ++ bs) ≡ onward limit (n + size t) m marks bs
   accepts-tree (node ts) limit n m marks bs r =
       rw (faultAt-none limit n (suc m) (length marks) (count ts) (omega arith))
-      (accepts-forest ts limit (suc n) m marks bs (omega arith) ∙ onward-at limit marks bs (omega arith) refl)
+      (accepts-forest ts limit (suc n) m marks bs (omega arith) ∙ onward-at limit m marks bs (omega arith))
 
   accepts-forest : (ts : Forest) (limit n m : ℕ) (marks bs : List ℕ) → RoomsFor limit n marks ts
       → onward limit n (count ts + m) (m ∷ marks) (codes ts ++ bs) ≡ onward limit (n + sizes ts) m marks bs
-  accepts-forest fnil limit n m marks bs r = onward-complete limit n m marks bs ∙ onward-at limit marks bs (omega arith) refl
+  accepts-forest fnil limit n m marks bs r = onward-met limit n m marks bs ∙ onward-at limit m marks bs (omega arith)
   accepts-forest (fcons t ts) limit n m marks bs r =
       onward-open limit n (count ts) m marks ((code t ++ codes ts) ++ bs)
       ∙ ap (faultFrom limit n (suc (count ts + m)) (m ∷ marks)) (append-assoc (code t) (codes ts) bs)
       ∙ accepts-tree t limit n (count ts + m) (m ∷ marks) (codes ts ++ bs) (omega arith)
       ∙ accepts-forest ts limit (n + size t) m marks bs (omega arith)
-      ∙ onward-at limit marks bs (omega arith) refl
+      ∙ onward-at limit m marks bs (omega arith)
 
 mutual
   fits-tree : (t : Topo) (limit n m : ℕ) (marks bs : List ℕ) → faultFrom limit n (suc m) marks (code t ++ bs) ≡ 0
@@ -101,19 +93,19 @@ mutual
       let o = orElse-none (faultAt limit n (suc m) (length marks) (count ts)) (onward limit (suc n) (count ts + m) (m ∷ marks) (codes ts ++ bs)) e in
       let s = sound limit n (suc m) (length marks) (count ts) (o .0) in
       let r = fits-forest ts limit (suc n) m marks bs (s .nodes) (s .steps) (o .1) in
-      (omega (arith, s, r .0), sym (onward-at limit marks bs (omega arith) refl) ∙ r .1)
+      (omega (arith, s, r .0), sym (onward-at limit m marks bs (omega arith)) ∙ r .1)
 
   fits-forest : (ts : Forest) (limit n m : ℕ) (marks bs : List ℕ) → n ≤ limit → length marks ≤ 8
       → onward limit n (count ts + m) (m ∷ marks) (codes ts ++ bs) ≡ 0 → RoomsFor limit n marks ts × (onward limit (n + sizes ts) m marks bs ≡ 0)
   fits-forest fnil limit n m marks bs l d e =
-      (omega arith, onward-at limit marks bs (omega arith) refl ∙ sym (onward-complete limit n m marks bs) ∙ e)
+      (omega arith, onward-at limit m marks bs (omega arith) ∙ sym (onward-met limit n m marks bs) ∙ e)
   fits-forest (fcons t ts) limit n m marks bs l d e =
       let f : faultFrom limit n (suc (count ts + m)) (m ∷ marks) (code t ++ (codes ts ++ bs)) ≡ 0 =
       ap (faultFrom limit n (suc (count ts + m)) (m ∷ marks)) (sym (append-assoc (code t) (codes ts) bs))
       ∙ sym (onward-open limit n (count ts) m marks ((code t ++ codes ts) ++ bs)) ∙ e in
       let a = fits-tree t limit n (count ts + m) (m ∷ marks) (codes ts ++ bs) f in
       let b = fits-forest ts limit (n + size t) m marks bs (a .0 .nodes) d (a .1) in
-      (omega (arith, a .0, b .0), onward-at limit marks bs (omega arith) refl ∙ b .1)
+      (omega (arith, a .0, b .0), onward-at limit m marks bs (omega arith) ∙ b .1)
 
 count-first : (b : ℕ) (ts : Forest) → b ≤ count ts → count (first b ts) ≡ b
 count-first zero ts h = refl

@@ -23,6 +23,11 @@ pub orElse-last : (f : ℕ) → orElse f 0 ≡ f
 orElse-last zero = refl
 orElse-last (suc f) = refl
 
+-- what comes after matters only where the first is 0
+pub orElse-same : (f r s : ℕ) → (f ≡ 0 → r ≡ s) → orElse f r ≡ orElse f s
+orElse-same zero r s h = h refl
+orElse-same (suc f) r s h = refl
+
 pub orElse-most : (k f r : ℕ) → f ≤ k → r ≤ k → orElse f r ≤ k
 orElse-most k zero r h g = g
 orElse-most k (suc f) r h g = h

@@ -2,8 +2,7 @@
 use borrow.Author.Needs.{needs}
 use Prim.Native.Nat.{_-_}
 use native.Mathlib.Omega.{arith}
-use mathlib.Core.Path.{_∙_}
-use lib.ListN.{length, length-set}
+use lib.ListN.{length}
 use Rattle.topology.proofs.Progress.{Progress, begin, refuse, payable, advance, complete, incomplete}
 use Rattle.topology.proofs.read.Statement.{statement}
 use Rattle.topology.proofs.read.Tie as tie
@@ -34,12 +33,14 @@ returns c =
 sub-debt : tie.Need-sub-debt Inv-loop μ-loop
 sub-debt c =
     let at = c .before .before .before in
-    payable _ _ _ _ _ _ (at .before .loop .inv) _ (at .loop-test .taken) (c .before .fault-at .ensures) (c .if1 .left) .0
+    let ok = payable _ _ _ _ _ _ (at .before .loop .inv) _ (at .loop-test .taken) (c .before .fault-at .ensures) (c .if1 .left) in
+    omega arith
 
 sub-top : tie.Need-sub-top Inv-loop μ-loop
 sub-top c =
     let at = c .before .before .before in
-    payable _ _ _ _ _ _ (at .before .loop .inv) _ (at .loop-test .taken) (c .before .fault-at .ensures) (c .if1 .left) .1
+    let ok = payable _ _ _ _ _ _ (at .before .loop .inv) _ (at .loop-test .taken) (c .before .fault-at .ensures) (c .if1 .left) in
+    omega arith
 
 mul-marks : tie.Need-mul-marks Inv-loop μ-loop
 mul-marks c =
@@ -50,7 +51,7 @@ array-write-marks : tie.Need-array-write-marks Inv-loop μ-loop
 array-write-marks c =
     let at = c .before .before .before in
     let ok = payable _ _ _ _ _ _ (at .before .loop .inv) _ (at .loop-test .taken) (c .before .fault-at .ensures) (c .if1 .left) in
-    omega (arith, ok .1, at .before .loop .inv .within)
+    omega (arith, at .before .loop .inv .within)
 
 shared-slice-read-wide : tie.Need-shared-slice-read-wide Inv-loop μ-loop
 shared-slice-read-wide c = search needs
@@ -62,7 +63,7 @@ add-debt : tie.Need-add-debt Inv-loop μ-loop
 add-debt c =
     let at = c .before .before .before .before .before in
     let ok = payable _ _ _ _ _ _ (at .before .loop .inv) _ (at .loop-test .taken) (c .before .before .before .fault-at .ensures) (c .before .before .if1 .left) in
-    omega (arith, ok .2, c .wide .ensures .1)
+    omega (arith, c .wide .ensures .1)
 
 first-pending-requires : tie.Need-first-pending-requires Inv-loop μ-loop
 first-pending-requires c κs =

@@ -1,6 +1,5 @@
 -- `branch_ends` meets its contract. The table is filled from `node` on.
 use borrow.Author.Needs.{needs}
-use denote.Ref.{now}
 use Prim.Native.Nat.{_≤_}
 use Rattle.two_trees.specs.Filling.{EndsFrom}
 use Rattle.two_trees.proofs.EndTable.{filled-none, filled-later, filled-next, filled-all}
