@@ -1,15 +1,16 @@
--- The running debt, as paper 02, 2.4 has it. After accepted bytes the reader goes on with the debt and the marks that these bytes leave
--- (`goes-on`); bytes before accepted ones are accepted (`accepted-before`), and the first byte that is not decides (`first-decides`). So what is
--- said of accepted bytes holds after each accepted byte: the debt is one plus the child counts read so far, less the number of bytes read
--- (`debt-value`), and the tree is complete, that is, the bytes are the code of a tree, exactly when it is 0 (`debt-complete`).
+-- The running debt, as paper 02, 2.4 has it. Accepted bytes are how the code of some tree begins (`begins-tree`); bytes before accepted ones are
+-- accepted (`accepted-before`), and the first byte that is not decides (`first-decides`). After accepted bytes the reader goes on with the debt and the
+-- marks that these bytes leave (`goes-on`). So what is said of accepted bytes holds after each accepted byte: the debt is one plus the child
+-- counts read so far, less the number of bytes read (`debt-value`), and the tree is complete, that is, the bytes are the code of a tree, exactly
+-- when it is 0 (`debt-complete`).
 use mathlib.Core.Path.{_≡_, refl, sym, ap, _∙_}
 use mathlib.Core.Logic.{_↔_}
-use Prim.Native.Nat.{ℕ, suc, _+_, _≤_, _<_}
+use Prim.Native.Nat.{ℕ, zero, suc, _+_, _≤_, _<_}
 use native.Mathlib.Nat.{add-zero, zero-add, suc-add}
 use native.Mathlib.Omega.{arith}
 use mathlib.Core.List.{List, [], _∷_, _++_, append-assoc, append-nil}
 use mathlib.Core.Bool.{Bool, true, false}
-use lib.ListN.{length}
+use lib.ListN.{length, replicate}
 use lib.Dec.{eqb, leb, ltb}
 use borrow.Author.Tests.{eq-eqb}
 use Rattle.lists.specs.Sum.{sum}
@@ -18,7 +19,7 @@ use Rattle.topology.specs.Reader.{pick, orElse, owing, pending, marking,
 use Rattle.topology.specs.Debt.{debtAfter, marksAfter, Accepted}
 use Rattle.topology.proofs.Refusals.{orElse-same, pick-most}
 use Rattle.topology.proofs.Marks.{mark-met, mark-open}
-use Rattle.topology.proofs.Reader.{sound, drawn}
+use Rattle.topology.proofs.Reader.{sound, Draws, draws-node, draws-tree, drawn}
 
 -- an accepted byte has no fault, and the bytes after it are accepted
 accepted-byte : (limit n debt : ℕ) (marks : List ℕ) (b : ℕ) (bs : List ℕ) → faultFrom limit n debt marks (b ∷ bs) ≤ 1
@@ -74,6 +75,27 @@ decides-from limit n debt marks (b ∷ bs) cs h =
 pub first-decides : (limit : ℕ) (bytes rest : List ℕ) → (Accepted limit bytes → ⊥) → fault limit (bytes ++ rest) ≡ fault limit bytes
 unfolding fault
 first-decides limit bytes rest h = decides-from limit 0 1 [] bytes rest (omega arith)
+
+-- ---- how trees begin
+
+draws-leaves : (k : ℕ) → Draws (replicate k 0) k
+draws-leaves zero = (refl, refl)
+draws-leaves (suc k) = draws-node 0 k (replicate k 0) (rw (zero-add k) (draws-leaves k))
+
+-- with as many leaves behind them as are still owed accepted bytes draw as many trees as were owed
+begins-from : (limit n debt : ℕ) (marks bs : List ℕ) → faultFrom limit n debt marks bs ≤ 1 → Draws (bs ++ replicate (debtAfter debt bs) 0) debt
+begins-from limit n debt marks [] h = draws-leaves debt
+begins-from limit n zero marks (b ∷ bs) h = absurd (omega arith)
+begins-from limit n (suc m) marks (b ∷ bs) h =
+    let a = accepted-byte limit n (suc m) marks b bs h in
+    let next = owing (suc m) b in
+    draws-node b m (bs ++ replicate (debtAfter next bs) 0) (begins-from limit (suc n) next (marking (suc m) marks b) bs (a .1))
+
+pub begins-tree : (limit : ℕ) (bytes : List ℕ) → Accepted limit bytes → (rest : List ℕ) × (code (tree (bytes ++ rest)) ≡ bytes ++ rest)
+unfolding fault
+begins-tree limit bytes h =
+    let leaves : List ℕ = replicate (debtAfter 1 bytes) 0 in
+    (leaves, draws-tree (bytes ++ leaves) (begins-from limit 0 1 [] bytes h))
 
 -- ---- the value
 

@@ -122,18 +122,36 @@ codes-split zero ts = refl
 codes-split (suc b) fnil = refl
 codes-split (suc b) (fcons t ts) = append-assoc (code t) (codes (first b ts)) (codes (others b ts)) ∙ ap (λ (l : List ℕ). code t ++ l) (codes-split b ts)
 
-draws : (limit n debt : ℕ) (marks bs : List ℕ) → faultFrom limit n debt marks bs ≡ 0 → (count (forest bs) ≡ debt) × (codes (forest bs) ≡ bs)
+-- the bytes draw so many trees
+abbrev pub Draws : List ℕ → ℕ → Type 0
+Draws bs k = (count (forest bs) ≡ k) × (codes (forest bs) ≡ bs)
+
+-- a byte more, of a node that takes the first b of the trees behind it as its children
+pub draws-node : (b m : ℕ) (bs : List ℕ) → Draws bs (b + m) → Draws (b ∷ bs) (suc m)
+draws-node b m bs d =
+    let l : b ≤ count (forest bs) = omega (arith, d .0) in (
+      omega (arith, d .0, count-others b (forest bs) l),
+      ap (λ (k : ℕ). k ∷ (codes (first b (forest bs)) ++ codes (others b (forest bs)))) (count-first b (forest bs) l)
+          ∙ ap (λ (cs : List ℕ). b ∷ cs) (codes-split b (forest bs) ∙ d .1),
+    )
+
+draws : (limit n debt : ℕ) (marks bs : List ℕ) → faultFrom limit n debt marks bs ≡ 0 → Draws bs debt
 draws limit n zero marks [] e = (refl, refl)
 draws limit n (suc m) marks [] e = absurd (omega (arith, rw (eqb·suc-zero m) at e))
-draws limit n debt marks (b ∷ bs) e =
-    let o = orElse-none (faultAt limit n debt (length marks) b) (faultFrom limit (suc n) (owing debt b) (marking debt marks b) bs) e in
-    let s = sound limit n debt (length marks) b (o .0) in
-    let r = draws limit (suc n) (owing debt b) (marking debt marks b) bs (o .1) in
-    let l : b ≤ count (forest bs) = omega arith in (
-      omega (arith, s .owed, count-others b (forest bs) l),
-      ap (λ (m : ℕ). m ∷ (codes (first b (forest bs)) ++ codes (others b (forest bs)))) (count-first b (forest bs) l)
-          ∙ ap (λ (l : List ℕ). b ∷ l) (codes-split b (forest bs) ∙ r .1),
-    )
+draws limit n zero marks (b ∷ bs) e = absurd (omega arith)
+draws limit n (suc m) marks (b ∷ bs) e =
+    let o = orElse-none (faultAt limit n (suc m) (length marks) b) (faultFrom limit (suc n) (owing (suc m) b) (marking (suc m) marks b) bs) e in
+    draws-node b m bs (draws limit (suc n) (owing (suc m) b) (marking (suc m) marks b) bs (o .1))
+
+-- bytes that draw one tree are its code
+pub draws-tree : (bytes : List ℕ) → Draws bytes 1 → code (tree bytes) ≡ bytes
+unfolding tree
+draws-tree bytes d = one (forest bytes) (d .0) (d .1)
+  where
+    one : (ts : Forest) → count ts ≡ 1 → codes ts ≡ bytes → code (head ts) ≡ bytes
+    one fnil k e = absurd (omega arith)
+    one (fcons t fnil) k e = sym (append-nil (code t)) ∙ e
+    one (fcons t (fcons u ts)) k e = absurd (omega arith)
 
 -- The bytes of a tree within the limits have no fault.
 pub accepts : (limit : ℕ) (t : Topo) → Within limit t → fault limit (code t) ≡ 0
@@ -142,13 +160,8 @@ accepts limit t w = ap (faultFrom limit 0 1 []) (sym (append-nil (code t))) ∙ 
 
 -- Bytes without fault are the code of a tree within the limits, the one that `tree` gives.
 pub drawn : (limit : ℕ) (bytes : List ℕ) → fault limit bytes ≡ 0 → code (tree bytes) ≡ bytes
-unfolding fault tree
-drawn limit bytes e = one (forest bytes) (draws limit 0 1 [] bytes e)
-  where
-    one : (ts : Forest) → (count ts ≡ 1) × (codes ts ≡ bytes) → code (head ts) ≡ bytes
-    one fnil r = absurd (omega (arith, r .0))
-    one (fcons t fnil) r = sym (append-nil (code t)) ∙ r .1
-    one (fcons t (fcons u ts)) r = absurd (omega (arith, r .0))
+unfolding fault
+drawn limit bytes e = draws-tree bytes (draws limit 0 1 [] bytes e)
 
 pub within : (limit : ℕ) (bytes : List ℕ) → fault limit bytes ≡ 0 → Within limit (tree bytes)
 unfolding fault

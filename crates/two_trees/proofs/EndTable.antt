@@ -11,7 +11,7 @@ use Rattle.topology.specs.Branch.{branchEnd}
 use Rattle.topology.proofs.Scan.{scan-none, end-bounds}
 use Rattle.embedding_laws.specs.Tables.{Ends}
 use Rattle.two_trees.specs.Trees.{endsFrom, branchEnds}
-use Rattle.two_trees.specs.Filling.{EndsFrom}
+use Rattle.two_trees.specs.Filling.{FilledFrom}
 
 module _ (bytes : List ℕ) where
   length-ends : (k n : ℕ) → length (endsFrom k bytes n) ≡ k
@@ -33,21 +33,21 @@ module _ (bytes : List ℕ) where
 
 -- ---- the table, from the last node to the first
 
-pub filled-none : (bytes : List ℕ) → EndsFrom bytes (replicate 64 0) 64
+pub filled-none : (bytes : List ℕ) → FilledFrom bytes (replicate 64 0) 64
 filled-none bytes = record { places = length-replicate {A = ℕ} 64 0; at = λ n h g. absurd (omega arith) }
 
 module _ (bytes ends : List ℕ) where
-  pub filled-later : (node later : ℕ) → node ≤ later → EndsFrom bytes ends node → EndsFrom bytes ends later
+  pub filled-later : (node later : ℕ) → node ≤ later → FilledFrom bytes ends node → FilledFrom bytes ends later
   filled-later node later h f = record { places = f .places; at = λ n l g. f .at n (omega arith) g }
 
-  pub filled-next : (node x : ℕ) → EndsFrom bytes ends (suc node) → node < 64 → x ≡ branchEnd bytes node → EndsFrom bytes (set ends node x) node
+  pub filled-next : (node x : ℕ) → FilledFrom bytes ends (suc node) → node < 64 → x ≡ branchEnd bytes node → FilledFrom bytes (set ends node x) node
   filled-next node x f h e = record { places = length-set ends node x ∙ f .places; at = λ n l g. here-or-behind n l g (ℕ-discrete n node) }
     where
       here-or-behind : (n : ℕ) → node ≤ n → n < 64 → Dec (n ≡ node) → getD (set ends node x) n 0 ≡ branchEnd bytes n
       here-or-behind n l g (yes q) = rw q (getD-set-same ends node x 0 (omega (arith, f .places)) ∙ e)
       here-or-behind n l g (no q) = getD-set-other ends node n x 0 q ∙ f .at n (omega arith) g
 
-  pub filled-all : EndsFrom bytes ends 0 → ends ≡ branchEnds bytes
+  pub filled-all : FilledFrom bytes ends 0 → ends ≡ branchEnds bytes
   unfolding branchEnds
   filled-all f =
       ext-getD 0 ends (endsFrom 64 bytes 0) (f .places ∙ sym (length-ends bytes 64 0))

@@ -5,6 +5,6 @@ use mathlib.Core.List.{List}
 use lib.ListN.{length, getD}
 use Rattle.topology.specs.Branch.{branchEnd}
 
-pub record EndsFrom (bytes ends : List ℕ) (node : ℕ) : Type 0 where
+pub record FilledFrom (bytes ends : List ℕ) (node : ℕ) : Type 0 where
   pub places : length ends ≡ 64
   pub at : (n : ℕ) → node ≤ n → n < 64 → getD ends n 0 ≡ branchEnd bytes n

@@ -3,7 +3,7 @@ ghost use mathlib.Core.Path.{_≡_};
 ghost use Prim.Native.Nat.{suc};
 ghost use Rattle.topology.specs.Branch.{branchEnd};
 ghost use Rattle.two_trees.specs.Trees.{treesFault, branchEnds};
-ghost use Rattle.two_trees.specs.Filling.{EndsFrom};
+ghost use Rattle.two_trees.specs.Filling.{FilledFrom};
 use branches::branch_end;
 use topology::Reading;
 use topology::SOURCE_NODES;
@@ -26,7 +26,7 @@ pub fn trees_fault(source: &[u8], target: &[u8]) -> u8
 
 // One past the last node of the branch under `node`, by the table for a node that is in it.
 fn known_end(bytes: &[u8], ends: &[usize; 64], node: usize) -> usize
-    requires { ⌜ EndsFrom (now bytes) (now ends) node ⌝ }
+    requires { ⌜ FilledFrom (now bytes) (now ends) node ⌝ }
     ensures { λ r. ⌜ r ≡ branchEnd (now (bytes .entry)) node ⌝ }
 {
     if node < 64 {
@@ -38,7 +38,7 @@ fn known_end(bytes: &[u8], ends: &[usize; 64], node: usize) -> usize
 
 // The same of a node before those that are in the table: a branch ends where its last child's does.
 fn end_of(bytes: &[u8], ends: &[usize; 64], node: usize) -> usize
-    requires { ⌜ EndsFrom (now bytes) (now ends) (suc node) ⌝ }
+    requires { ⌜ FilledFrom (now bytes) (now ends) (suc node) ⌝ }
     ensures { λ r. ⌜ r ≡ branchEnd (now (bytes .entry)) node ⌝ }
 {
     if bytes.len() <= node {

@@ -1,13 +1,13 @@
 -- `branch_ends` meets its contract. The table is filled from `node` on.
 use borrow.Author.Needs.{needs}
 use Prim.Native.Nat.{_≤_}
-use Rattle.two_trees.specs.Filling.{EndsFrom}
+use Rattle.two_trees.specs.Filling.{FilledFrom}
 use Rattle.two_trees.proofs.EndTable.{filled-none, filled-later, filled-next, filled-all}
 use Rattle.two_trees.proofs.branch_ends.Statement.{statement}
 use Rattle.two_trees.proofs.branch_ends.Tie as tie
 
 abbrev Inv-loop : tie.InvT-loop
-Inv-loop bytes ends₀ node₀ ends node = (node ≤ 64) × EndsFrom bytes ends node
+Inv-loop bytes ends₀ node₀ ends node = (node ≤ 64) × FilledFrom bytes ends node
 
 abbrev μ-loop : tie.MeasureT-loop
 μ-loop bytes ends₀ node₀ ends node = node
