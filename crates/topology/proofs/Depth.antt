@@ -10,8 +10,8 @@ use mathlib.Core.List.{List, [], _∷_}
 use lib.ListN.{length, take}
 use lib.Seq.{take-append-le, take-append-add}
 use Rattle.topology.specs.Tree.{Topo, Forest, node, fnil, fcons, count, kids, width, code, codes, size}
-use Rattle.topology.specs.Address.{nth, ahead, depth}
-use Rattle.topology.specs.Reader.{pending}
+use Rattle.topology.specs.Address.{nth, ahead, addr, depth}
+use Rattle.topology.specs.Reader.{pending, tree}
 use Rattle.topology.specs.Debt.{debtAfter, marksAfter}
 use Rattle.topology.proofs.Numbering.{node-ind, addr-root, addr-child}
 use Rattle.topology.proofs.Decoding.{length-code}
@@ -53,7 +53,8 @@ marks-child (node ts) i k h g r m ms =
 pub depth-next : (t : Topo) (n : ℕ) → n < size t → length (marksAfter 1 [] (take n (code t))) ≡ depth t n
 depth-next t n h = node-ind MarksDown marks-root marks-child t n h 0 [] ∙ zero-add (depth t n)
 
--- after `2 2` and after `4 0` three nodes are owed, and the next lies 2 steps down and 1
+-- After `2 2` and after `4 0` three nodes are owed, and in the trees `2 2 0 0 0` and `4 0 0 0 0` the next one lies 2 steps down and 1.
 pub depth-apart : (debtAfter 1 (2 ∷ 2 ∷ []) ≡ 3) × (debtAfter 1 (4 ∷ 0 ∷ []) ≡ 3)
-    × (length (marksAfter 1 [] (2 ∷ 2 ∷ [])) ≡ 2) × (length (marksAfter 1 [] (4 ∷ 0 ∷ [])) ≡ 1)
+    × (depth (tree (2 ∷ 2 ∷ 0 ∷ 0 ∷ 0 ∷ [])) 2 ≡ 2) × (depth (tree (4 ∷ 0 ∷ 0 ∷ 0 ∷ 0 ∷ [])) 2 ≡ 1)
+unfolding tree addr
 depth-apart = (refl, refl, refl, refl)

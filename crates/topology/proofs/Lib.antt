@@ -5,6 +5,8 @@ pub mod Children
 pub mod Decoding
 pub mod Reader
 pub mod Marks
+pub mod Forests
+pub mod Accepted
 pub mod Debt
 pub mod Depth
 pub mod Levels

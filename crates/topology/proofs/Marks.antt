@@ -20,7 +20,7 @@ mark-open k m ms = rw (lt-ltb m (suc (k + m)) (omega arith))
 -- ---- in an array
 
 module _ (debt : ℕ) (l : List ℕ) (i : ℕ) where
-  -- a branch whose mark is less than the debt is the first that is not complete; one whose mark is not is passed over
+  -- a mark less than the debt is the first of a branch that is not complete; any other is passed over
   pub mark-pending : i < length l → getD l i 0 < debt → drop i l ≡ pending debt (drop i l)
   mark-pending h g = rw (drop-cons l i 0 h, lt-ltb (getD l i 0) debt g)
 
@@ -32,7 +32,7 @@ module _ (debt : ℕ) (l : List ℕ) (i : ℕ) where
 
 -- ---- how large a debt can be
 
--- A node has at most 8 children: above the mark of the deepest branch at most 8 nodes are owed, and above each other mark likewise.
+-- A node has at most 8 children: the debt is at most 8 above the first mark, and each mark at most 8 above the next.
 abbrev pub Bounded : ℕ → List ℕ → Type 0
 Bounded debt [] = debt ≤ 1
 Bounded debt (m ∷ ms) = (debt ≤ m + 8) × Bounded m ms

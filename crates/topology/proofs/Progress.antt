@@ -21,7 +21,7 @@ use Rattle.topology.proofs.Marks.{Bounded, bounded-most, bounded-markin
 pub record Progress (limit : ℕ) (bytes : List ℕ) (debt : ℕ) (marks : List ℕ) (top i : ℕ) : Type 0 where
   pub read : i ≤ length bytes
   pub places : length marks ≡ 9
-  pub within : top ≤ 9
+  pub inside : top ≤ 9
   pub value : debt + i ≡ 1 + sum (take i bytes)
   pub bounded : Bounded debt (drop top marks)
   pub same : faultFrom limit i debt (drop top marks) (drop i bytes) ≡ fault limit bytes
@@ -39,7 +39,7 @@ begin limit bytes =
     record {
       read = omega arith;
       places = length-replicate {A = ℕ} 9 0;
-      within = omega arith;
+      inside = omega arith;
       value = refl;
       bounded = omega arith;
       same = refl;
@@ -82,7 +82,7 @@ module _ (limit : ℕ) (bytes : List ℕ) (debt : ℕ) (marks : List ℕ) (top i
       pub payable : Payable debt top (getD bytes i 0)
       payable =
           let s = sound limit i debt (9 - top) (getD bytes i 0) (sym is ∙ z) in
-          let w = p .within in
+          let w = p .inside in
           let l = bounded-most debt (drop top marks) (p .bounded) in
           let d = depth-is in
           record { owed = s .owed; place = omega (arith, s .steps); small = omega (arith, s .steps); few = s .children }
@@ -98,13 +98,13 @@ module _ (limit : ℕ) (bytes : List ℕ) (debt : ℕ) (marks : List ℕ) (top i
           let above : suc (top - 1) ≡ top = omega (arith, ok .place) in
           let marked : drop next (set marks (top - 1) (debt - 1)) ≡ marking debt (drop top marks) (getD bytes i 0) =
           e
-          ∙ ap (pending (debt - 1 + children)) (drop-set marks (top - 1) (debt - 1) (omega (arith, ok .place, p .within, p .places)))
+          ∙ ap (pending (debt - 1 + children)) (drop-set marks (top - 1) (debt - 1) (omega (arith, ok .place, p .inside, p .places)))
           ∙ ap (λ (t : ℕ). pending (debt - 1 + children) ((debt - 1) ∷ drop t marks)) above
           ∙ ap₂ (λ (x y : ℕ). pending x (y ∷ drop top marks)) owed left in
           record {
             read = omega arith;
             places = length-set marks (top - 1) (debt - 1) ∙ p .places;
-            within = w;
+            inside = w;
             value = rw add-one (omega (arith, ok .owed, p .value, sum-take bytes i));
             bounded = rw (owed, marked) (bounded-marking debt (drop top marks) (getD bytes i 0) (ok .few) (p .bounded));
             same = rw (add-one, owed, marked) (sym (unrolled ∙ ap (λ (n : ℕ). orElse n rest) z));

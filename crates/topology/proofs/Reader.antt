@@ -1,22 +1,25 @@
 -- The reader accepts exactly the codes of the trees within the limits.
 --
 -- One way (`accepts`), by induction over trees: to read the code of a tree that fits takes one from the debt and leaves the marks of the branches
--- that are then not complete. Other way: as long as no byte is at fault, the bytes that are left draw as many trees as nodes are owed (`draws`),
--- so all bytes draw one; and the same induction over that tree gives back the limits (`fits`).
+-- that are then not complete. Other way: bytes without fault owe nothing, so they draw one tree as they are (`drawn`); and the same induction over
+-- that tree gives back the limits (`within`).
 use mathlib.Core.Path.{_≡_, refl, sym, ap, _∙_}
 use mathlib.Core.Logic.{_≢_}
-use Prim.Native.Nat.{ℕ, zero, suc, _+_, _≤_, _<_}
-use native.Mathlib.Nat.{zero-add, suc-add, not-suc-le-zero, le-of-suc-le-suc}
+use Prim.Native.Nat.{ℕ, suc, _+_, _≤_, _<_}
+use native.Mathlib.Nat.{zero-add, suc-add}
 use native.Mathlib.Omega.{arith}
 use mathlib.Core.List.{List, [], _∷_, _++_, append-assoc, append-nil}
 use mathlib.Core.Bool.{Bool, true, false}
 use lib.ListN.{length}
-use lib.Dec.{eqb, leb, ltb, eqb·suc-zero}
+use lib.Dec.{eqb, leb, ltb}
 use borrow.Author.Tests.{eqb-false, leb-false, ltb-false, ne-eqb, lt-leb, le-ltb}
 use Rattle.topology.specs.Tree.{Topo, Forest, node, fnil, fcons, count, code, codes, size, sizes, height, heights, breadth, breadths}
-use Rattle.topology.specs.Reader.{Within, pick, owing, pending, marking, faultAt, faultFrom, fault, first, others, forest, head, tree}
+use Rattle.topology.specs.Reader.{Within, pick, pending, faultAt, faultFrom, fault, tree}
 use Rattle.topology.proofs.Refusals.{orElse-none}
+use Rattle.topology.specs.Debt.{Accepted}
 use Rattle.topology.proofs.Marks.{mark-met, mark-open}
+use Rattle.topology.proofs.Forests.{draws-tree}
+use Rattle.topology.proofs.Accepted.{nothing-owed, draws-begun}
 
 -- a byte without fault
 pub record Sound (limit n debt depth b : ℕ) : Type 0 where
@@ -107,52 +110,6 @@ mutual
       let b = fits-forest ts limit (n + size t) m marks bs (a .0 .nodes) d (a .1) in
       (omega (arith, a .0, b .0), onward-at limit m marks bs (omega arith) ∙ b .1)
 
-count-first : (b : ℕ) (ts : Forest) → b ≤ count ts → count (first b ts) ≡ b
-count-first zero ts h = refl
-count-first (suc b) fnil h = absurd (not-suc-le-zero h)
-count-first (suc b) (fcons t ts) h = ap suc (count-first b ts (le-of-suc-le-suc h))
-
-count-others : (b : ℕ) (ts : Forest) → b ≤ count ts → b + count (others b ts) ≡ count ts
-count-others zero ts h = zero-add (count ts)
-count-others (suc b) fnil h = absurd (not-suc-le-zero h)
-count-others (suc b) (fcons t ts) h = omega (arith, count-others b ts (le-of-suc-le-suc h))
-
-codes-split : (b : ℕ) (ts : Forest) → codes (first b ts) ++ codes (others b ts) ≡ codes ts
-codes-split zero ts = refl
-codes-split (suc b) fnil = refl
-codes-split (suc b) (fcons t ts) = append-assoc (code t) (codes (first b ts)) (codes (others b ts)) ∙ ap (λ (l : List ℕ). code t ++ l) (codes-split b ts)
-
--- the bytes draw so many trees
-abbrev pub Draws : List ℕ → ℕ → Type 0
-Draws bs k = (count (forest bs) ≡ k) × (codes (forest bs) ≡ bs)
-
--- a byte more, of a node that takes the first b of the trees behind it as its children
-pub draws-node : (b m : ℕ) (bs : List ℕ) → Draws bs (b + m) → Draws (b ∷ bs) (suc m)
-draws-node b m bs d =
-    let l : b ≤ count (forest bs) = omega (arith, d .0) in (
-      omega (arith, d .0, count-others b (forest bs) l),
-      ap (λ (k : ℕ). k ∷ (codes (first b (forest bs)) ++ codes (others b (forest bs)))) (count-first b (forest bs) l)
-          ∙ ap (λ (cs : List ℕ). b ∷ cs) (codes-split b (forest bs) ∙ d .1),
-    )
-
-draws : (limit n debt : ℕ) (marks bs : List ℕ) → faultFrom limit n debt marks bs ≡ 0 → Draws bs debt
-draws limit n zero marks [] e = (refl, refl)
-draws limit n (suc m) marks [] e = absurd (omega (arith, rw (eqb·suc-zero m) at e))
-draws limit n zero marks (b ∷ bs) e = absurd (omega arith)
-draws limit n (suc m) marks (b ∷ bs) e =
-    let o = orElse-none (faultAt limit n (suc m) (length marks) b) (faultFrom limit (suc n) (owing (suc m) b) (marking (suc m) marks b) bs) e in
-    draws-node b m bs (draws limit (suc n) (owing (suc m) b) (marking (suc m) marks b) bs (o .1))
-
--- bytes that draw one tree are its code
-pub draws-tree : (bytes : List ℕ) → Draws bytes 1 → code (tree bytes) ≡ bytes
-unfolding tree
-draws-tree bytes d = one (forest bytes) (d .0) (d .1)
-  where
-    one : (ts : Forest) → count ts ≡ 1 → codes ts ≡ bytes → code (head ts) ≡ bytes
-    one fnil k e = absurd (omega arith)
-    one (fcons t fnil) k e = sym (append-nil (code t)) ∙ e
-    one (fcons t (fcons u ts)) k e = absurd (omega arith)
-
 -- The bytes of a tree within the limits have no fault.
 pub accepts : (limit : ℕ) (t : Topo) → Within limit t → fault limit (code t) ≡ 0
 unfolding fault
@@ -160,8 +117,11 @@ accepts limit t w = ap (faultFrom limit 0 1 []) (sym (append-nil (code t))) ∙ 
 
 -- Bytes without fault are the code of a tree within the limits, the one that `tree` gives.
 pub drawn : (limit : ℕ) (bytes : List ℕ) → fault limit bytes ≡ 0 → code (tree bytes) ≡ bytes
-unfolding fault
-drawn limit bytes e = draws-tree bytes (draws limit 0 1 [] bytes e)
+drawn limit bytes e =
+    let a : Accepted limit bytes = omega arith in
+    let z = nothing-owed limit bytes e in
+    let d = draws-begun limit bytes a in
+    draws-tree bytes (rw (z, append-nil bytes) at d)
 
 pub within : (limit : ℕ) (bytes : List ℕ) → fault limit bytes ≡ 0 → Within limit (tree bytes)
 unfolding fault

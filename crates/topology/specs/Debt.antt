@@ -1,4 +1,4 @@
--- What paper 02, 2.4 says of the running debt speaks of these; proofs/Debt.antt shows it.
+-- The words in which proofs/Accepted and proofs/Debt state what paper 02, 2.4 says.
 use Prim.Native.Nat.{ℕ, _≤_}
 use mathlib.Core.List.{List, [], _∷_}
 use Rattle.topology.specs.Reader.{owing, marking, fault}

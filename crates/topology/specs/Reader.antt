@@ -28,18 +28,18 @@ orElse (suc f) rest = suc f
 abbrev pub owing : ℕ → ℕ → ℕ
 owing debt b = b + pred debt
 
--- How far down the next node lies does not follow from the debt. So for each branch that is not complete there is a mark, the debt at which it will
--- be, the deepest branch first; and the next node lies as many steps down as there are marks (`depth-next` in proofs/Depth). A branch is complete
--- once the debt is no more than its mark.
+-- How far down the next node lies does not follow from the debt. So each branch that has begun and is not complete has a mark, the debt at which it
+-- will be complete, the deepest branch first; and the next node lies as many steps down as there are marks (`depth-next` in proofs/Depth). A branch
+-- is complete once the debt is no more than its mark.
 abbrev pub pending : ℕ → List ℕ → List ℕ
 pending debt [] = []
 pending debt (m ∷ ms) = pick (ltb m debt) (m ∷ ms) (pending debt ms)
 
--- the marks once the next node has come, with b children
+-- The marks once the next node has come, with b children. Its own branch is complete when all that is left of the debt is what was owed beside it.
 abbrev pub marking : ℕ → List ℕ → ℕ → List ℕ
 marking debt marks b = pending (owing debt b) (pred debt ∷ marks)
 
--- The fault of byte b in the order of the tests, where n nodes came before it and its node lies `depth` steps down; 0: none.
+-- The fault of byte b in the order of the tests, where n nodes came before it, `debt` are owed and its own lies `depth` steps down; 0: none.
 abbrev pub faultAt : ℕ → ℕ → ℕ → ℕ → ℕ → ℕ
 faultAt limit n debt depth b = pick (eqb debt 0) 2 (pick (leb limit n) 3 (pick (ltb 8 b) 4 (pick (ltb 8 depth) 5 0)))
 

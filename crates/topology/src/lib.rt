@@ -29,7 +29,7 @@ pub enum Toward {
     Nowhere,
 }
 
-// The first place from `top` on whose mark is less than the debt, so that its branch is not complete.
+// The first place from `top` on whose mark is less than the debt, so that its branch is not complete; 9 where there is none.
 fn first_pending(marks: &[usize; 9], top: usize, debt: usize) -> usize
     requires { ⌜ (length (now marks) ≡ 9) × (top ≤ 9) ⌝ }
     ensures { λ r. ⌜ (r ≤ 9) × (drop r (now (marks .entry)) ≡ pending debt (drop top (now (marks .entry)))) ⌝ }
@@ -66,8 +66,8 @@ fn fault_at(limit: usize, nodes: usize, debt: usize, depth: usize, children: u8)
 // Reads a topology of at most `limit` nodes: bytes in turn, and the first byte at fault decides.
 //
 // `debt` is how many nodes are still owed: after each byte one plus the child counts read so far, less the number of bytes read. Beside it stand
-// earlier values of it, marks[top..], the deepest first: for each branch that is not complete the debt at which it will be. Nine are enough,
-// since a node is refused once nine lie above it.
+// the marks, marks[top..], the deepest first: for each branch that has begun and is not complete, what was left of the debt when its top node was
+// paid for, which it will be again when the branch is complete. Nine are enough, since a node is refused once nine lie above it.
 pub fn read(bytes: &[u8], limit: usize) -> Reading
     ensures { λ r. ⌜ r ≡ reading (fault limit (now (bytes .entry))) ⌝ }
 {

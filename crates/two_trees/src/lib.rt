@@ -36,7 +36,7 @@ fn known_end(bytes: &[u8], ends: &[usize; 64], node: usize) -> usize
     }
 }
 
-// The same of a node before those that are in the table: a branch ends where its last child's does.
+// One past the last node of the branch under a node right before those in the table: where its last child's branch ends, or right behind a leaf.
 fn end_of(bytes: &[u8], ends: &[usize; 64], node: usize) -> usize
     requires { ⌜ FilledFrom (now bytes) (now ends) (suc node) ⌝ }
     ensures { λ r. ⌜ r ≡ branchEnd (now (bytes .entry)) node ⌝ }
@@ -55,7 +55,7 @@ fn end_of(bytes: &[u8], ends: &[usize; 64], node: usize) -> usize
 }
 
 // Where the branches of the nodes 0 to 63 end; past the last node a number stands for itself. The table is filled from the last node to the
-// first, and each node is asked for once.
+// first, and each node is asked for at most once.
 pub fn branch_ends(bytes: &[u8]) -> [usize; 64]
     ensures { λ r. ⌜ r ≡ branchEnds (now (bytes .entry)) ⌝ }
 {

@@ -17,7 +17,7 @@ loop-holds : tie.Need-loop-holds Inv-loop μ-loop
 loop-holds c = begin _ _
 
 sub-fault-at : tie.Need-sub-fault-at Inv-loop μ-loop
-sub-fault-at c = c .before .loop .inv .within
+sub-fault-at c = c .before .loop .inv .inside
 
 shared-slice-read-fault-at : tie.Need-shared-slice-read-fault-at Inv-loop μ-loop
 shared-slice-read-fault-at c = search needs
@@ -44,14 +44,14 @@ sub-top c =
 
 mul-marks : tie.Need-mul-marks Inv-loop μ-loop
 mul-marks c =
-    let top = c .before .before .before .before .loop .inv .within in
+    let top = c .before .before .before .before .loop .inv .inside in
     omega arith
 
 array-write-marks : tie.Need-array-write-marks Inv-loop μ-loop
 array-write-marks c =
     let at = c .before .before .before in
     let ok = payable _ _ _ _ _ _ (at .before .loop .inv) _ (at .loop-test .taken) (c .before .fault-at .ensures) (c .if1 .left) in
-    omega (arith, at .before .loop .inv .within)
+    omega (arith, at .before .loop .inv .inside)
 
 shared-slice-read-wide : tie.Need-shared-slice-read-wide Inv-loop μ-loop
 shared-slice-read-wide c = search needs
@@ -68,7 +68,7 @@ add-debt c =
 first-pending-requires : tie.Need-first-pending-requires Inv-loop μ-loop
 first-pending-requires c κs =
     let inv = c .before .before .before .before .before .before .before .loop .inv in
-    (search (needs, inv .places), omega (arith, inv .within))
+    (search (needs, inv .places), omega (arith, inv .inside))
 
 add-i : tie.Need-add-i Inv-loop μ-loop
 add-i c = search needs
