@@ -1,25 +1,21 @@
-//! Links the archives that `rt staticlib` makes of the crates below.
+//! Links the archives that `rt staticlib` makes of the crates that export calls: `exports_*` in crates.txt, but for `exports_plain_*`, which
+//! these share.
 
 use std::path::Path;
 use std::{env, fs};
 
-const CRATES: [&str; 10] = [
-    "exports_topology",
-    "exports_embedding",
-    "exports_translator",
-    "exports_queue_state",
-    "exports_queue_tree",
-    "exports_tree",
-    "exports_chip_state",
-    "exports_chip",
-    "exports_bench",
-    "exports_tree_bench",
-];
+const CRATES: &str = "../crates.txt";
 
 fn main() {
     println!("cargo:rerun-if-env-changed=LINDUVAR_LIB_DIR");
+    println!("cargo:rerun-if-changed={CRATES}");
     let folder = env::var("LINDUVAR_LIB_DIR").unwrap_or("../target/staticlib".to_string());
-    for name in CRATES {
+    let crates = fs::read_to_string(CRATES).unwrap_or_else(|error| panic!("{CRATES}: {error}"));
+    let exports = crates
+        .lines()
+        .filter_map(|line| line.split(':').next())
+        .filter(|name| name.starts_with("exports_") && !name.starts_with("exports_plain"));
+    for name in exports {
         let archive = Path::new(&folder).join(format!("lib{name}.a"));
         println!("cargo:rerun-if-changed={}", archive.display());
 

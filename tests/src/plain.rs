@@ -79,7 +79,7 @@ pub struct PlainOpened {
 #[derive(Clone, Copy)]
 pub struct PlainAnswer {
     pub state: PlainState,
-    pub number: u8,
+    pub refusal: u8,
     pub value: u32,
 }
 
@@ -110,7 +110,7 @@ pub struct PlainPopped {
 #[repr(C)]
 #[derive(Clone, Copy, Debug, PartialEq, Eq)]
 pub struct PlainAmount {
-    pub number: u8,
+    pub refusal: u8,
     pub value: u32,
 }
 

@@ -34,7 +34,7 @@ pub struct PlainTreeOpened {
 #[derive(Clone, Copy)]
 pub struct PlainTreeAnswer {
     pub tree: PlainTree,
-    pub number: u8,
+    pub refusal: u8,
     pub value: u32,
 }
 
@@ -72,7 +72,7 @@ const _: () = {
     assert!(size_of::<PlainTreeOpened>() == 28_512);
 
     assert!(offset_of!(PlainTreeAnswer, tree) == 0);
-    assert!(offset_of!(PlainTreeAnswer, number) == 28_504);
+    assert!(offset_of!(PlainTreeAnswer, refusal) == 28_504);
     assert!(offset_of!(PlainTreeAnswer, value) == 28_508);
     assert!(size_of::<PlainTreeAnswer>() == 28_512);
 

@@ -315,7 +315,7 @@ fn ranks_never_fall(queue: &[Entry]) -> bool {
 /// The loop that the benchmark times: in each round a pop and then a push of
 /// the round's number, along the first path in even rounds and the second in
 /// odd ones. Refusals are passed over.
-pub fn churn(tree: &mut QueueTree, paths: [(&[Step], u32); 2], rounds: u32) {
+pub fn rounds(tree: &mut QueueTree, paths: [(&[Step], u32); 2], rounds: u32) {
     for round in 0..rounds {
         let (steps, leaf_rank) = paths[round as usize % 2];
         _ = tree.pop();

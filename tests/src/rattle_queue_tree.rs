@@ -12,7 +12,7 @@ mod boundary {
         pub fn linduvar_pop(state: PlainState) -> PlainPopped;
         pub fn linduvar_held(state: PlainState) -> PlainAmount;
         pub fn linduvar_refusals(state: PlainState) -> PlainAmount;
-        pub fn linduvar_churn(
+        pub fn linduvar_rounds(
             state: PlainState,
             first: PlainPath,
             second: PlainPath,
@@ -46,7 +46,12 @@ pub fn refusals(state: &PlainState) -> PlainAmount {
     unsafe { boundary::linduvar_refusals(*state) }
 }
 
-/// As `queue_tree::churn` does; a state that is not well formed stays.
-pub fn churn(state: &PlainState, first: &PlainPath, second: &PlainPath, rounds: u32) -> PlainState {
-    unsafe { boundary::linduvar_churn(*state, *first, *second, rounds) }
+/// As `queue_tree::rounds` does; a state that is not well formed stays.
+pub fn rounds(
+    state: &PlainState,
+    first: &PlainPath,
+    second: &PlainPath,
+    rounds: u32,
+) -> PlainState {
+    unsafe { boundary::linduvar_rounds(*state, *first, *second, rounds) }
 }

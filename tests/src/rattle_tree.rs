@@ -26,15 +26,18 @@ mod boundary {
         pub fn linduvar_tree_pop(tree: PlainTree) -> PlainTreeAnswer;
         pub fn linduvar_tree_held(tree: PlainTree) -> PlainAmount;
         pub fn linduvar_tree_refusals(tree: PlainTree) -> PlainAmount;
-        pub fn linduvar_tree_churn(
+        pub fn linduvar_tree_rounds(
             tree: PlainTree,
             leaf: usize,
             class: u8,
             length: u16,
             rounds: u32,
         ) -> PlainTree;
-        pub fn linduvar_tree_path_churn(tree: PlainTree, path: PlainPath, rounds: u32)
-            -> PlainTree;
+        pub fn linduvar_tree_path_rounds(
+            tree: PlainTree,
+            path: PlainPath,
+            rounds: u32,
+        ) -> PlainTree;
     }
 }
 
@@ -74,12 +77,12 @@ pub fn refusals(tree: &PlainTree) -> PlainAmount {
     unsafe { boundary::linduvar_tree_refusals(*tree) }
 }
 
-/// As `scheduler::churn` does; a tree that is not well formed stays.
-pub fn churn(tree: &PlainTree, leaf: usize, class: u8, length: u16, rounds: u32) -> PlainTree {
-    unsafe { boundary::linduvar_tree_churn(*tree, leaf, class, length, rounds) }
+/// As `scheduler::rounds` does; a tree that is not well formed stays.
+pub fn rounds(tree: &PlainTree, leaf: usize, class: u8, length: u16, rounds: u32) -> PlainTree {
+    unsafe { boundary::linduvar_tree_rounds(*tree, leaf, class, length, rounds) }
 }
 
-/// As `scheduler::path_churn` does; a tree that is not well formed stays.
-pub fn path_churn(tree: &PlainTree, path: &PlainPath, rounds: u32) -> PlainTree {
-    unsafe { boundary::linduvar_tree_path_churn(*tree, *path, rounds) }
+/// As `scheduler::path_rounds` does; a tree that is not well formed stays.
+pub fn path_rounds(tree: &PlainTree, path: &PlainPath, rounds: u32) -> PlainTree {
+    unsafe { boundary::linduvar_tree_path_rounds(*tree, *path, rounds) }
 }

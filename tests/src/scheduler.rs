@@ -422,7 +422,7 @@ fn well_kept(drawing: Topology, disciplines: &Disciplines) -> Result<Scheduler, 
 
 /// The loop that the benchmark times: in each round a pop and then a push of
 /// the round's number to a leaf. Refusals are passed over.
-pub fn churn(tree: &mut Tree, leaf: usize, class: u8, length: u16, rounds: u32) {
+pub fn rounds(tree: &mut Tree, leaf: usize, class: u8, length: u16, rounds: u32) {
     for round in 0..rounds {
         _ = tree.pop();
         _ = tree.push_to_leaf(leaf, class, length, round);
@@ -430,7 +430,7 @@ pub fn churn(tree: &mut Tree, leaf: usize, class: u8, length: u16, rounds: u32) 
 }
 
 /// The same along a path.
-pub fn path_churn(tree: &mut Tree, path: &Path, rounds: u32) {
+pub fn path_rounds(tree: &mut Tree, path: &Path, rounds: u32) {
     for round in 0..rounds {
         _ = tree.pop();
         _ = tree.push(path, round);

@@ -163,7 +163,7 @@ impl<'a> Walk<'a> {
         let answer = self
             .operands(command)
             .and_then(|operands| self.turn(command).map(|()| operands))
-            .and_then(|operands| self.obey(command, operands));
+            .and_then(|operands| self.execute(command, operands));
         Some(Outcome {
             offset,
             command,
@@ -223,7 +223,7 @@ impl<'a> Walk<'a> {
     }
 
     /// Does what a command says that stands in its turn.
-    fn obey(&mut self, command: u8, operands: &[u8]) -> Result<Done, Refused> {
+    fn execute(&mut self, command: u8, operands: &[u8]) -> Result<Done, Refused> {
         match command {
             0x01 => self.source.push(operands[0]),
             0x02 => self.target.push(operands[0]),

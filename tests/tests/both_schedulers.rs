@@ -314,7 +314,7 @@ fn no_rules() -> Rules {
 fn ask_chip(behind: Behind, chip: &PlainTree, request: &Request, kinds: &mut Kinds) -> Answer {
     let Behind { source, map } = behind;
     let rattle = request.by_rattle_chip(behind, chip);
-    let answer = (rattle.number, rattle.value);
+    let answer = (rattle.refusal, rattle.value);
     let question = || format!("{request:?} behind {behind:?} on {:?}", chip.state.read());
     let mut after = chip.rewritten();
     let rust = match chip.read_chip(source, map) {
@@ -437,8 +437,8 @@ impl Trees {
         let source = request.by_rattle(&self.source);
         let chip = request.by_rattle_chip(behind, &self.chip);
         (self.source, self.chip) = (source.tree, chip.tree);
-        let answer = (source.number, source.value);
-        agree(|| self.words(request), (chip.number, chip.value), answer);
+        let answer = (source.refusal, source.value);
+        agree(|| self.words(request), (chip.refusal, chip.value), answer);
         let rust_source = request.by_rust(&mut self.rust_source);
         let rust_chip = request.by_rust(&mut self.rust_chip);
         let rust = (rust_source, rust_chip);
@@ -547,7 +547,7 @@ impl Trees {
 }
 
 fn of(amount: PlainAmount) -> Answer {
-    (amount.number, amount.value)
+    (amount.refusal, amount.value)
 }
 
 fn agree<T: PartialEq + Debug>(question: impl Fn() -> String, rattle: T, rust: T) {

@@ -174,7 +174,7 @@ impl Trees {
         ] {
             let of = |state| {
                 let amount = count(state);
-                (amount.number, amount.value)
+                (amount.refusal, amount.value)
             };
             self.compare(what, of(&self.source), of(&self.chip), (0, rust));
         }
@@ -204,7 +204,7 @@ type Count = fn(&PlainState) -> PlainAmount;
 fn taken(state: &mut PlainState, call: impl Fn(&PlainState) -> PlainAnswer) -> Answer {
     let answer = call(state);
     *state = answer.state;
-    (answer.number, answer.value)
+    (answer.refusal, answer.value)
 }
 
 fn refused(refusal: Refusal) -> Answer {

@@ -23,7 +23,7 @@ const SHORT_LISTS: usize = 800;
 const LONG_LISTS: usize = 10;
 const STATES: usize = 2_000;
 const DAMAGED_STATES: usize = 9_000;
-const CHURNS: usize = 1_000;
+const MANY_ROUNDS: usize = 1_000;
 
 /// Each answer and each kind of path or state must be met this often.
 const OFTEN_ENOUGH: usize = 50;
@@ -38,7 +38,7 @@ fn main() {
         random_lists(&mut comparison);
         states(&mut comparison);
         damaged_states(&mut comparison);
-        churns(&mut comparison);
+        many_rounds(&mut comparison);
         comparison.print();
         comparison.require_everything();
     });
@@ -148,7 +148,7 @@ impl Literal {
             .collect();
         let path = PlainPath::write(&steps, leaf_rank);
         let rattle = rattle_queue_tree::push(&self.state, &path, packet);
-        let met = (rattle.number, rattle.value);
+        let met = (rattle.refusal, rattle.value);
         assert_eq!(met, answer, "push of {packet} along {path:?}");
         self.state = rattle.state;
     }
@@ -158,7 +158,7 @@ impl Literal {
             answer: rattle,
             way: met,
         } = rattle_queue_tree::pop(&self.state);
-        assert_eq!((rattle.number, rattle.value), answer, "pop");
+        assert_eq!((rattle.refusal, rattle.value), answer, "pop");
         let way: Vec<Taken> = way
             .iter()
             .map(|&(node, child, rank)| Taken { node, child, rank })
@@ -307,9 +307,9 @@ fn damaged_states(comparison: &mut Comparison) {
 }
 
 /// The loop of the benchmark, with and without refusals in it.
-fn churns(comparison: &mut Comparison) {
+fn many_rounds(comparison: &mut Comparison) {
     let mut altered = 0;
-    for _ in 0..CHURNS {
+    for _ in 0..MANY_ROUNDS {
         let random = &mut comparison.random;
         let habits = Habits::any(random);
         let tree = any_tree(random, &habits);
@@ -320,13 +320,13 @@ fn churns(comparison: &mut Comparison) {
         let rounds = random.within(0..=40) as u32;
 
         let mut after = sides.clone();
-        after.plain = rattle_queue_tree::churn(&sides.plain, &first, &second, rounds);
+        after.plain = rattle_queue_tree::rounds(&sides.plain, &first, &second, rounds);
         let paths = [first.read(), second.read()];
         let paths = [
             (&paths[0][..], first.leaf_rank),
             (&paths[1][..], second.leaf_rank),
         ];
-        queue_tree::churn(&mut after.tree, paths, rounds);
+        queue_tree::rounds(&mut after.tree, paths, rounds);
         let earlier = Earlier(&sides.plain);
         let question = format_args!("{rounds} rounds along {paths:?} on {earlier:?}");
         comparison.compare_state(&after, question);
@@ -336,7 +336,7 @@ fn churns(comparison: &mut Comparison) {
         altered >= OFTEN_ENOUGH,
         "only {altered} states were altered"
     );
-    println!("{CHURNS} churns, {altered} of which altered the state");
+    println!("{MANY_ROUNDS} times many rounds, {altered} of which altered the state");
 }
 
 #[derive(Clone, Debug)]
@@ -505,21 +505,21 @@ impl Comparison {
             },
             Call::Pop => rattle_queue_tree::pop(&before),
         };
-        let PlainAnswer { number, value, .. } = answer;
+        let PlainAnswer { refusal, value, .. } = answer;
         sides.plain = answer.state;
         let rust = make(&mut sides.tree, call);
         self.agree(
             format_args!("{call:?}"),
             Some(&before),
-            (number, value, way),
+            (refusal, value, way),
             rust,
         );
-        self.meet(number);
+        self.meet(refusal);
 
         // A refusal leaves every entry, and all else but the count of a full tree.
-        if number != 0 {
+        if refusal != 0 {
             let mut expected = before.rewritten();
-            if number == 15 {
+            if refusal == 15 {
                 expected.refused = value;
             }
             let same = sides.plain == expected;
@@ -529,7 +529,7 @@ impl Comparison {
         let earlier = Earlier(&before);
         self.compare_state(sides, format_args!("after {call:?} on {earlier:?}"));
 
-        match (number, call) {
+        match (refusal, call) {
             (0, Call::Push { path, .. }) => {
                 self.kinds
                     .meet(&format!("accepted {} steps down", path.count));
@@ -544,20 +544,20 @@ impl Comparison {
             (15, _) => self.kinds.meet(&format!("full at a limit of {limit}")),
             _ => {}
         }
-        match number {
+        match refusal {
             13 | 14 if held == limit => self.kinds.meet("path at fault when full"),
             15 if refused == u32::MAX => self.kinds.meet("the count stays at its end"),
             15 if refused == u32::MAX - 1 => self.kinds.meet("the count reaches its end"),
             0 if sides.tree.held() == MOST_PACKETS => self.kinds.meet("a limit of 256 is reached"),
             _ => {}
         }
-        number
+        refusal
     }
 
     /// What is held, what was refused, and every queue.
     fn compare_state(&self, sides: &Sides, question: fmt::Arguments) {
         let plain = Some(&sides.plain);
-        let count = |value: u32| PlainAmount { number: 0, value };
+        let count = |value: u32| PlainAmount { refusal: 0, value };
         let held = count(sides.tree.held() as u32);
         let rattle = rattle_queue_tree::held(&sides.plain);
         self.agree(format_args!("held, {question}"), plain, rattle, held);
@@ -583,7 +583,7 @@ impl Comparison {
         ] {
             let question = format_args!("{call} on an ill formed state: {kind}");
             let eighteen = PlainAmount {
-                number: 18,
+                refusal: 18,
                 value: 0,
             };
             self.agree(question, Some(before), rattle, eighteen);
@@ -598,13 +598,18 @@ impl Comparison {
         ] {
             let question = format_args!("{call} on an ill formed state: {kind}");
             let same = rattle.state == before.rewritten();
-            let answer = (rattle.number, rattle.value, same);
+            let answer = (rattle.refusal, rattle.value, same);
             self.agree(question, Some(before), answer, (18, 0, true));
             self.meet(18);
         }
-        let churned = rattle_queue_tree::churn(before, path, path, 1);
+        let after_rounds = rattle_queue_tree::rounds(before, path, path, 1);
         let question = format_args!("is it as before after a round on an ill formed state: {kind}");
-        self.agree(question, Some(before), churned == before.rewritten(), true);
+        self.agree(
+            question,
+            Some(before),
+            after_rounds == before.rewritten(),
+            true,
+        );
     }
 
     fn print(&self) {

@@ -36,7 +36,7 @@ const LONG_LISTS: usize = 20;
 const STATES: usize = 3_000;
 const ENDS: usize = 16_000;
 const DAMAGED_TREES: usize = 8_000;
-const CHURNS: usize = 1_000;
+const MANY_ROUNDS: usize = 1_000;
 
 /// Each answer of each call and each kind of thing must be met this often.
 const OFTEN_ENOUGH: usize = 30;
@@ -54,7 +54,7 @@ fn main() {
         states(&mut comparison);
         ends(&mut comparison);
         damaged_trees(&mut comparison);
-        churns(&mut comparison);
+        many_rounds(&mut comparison);
         comparison.print();
         comparison.require_everything();
     });
@@ -228,7 +228,7 @@ impl Literal {
 
     fn answers(&mut self, request: &Request, answer: Answer) {
         let met = request.by_rattle(&self.tree);
-        assert_eq!((met.number, met.value), answer, "{request:?}");
+        assert_eq!((met.refusal, met.value), answer, "{request:?}");
         self.tree = met.tree;
     }
 
@@ -655,30 +655,30 @@ fn damaged_trees(comparison: &mut Comparison) {
 }
 
 /// The loops of the benchmark, with and without refusals in them.
-fn churns(comparison: &mut Comparison) {
+fn many_rounds(comparison: &mut Comparison) {
     let mut altered = 0;
-    for churn in 0..CHURNS {
+    for trial in 0..MANY_ROUNDS {
         let random = &mut comparison.random;
         let habits = Habits::any(random);
         let (plain, drawing) = any_plain_tree(&habits, random);
         let mut sides = Sides::read(plain);
         let before = sides.tree.state();
         let rounds = random.within(0..=40) as u32;
-        if churn % 2 == 0 {
+        if trial % 2 == 0 {
             let (leaf, length) = (some_leaf(&drawing, random), length(random));
-            sides.plain = rattle_tree::churn(&plain, leaf, 7, length, rounds);
-            scheduler::churn(&mut sides.tree, leaf, 7, length, rounds);
+            sides.plain = rattle_tree::rounds(&plain, leaf, 7, length, rounds);
+            scheduler::rounds(&mut sides.tree, leaf, 7, length, rounds);
         } else {
             let (path, ..) = any_path(&before.topology, &habits, random);
             let (steps, leaf_rank) = (path.read(), path.leaf_rank);
-            sides.plain = rattle_tree::path_churn(&plain, &path, rounds);
-            scheduler::path_churn(&mut sides.tree, &Path { steps, leaf_rank }, rounds);
+            sides.plain = rattle_tree::path_rounds(&plain, &path, rounds);
+            scheduler::path_rounds(&mut sides.tree, &Path { steps, leaf_rank }, rounds);
         }
         comparison.compare(&sides, format_args!("after {rounds} rounds"));
         altered += usize::from(sides.tree.state() != before);
     }
     assert!(altered >= OFTEN_ENOUGH, "only {altered} trees were altered");
-    println!("{CHURNS} churns, {altered} of which altered the tree");
+    println!("{MANY_ROUNDS} times many rounds, {altered} of which altered the tree");
 }
 
 /// One tree on both sides: as Rattle has it in plain numbers, and as Rust has
@@ -812,7 +812,7 @@ impl Comparison {
         let held = sides.tree.held();
         let rattle = request.by_rattle(&before);
         let rust = request.by_rust(&mut sides.tree);
-        let answer = (rattle.number, rattle.value);
+        let answer = (rattle.refusal, rattle.value);
         sides.plain = rattle.tree;
         let on = Earlier(&before);
         self.agree(format_args!("{request:?} on {on:?}"), answer, rust);
@@ -906,7 +906,7 @@ impl Comparison {
 
     /// What is held, what was refused, every queue and all that is kept.
     fn compare(&self, sides: &Sides, question: fmt::Arguments) {
-        let count = |value: u32| PlainAmount { number: 0, value };
+        let count = |value: u32| PlainAmount { refusal: 0, value };
         let held = count(sides.tree.held() as u32);
         let rattle = rattle_tree::held(&sides.plain);
         self.agree(format_args!("held, {question}"), rattle, held);
@@ -923,7 +923,7 @@ impl Comparison {
     /// fault, and alters nothing; so do rounds of calls.
     fn refuses_all(&mut self, before: &PlainTree, push: &Request, kind: &str) {
         let eighteen = PlainAmount {
-            number: 18,
+            refusal: 18,
             value: 0,
         };
         for (call, rattle) in [
@@ -936,17 +936,17 @@ impl Comparison {
         for request in [push, &Request::Pop] {
             let rattle = request.by_rattle(before);
             let same = rattle.tree == before.rewritten();
-            let answer = (rattle.number, rattle.value, same);
+            let answer = (rattle.refusal, rattle.value, same);
             self.agree(format_args!("{request:?}: {kind}"), answer, (18, 0, true));
             self.meet(request.name(), 18);
         }
         let path = PlainPath::write(&[], 0);
-        for churned in [
-            rattle_tree::churn(before, 0, 0, 0, 1),
-            rattle_tree::path_churn(before, &path, 1),
+        for after_rounds in [
+            rattle_tree::rounds(before, 0, 0, 0, 1),
+            rattle_tree::path_rounds(before, &path, 1),
         ] {
             let question = format_args!("is it as before after a round: {kind}");
-            self.agree(question, churned == before.rewritten(), true);
+            self.agree(question, after_rounds == before.rewritten(), true);
         }
     }
 

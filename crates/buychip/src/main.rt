@@ -2,11 +2,11 @@
 // most, and writes the table.
 fn walk(input: &mut [u8], text: &mut [u8]) {
     let n = io::read_full(0, input);
-    let end = chip_table::put_table(&input[..n], text);
-    stream::print(&text[..end]);
+    let end = regular_table::put_table(&input[..n], text);
+    text_stream::print(&text[..end]);
 }
 
-// The table fits: seven lines of at most 50 bytes (`table-fits` in chip_table/proofs/Lengths).
+// The table fits: seven lines of at most 50 bytes (`table-fits` in regular_table/proofs/Lengths).
 fn main() {
     let mut input = [0u8; 65536];
     let mut text = [0u8; 350];

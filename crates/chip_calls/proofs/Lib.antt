@@ -1,2 +1,2 @@
-pub mod Maps
-pub mod Serving
+pub mod MapFault
+pub mod ChipServes

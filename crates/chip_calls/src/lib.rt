@@ -1,11 +1,11 @@
-// The calls on a chip's tree with disciplines (paper 02, 2.1), behind a map of a drawing. The disciplines go by the drawing's nodes, and so do
-// their faults; the queues are the chip's. The drawing and the map are handed in with each call, the chip's own topology is that of its state.
+// The calls on a chip's tree with disciplines (paper 02, 2.1), with a map of a drawing. The disciplines, and their faults, are those of the drawing's
+// nodes; the queues are the chip's. The drawing and the map are arguments of each call; the chip's own topology is in its state.
 use chip_counts::first_fault;
 use discipline_check::is_leaf;
 use discipline_clock::after_pop;
+use discipline_model::Disciplines;
 use discipline_path::plan_to;
-use disciplines::Disciplines;
-use embedding::Checked;
+use embedding_check::Checked;
 use queue_counts::refused;
 use queue_push::Path;
 use queue_state::Answer;
@@ -13,26 +13,26 @@ use queue_state::Packet;
 use tree_state::Tree;
 use tree_state::TreeServed;
 ghost use mathlib.Core.Path.{_≡_};
-ghost use Rattle.topology.specs.Reader.{orElse};
-ghost use Rattle.pifo.specs.Machine.{pushing, popping};
-ghost use Rattle.embedding_laws.specs.Check.{mapFault};
+ghost use Rattle.base.specs.Refusals.{orElse};
+ghost use Rattle.pifo_model.specs.Machine.{pushing, popping};
+ghost use Rattle.embedding_model.specs.Check.{mapFault};
 ghost use Rattle.queue_state.specs.Calls.{answerOf};
 ghost use Rattle.queue_push.specs.Calls.{stepsOf};
-ghost use Rattle.disciplines.specs.Scheduler.{calling, pushingTo};
+ghost use Rattle.discipline_model.specs.Scheduler.{calling, pushingTo};
 ghost use Rattle.chip_state.specs.Calls.{ChipServes};
 
-// The number by which a map is refused, or what comes after it where the map passes.
+// The refusal of a map, or `after` if the map passes.
 fn map_fault(source: &[u8], target: &[u8], map: &[u8], after: u8) -> u8
     ensures { λ r. ⌜ r ≡ orElse (mapFault (now (source .entry)) (now (target .entry)) (now (map .entry))) after ⌝ }
 {
-    match embedding::check(source, target, map) {
+    match embedding_check::check(source, target, map) {
         Checked::Passes => after,
         Checked::Refused(number) => number,
     }
 }
 
-// Pushes a packet along a path of the drawing, carried over, which enters its ranks as given and alters no finish: 1 to 5 of the source are
-// tested, 18, 6, 26, 7 to 11, then 13 and 14 by the source, and 15.
+// Pushes a packet along a path of the drawing, carried over, with its ranks as given, and alters no finish. Tested in this order: 1 to 5 of the
+// source, 18, 6, 26, 7 to 11, 13 and 14 by the source, 15.
 pub fn push(source: &[u8], map: &[u8], tree: Tree, path: Path, packet: Packet) -> TreeServed
     ensures { λ r. ⌜ ChipServes (now (source .entry)) (now (map .entry)) tree (calling (pushing (stepsOf path) (path .«leaf_rank») packet)) (answerOf (r .answer)) (r .tree) ⌝ }
 {
@@ -71,8 +71,8 @@ pub fn push(source: &[u8], map: &[u8], tree: Tree, path: Path, packet: Packet) -
     }
 }
 
-// Pushes a packet to a leaf of the drawing, with its class and its length, by the ranks that the disciplines give: 1 to 5 of the source are
-// tested, 18, 6, 26, 7 to 11, then 25 by the source, 15 and 23.
+// Pushes a packet of a class and a length to a leaf of the drawing, with the ranks that the disciplines give. Tested in this order: 1 to 5 of the
+// source, 18, 6, 26, 7 to 11, 25 by the source, 15, 23.
 pub fn push_to_leaf(
     source: &[u8],
     map: &[u8],
@@ -151,8 +151,8 @@ pub fn push_to_leaf(
     }
 }
 
-// Pops the packet at the head; the virtual time of a source node becomes the rank that the pop took at its image: 1 to 5 of the source are
-// tested, 18, 6, 26, 7 to 11, then 16.
+// Pops the packet at the head; the virtual time of a source node becomes the rank that the pop took at its image. Tested in this order: 1 to 5 of the
+// source, 18, 6, 26, 7 to 11, 16.
 pub fn pop(source: &[u8], map: &[u8], tree: Tree) -> TreeServed
     ensures { λ r. ⌜ ChipServes (now (source .entry)) (now (map .entry)) tree (calling popping) (answerOf (r .answer)) (r .tree) ⌝ }
 {

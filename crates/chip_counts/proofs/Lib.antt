@@ -1,2 +1,2 @@
-pub mod First
-pub mod Counting
+pub mod FirstFault
+pub mod Amounts

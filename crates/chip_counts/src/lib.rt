@@ -1,18 +1,18 @@
-// A chip's tree with disciplines asked for its counts, and what is tested first in every call on it.
+// The counts of a chip's tree with disciplines, and what is tested first in every call on it.
 use discipline_check::fault;
-use disciplines::Rule;
+use discipline_model::Rule;
 use queue_counts::Amount;
 use topology::Reading;
 use topology::SOURCE_NODES;
 use topology::read;
 use tree_state::Tree;
 ghost use mathlib.Core.Path.{_≡_};
-ghost use Rattle.pifo.specs.Tree.{held};
+ghost use Rattle.pifo_model.specs.Tree.{held};
 ghost use Rattle.queue_state.specs.State.{treeOf};
-ghost use Rattle.chip_counts.specs.First.{firstFault};
-ghost use Rattle.chip_counts.specs.Counts.{chipAmount};
+ghost use Rattle.chip_counts.specs.FirstFault.{firstFault};
+ghost use Rattle.chip_counts.specs.Amounts.{chipAmount};
 
-// What is tested of a drawing, the rules and a chip's number of nodes, before the chip's state is looked at: 1 to 5, then 18.
+// The refusal by the tests of a drawing, the rules and a chip's number of nodes, before the chip's state is tested: 1 to 5, then 18; or 0.
 pub fn first_fault(source: &[u8], nodes: usize, rules: [Rule; 64]) -> u8
     ensures { λ r. ⌜ r ≡ firstFault (now (source .entry)) nodes rules ⌝ }
 {

@@ -1,2 +1,2 @@
-pub mod Numbers
-pub mod Openings
+pub mod ChipFault
+pub mod OpenedBoth

@@ -1,6 +1,6 @@
 // The opening of a chip's tree with disciplines for a drawing, and of both trees with the least map between them.
 use discipline_check::fault;
-use disciplines::Rule;
+use discipline_model::Rule;
 use topology::Reading;
 use topology::SOURCE_NODES;
 use topology::read;
@@ -8,11 +8,12 @@ use tree_open::opened;
 use tree_state::Tree;
 use tree_state::TreeOpened;
 ghost use mathlib.Core.Path.{_≡_};
-ghost use Rattle.topology.specs.Reader.{orElse};
+ghost use lib.ListN.{replicate};
+ghost use Rattle.base.specs.Refusals.{orElse, unlessRefused};
 ghost use Rattle.chip_state.specs.Opening.{chipFault, openedChip};
-ghost use Rattle.chip_open.specs.Opening.{mapBy, openedBoth};
+ghost use Rattle.chip_open.specs.Opening.{openedBoth};
 
-// The answer to an opening of both trees: 0, the trees, empty, and the least map; or a refusal's number and zeros throughout.
+// The answer to an opening of both trees: the trees, empty, the least map and 0; or zeros throughout and the refusal's number.
 pub struct BothOpened {
     pub source: Tree,
     pub chip: Tree,
@@ -20,7 +21,7 @@ pub struct BothOpened {
     pub refusal: u8,
 }
 
-// A number, or what comes after it where it is 0.
+// The first of two refusals or, if that is 0, the second.
 fn or_else(number: u8, after: u8) -> u8
     ensures { λ r. ⌜ r ≡ orElse number after ⌝ }
 {
@@ -30,9 +31,9 @@ fn or_else(number: u8, after: u8) -> u8
     after
 }
 
-// The map, or zeros where an opening is refused.
+// The map, or zeros if an opening is refused.
 fn map_by(refusal: u8, map: [u8; 32]) -> [u8; 32]
-    ensures { λ r. ⌜ r ≡ mapBy refusal map ⌝ }
+    ensures { λ r. ⌜ r ≡ unlessRefused refusal map (replicate 32 0) ⌝ }
 {
     if refusal != 0 {
         return [0u8; 32];
@@ -40,7 +41,7 @@ fn map_by(refusal: u8, map: [u8; 32]) -> [u8; 32]
     map
 }
 
-// The number by which the opening of a chip's tree is refused, or 0.
+// The refusal of the opening of a chip's tree, or 0.
 fn refusal(source: &[u8], target: &[u8], limit: usize, rules: [Rule; 64]) -> u8
     ensures { λ r. ⌜ r ≡ chipFault (now (source .entry)) (now (target .entry)) limit rules ⌝ }
 {
@@ -56,8 +57,8 @@ fn refusal(source: &[u8], target: &[u8], limit: usize, rules: [Rule; 64]) -> u8
     }
 }
 
-// Opens an empty tree of the target's topology for a drawing, with a rule for each node of the drawing: 1 to 5 of the source, 1 to 5 of the
-// target, 17, then 24 by the source.
+// Opens an empty tree of the target's topology for a drawing, with a rule for each node of the drawing. Tested in this order: 1 to 5 of the source, 1
+// to 5 of the target, 17, 24 by the source.
 pub fn open(source: &[u8], target: &[u8], limit: usize, rules: [Rule; 64]) -> TreeOpened
     ensures { λ r. ⌜ r ≡ openedChip (now (source .entry)) (now (target .entry)) limit rules ⌝ }
 {
@@ -67,8 +68,8 @@ pub fn open(source: &[u8], target: &[u8], limit: usize, rules: [Rule; 64]) -> Tr
     opened(number, state, rules)
 }
 
-// Opens both trees, the drawing's and the chip's, with one packet limit, the same rules and the least map: 1 to 5 of the source, 1 to 5 of the
-// target, 12, 17, then 24 by the source.
+// Opens both trees, the source's and the chip's, with one packet limit, the same rules and the least map. Tested in this order: 1 to 5 of the source,
+// 1 to 5 of the target, 12, 17, 24 by the source.
 pub fn open_both(source: &[u8], target: &[u8], limit: usize, rules: [Rule; 64]) -> BothOpened
     ensures { λ r. ⌜ r ≡ openedBoth (now (source .entry)) (now (target .entry)) limit rules ⌝ }
 {

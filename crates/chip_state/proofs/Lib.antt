@@ -1,2 +1,2 @@
-pub mod Chip
-pub mod Existing
+pub mod ChipServes
+pub mod Satisfiable

@@ -1,20 +1,20 @@
 // The test of the disciplines of a drawing (refusal 24).
 //
-// The functions take any bytes and mean what their names say where `topology::read` accepts those bytes.
-use branches::branch_end;
-use disciplines::Rule;
-use disciplines::WEIGHTED;
+// The functions take any bytes; their names say what they mean if `topology::read` accepts the bytes.
+use discipline_model::Rule;
+use discipline_model::WEIGHTED;
 use topology::TARGET_NODES;
 use topology::wide;
+use topology_branches::branch_end;
 ghost use mathlib.Core.Path.{_≡_};
 ghost use Prim.Native.Nat.{_<_};
 ghost use lib.ListN.{length};
 ghost use Rattle.topology.specs.Reader.{tree};
 ghost use Rattle.topology.specs.Reader.{fault as Reader·fault};
-ghost use Rattle.disciplines.specs.Figure.{weighted, kindAt, soundAt, ruleFault};
-ghost use Rattle.disciplines.specs.Scheduler.{isLeaf};
+ghost use Rattle.discipline_model.specs.Figure.{weighted, kindAt, soundAt, ruleFault};
+ghost use Rattle.discipline_model.specs.Scheduler.{isLeaf};
 
-// Whether a weighted node can share: it has children, and each has a weight.
+// Whether a weighted node can share: it has children, and each has a weight above 0.
 fn can_share(bytes: &[u8], rules: [Rule; 64], node: usize) -> bool
     requires { ⌜ (node < length (now bytes)) × (kindAt rules node ≡ weighted) ⌝ }
     ensures { λ r. ⌜ (Reader·fault 64 (now (bytes .entry)) ≡ 0 → r ≡ soundAt (tree (now (bytes .entry))) rules node) ⌝ }
@@ -38,7 +38,7 @@ fn can_share(bytes: &[u8], rules: [Rule; 64], node: usize) -> bool
     true
 }
 
-// The number by which the rules of a drawing are refused: 24, or 0.
+// The refusal of the rules of a drawing: 24, or 0.
 pub fn fault(bytes: &[u8], rules: [Rule; 64]) -> u8
     ensures { λ r. ⌜ (Reader·fault 64 (now (bytes .entry)) ≡ 0 → r ≡ ruleFault (tree (now (bytes .entry))) rules) ⌝ }
 {

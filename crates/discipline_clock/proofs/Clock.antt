@@ -1,12 +1,12 @@
--- The virtual times by a way are those of the definition: a way has the rank that a pop takes at each node (`rank-way`), so what `after_pop`
--- answers is `afterPop` (`clock-after`).
+-- The virtual times computed from a way are those of the definition: a way has the rank that a pop takes at each node (`rank-way`), so the answer of
+-- `after_pop` is `afterPop` (`clock-after`).
 use mathlib.Core.Path.{_≡_, refl, sym, ap, ap₂, _∙_}
 use mathlib.Core.Logic.{_≢_}
 use Prim.Native.Nat.{ℕ, zero, suc, _+_, _-_, _≤_, _<_}
 use native.Mathlib.Nat.{not-suc-le-zero, le-of-suc-le-suc, zero-add, add-zero}
 use native.Mathlib.Omega.{arith}
 use mathlib.Core.List.{List, [], _∷_, map}
-use mathlib.Core.Bool.{Bool, true, false}
+use mathlib.Core.Bool.{Bool, true, false, cond}
 use mathlib.Core.Option.{Option, none, some}
 use lib.ListN.{length, getD, replicate, length-map}
 use lib.Seq.{take-at}
@@ -14,28 +14,28 @@ use lib.Dec.{eqb}
 use borrow.Author.Tests.{lt-ltb, le-ltb}
 use Rattle.topology.specs.Tree.{Topo, width, size}
 use Rattle.topology.specs.Address.{addr, subtree}
-use Rattle.topology.specs.Reader.{pick, fault, tree}
+use Rattle.topology.specs.Reader.{fault, tree}
 use Rattle.topology.proofs.Lookup.{valid-size, valid-length, valid-width}
-use Rattle.pifo.specs.Queue.{Rank, Entry, child, packet, entry}
-use Rattle.pifo.specs.Tree.{shape}
-use Rattle.pifo.specs.Way.{Taken, taken, way, takes}
-use Rattle.pifo.proofs.Numbered.{shape-assemble}
-use Rattle.pifo.proofs.Ways.{lookup, passed, way-takes}
+use Rattle.pifo_model.specs.Queue.{Rank, Entry, child, packet, entry}
+use Rattle.pifo_model.specs.Tree.{shape}
+use Rattle.pifo_model.specs.Way.{Taken, taken, way, takes}
+use Rattle.pifo_model.proofs.Numbered.{shape-assemble}
+use Rattle.pifo_model.proofs.Way.{lookup, passed, way-takes}
 use Rattle.queue_state.specs.State.{Packet, bytes, queues, treeOf, machine, wellFormed}
 use Rattle.queue_state.specs.declared.State.{State}
-use Rattle.queue_state.proofs.Formed.{formed}
-use Rattle.queue_pop.specs.Ways.{codeTaken, noTaken, wayFrom, wayOf}
+use Rattle.queue_state.proofs.WellFormed.{formed}
+use Rattle.queue_pop.specs.Way.{codeTaken, noTaken, wayFrom, wayOf}
 use Rattle.queue_pop.specs.declared.Way.{Way}
-use Rattle.disciplines.specs.Figure.{weighted, kindAt, actsBy, keepsTime, lastOf, timesAfter, afterPop}
-use Rattle.disciplines.specs.Scheduler.{rankOf, rankAt}
-use Rattle.disciplines.specs.declared.Rule.{Rule}
-use Rattle.disciplines.specs.declared.Disciplines.{Disciplines}
-use Rattle.disciplines.proofs.Times.{keeps-kept}
+use Rattle.discipline_model.specs.Figure.{weighted, kindAt, actsBy, keepsTime, lastOf, timesAfter, afterPop}
+use Rattle.discipline_model.specs.Scheduler.{rankOf, rankAt}
+use Rattle.discipline_model.specs.declared.Rule.{Rule}
+use Rattle.discipline_model.specs.declared.Disciplines.{Disciplines}
+use Rattle.discipline_model.proofs.AfterPop.{keeps-kept}
 use Rattle.discipline_clock.specs.Clock.{rankAmong, rankIn, timesBy, withTimes, clocked, numbersFrom, ownImages}
 
--- ---- the rank that a way has
+-- ---- the rank that a way has at a node
 
--- the rank of what a way has at a node
+-- the rank of what is taken at a node, if anything
 abbrev rankTaken : Option Taken → Option Rank
 rankTaken none = none
 rankTaken (some (taken n i r)) = some r
@@ -45,11 +45,11 @@ among-lookup n [] = refl
 among-lookup n (taken m i r ∷ ts) = by-test (eqb m n) (among-lookup n ts)
   where
     by-test : (b : Bool) → rankAmong n (map codeTaken ts) ≡ rankTaken (lookup n ts)
-        → pick b (some r) (rankAmong n (map codeTaken ts)) ≡ rankTaken (pick b (some (taken m i r)) (lookup n ts))
+        → cond b (some r) (rankAmong n (map codeTaken ts)) ≡ rankTaken (cond b (some (taken m i r)) (lookup n ts))
     by-test true e = refl
     by-test false e = e
 
--- the first places of a way are what it takes
+-- the first places of a way have what it takes
 in-way : (n : ℕ) (ts : List Taken) → rankIn (wayFrom 0 ts) n ≡ rankTaken (lookup n ts)
 in-way n ts =
     let long : length (map codeTaken ts) ≡ 0 + length ts = omega (arith, length-map ts codeTaken) in
@@ -67,7 +67,7 @@ rank-way s n w h =
     let t = treeOf s in
     let drawn : shape t ≡ tree (bytes s) = shape-assemble (tree (bytes s)) (queues s) 0 in
     let inside : n < size (shape t) = omega (arith, ap size drawn) in
-    ap (λ (b : Bool). rankIn (wayFrom 0 (pick b (way t 0) [])) n) w
+    ap (λ (b : Bool). rankIn (wayFrom 0 (cond b (way t 0) [])) n) w
     ∙ in-way n (way t 0)
     ∙ ap rankTaken (rw (zero-add n) at (way-takes t 0 n inside))
     ∙ rank-passed n (takes t (addr (shape t) n))
@@ -76,7 +76,7 @@ rank-way s n w h =
 -- ---- the virtual times
 
 module _ (t : Topo) (rules : List Rule) (at : ℕ → Option Rank) where
-  -- from the drawing's last node on nothing is kept
+  -- past the drawing's last node the times stay as they are
   times-past : (k : ℕ) (vs : List Rank) → size t ≤ k → vs ≡ timesAfter t rules at k vs
   times-past k [] h = refl
   times-past k (v ∷ vs) h = rw (le-ltb k (size t) h) (ap (λ (ys : List Rank). v ∷ ys) (times-past (suc k) vs (omega arith)))
@@ -98,13 +98,13 @@ module _ (t : Topo) (rules : List Rule) (at : ℕ → Option Rank) where
       let first : width (subtree t k) ≢ 1 → of a ≡ at k = rw (add-zero k) at (f 0 (omega arith)) in
       let keeps : eqb (actsBy b (kindAt rules k)) weighted ≡ keepsTime t rules k = rw (lt-ltb k (size t) (omega arith), width-is) in
       ap₂ (λ (x : Rank) (xs : List Rank). x ∷ xs)
-      (ap (λ (c : Bool). pick c (lastOf (of a) v) v) keeps ∙ by-node first (keepsTime t rules k) refl) rest
+      (ap (λ (c : Bool). cond c (lastOf (of a) v) v) keeps ∙ by-node first (keepsTime t rules k) refl) rest
     where
-      by-node : (width (subtree t k) ≢ 1 → of a ≡ at k) → (c : Bool) → keepsTime t rules k ≡ c → pick c (lastOf (of a) v) v ≡ pick c (lastOf (at k) v) v
+      by-node : (width (subtree t k) ≢ 1 → of a ≡ at k) → (c : Bool) → keepsTime t rules k ≡ c → cond c (lastOf (of a) v) v ≡ cond c (lastOf (at k) v) v
       by-node first true q = ap (λ (r : Option Rank). lastOf r v) (first (keeps-kept t rules k q .1))
       by-node first false q = refl
 
--- The answer of `after_pop` is the definition's, where the way has at the image of each kept node the rank that was popped there.
+-- The answer of `after_pop` is the definition's, if at the image of each kept node the way has the rank that was popped at that node.
 pub clock-after : (bs : List ℕ) (valid : fault 64 bs ≡ 0) (d : Disciplines) (w : Way) (images : List ℕ) (at : ℕ → Option Rank) (r : Disciplines)
     → length bs ≤ length images → ((n : ℕ) → n < length bs → width (subtree (tree bs) n) ≢ 1 → rankIn w (getD images n 0) ≡ at n)
     → r ≡ clocked d bs w images → r ≡ afterPop (tree bs) d at

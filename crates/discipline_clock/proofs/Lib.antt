@@ -1,3 +1,3 @@
-pub mod Passing
+pub mod Loops
 pub mod Clock
-pub mod Idle
+pub mod NoDeparture

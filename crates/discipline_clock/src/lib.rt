@@ -1,18 +1,18 @@
 // Virtual times after a pop (paper 02, 2.1): at a weighted node the rank last popped there. A node that is passed over keeps none (2.2).
-use disciplines::Disciplines;
-use disciplines::Rule;
-use disciplines::WEIGHTED;
-use disciplines::acting;
+use discipline_model::Disciplines;
+use discipline_model::Rule;
+use discipline_model::WEIGHTED;
+use discipline_model::acting;
 use queue_pop::Taken;
 use queue_pop::Way;
 use queue_state::Rank;
 use topology::TARGET_NODES;
 ghost use mathlib.Core.Path.{_≡_};
 ghost use lib.ListN.{take};
-ghost use Rattle.disciplines.specs.Figure.{lastOf};
+ghost use Rattle.discipline_model.specs.Figure.{lastOf};
 ghost use Rattle.discipline_clock.specs.Clock.{rankAmong, rankIn, timesBy, clocked, ownImages};
 
-// The rank that the first `count` places of a way have at `node`; `time` where they have none.
+// The rank that the first `count` places of a way have at `node`; `time` if they have none.
 fn last_rank(taken: [Taken; 9], count: usize, node: u8, time: Rank) -> Rank
     ensures { λ r. ⌜ r ≡ lastOf (rankAmong node (take count taken)) time ⌝ }
 {
@@ -29,7 +29,7 @@ fn last_rank(taken: [Taken; 9], count: usize, node: u8, time: Rank) -> Rank
     time
 }
 
-// The virtual times of the nodes of a drawing anew.
+// The virtual times of the nodes of a drawing after a pop.
 fn times_after(
     rules: [Rule; 64],
     times: [Rank; 64],
@@ -74,7 +74,7 @@ pub fn after_pop(disciplines: Disciplines, bytes: &[u8], way: Way, images: &[u8]
     }
 }
 
-// The images of a tree by itself: each node stands for itself.
+// The images for a tree by itself: each node is its own image.
 pub fn own_images() -> [u8; 64]
     ensures { λ r. ⌜ r ≡ ownImages ⌝ }
 {

@@ -1,3 +1,3 @@
-pub mod Sharing
-pub mod Planning
-pub mod Calls
+pub mod ShareOf
+pub mod PlanTo
+pub mod PlannedPush

@@ -5,11 +5,11 @@ use mathlib.Core.Bool.{true}
 use Rattle.topology.specs.Tree.{Topo}
 use Rattle.topology.specs.Address.{addr}
 use Rattle.queue_push.specs.Calls.{pathOf}
-use Rattle.disciplines.specs.Figure.{kindAt, rankBy, stepsDown, finishesDown, fitsDown}
-use Rattle.disciplines.specs.declared.Disciplines.{Disciplines}
+use Rattle.discipline_model.specs.Figure.{kindAt, rankBy, stepsDown, finishesDown, fitsDown}
+use Rattle.discipline_model.specs.declared.Disciplines.{Disciplines}
 use Rattle.discipline_path.specs.declared.Plan.{Plan}
 
--- The plan of a packet to a leaf of the drawing t: its path, whether each finish fits, and the finishes where they do.
+-- The plan of a packet to a leaf of the drawing t: its path, whether each finish fits, and the finishes if they all do.
 pub record Planned (t : Topo) (d : Disciplines) (leaf class length : ℕ) (r : Plan) : Type 0 where
   pub path : r .path ≡ pathOf (stepsDown t d class 0 (addr t leaf)) (rankBy (kindAt (d .rules) leaf) 0 class)
   pub fits : r .fits ≡ fitsDown t d length 0 (addr t leaf)

@@ -1,8 +1,8 @@
-// The path of a push to a leaf: the ranks that the disciplines of a drawing give a packet on its way down, and the finishes after it.
+// The path of a push to a leaf: the ranks that the disciplines of a drawing give a packet at each node, and the finishes after it.
 mod shares;
 
-use disciplines::Disciplines;
-use disciplines::acting;
+use discipline_model::Disciplines;
+use discipline_model::acting;
 use queue_push::Path;
 use queue_push::Step;
 use queue_push::extended;
@@ -14,12 +14,12 @@ ghost use mathlib.Core.List.{[]};
 ghost use mathlib.Core.Bool.{true, _&&_};
 ghost use Rattle.topology.specs.Reader.{fault, tree};
 ghost use Rattle.queue_push.specs.Calls.{pathOf};
-ghost use Rattle.disciplines.specs.Figure.{kindAt, actsBy, rankBy};
-ghost use Rattle.disciplines.specs.Scheduler.{isLeaf};
+ghost use Rattle.discipline_model.specs.Figure.{kindAt, actsBy, rankBy};
+ghost use Rattle.discipline_model.specs.Scheduler.{isLeaf};
 ghost use Rattle.discipline_path.specs.Plans.{Planned};
-ghost use Rattle.discipline_path.specs.Shares.{StepsDown};
+ghost use Rattle.discipline_path.specs.InnerShares.{StepsDown};
 
-// The path to a leaf, the finishes after the packet, and whether each of them fits; where one does not, the finishes mean nothing.
+// The path to a leaf, the finishes after the packet, and whether each of them fits; if one does not, `finish` has no meaning.
 pub struct Plan {
     pub path: Path,
     pub finish: [Rank; 64],
@@ -32,7 +32,7 @@ fn both(a: bool, b: bool) -> bool
     if a { b } else { false }
 }
 
-// The plan at the root, for a leaf of less than 64: no step yet, the rank at the leaf, and the finishes as they are.
+// The plan before the first step, for a leaf below 64: the rank at the leaf, and the finishes as they are.
 fn begun(disciplines: Disciplines, leaf: usize, class: u8) -> Plan
     requires { ⌜ leaf < 64 ⌝ }
     ensures { λ r. ⌜ r ≡ record { path = pathOf [] (rankBy (kindAt (disciplines .rules) leaf) 0 class); finish = disciplines .finish; fits = true } ⌝ }
@@ -51,7 +51,7 @@ fn begun(disciplines: Disciplines, leaf: usize, class: u8) -> Plan
     }
 }
 
-// One step more, from a node with so many children to its child number `index`.
+// The plan with one more step, from a node with `children` children to its child `index`.
 fn step_down(
     plan: Plan,
     disciplines: Disciplines,
@@ -85,7 +85,7 @@ fn step_down(
     }
 }
 
-// The plan of a push to a leaf, for any bytes and numbers. It means what its name says where the bytes are a tree and `leaf` is one of its leaves.
+// The plan of a push to a leaf. The contract says what it is if the bytes are a tree and `leaf` is one of its leaves.
 pub fn plan_to(bytes: &[u8], disciplines: Disciplines, leaf: usize, class: u8, length: u16) -> Plan
     ensures { λ r. ⌜ (fault 64 (now (bytes .entry)) ≡ 0 → isLeaf (tree (now (bytes .entry))) leaf ≡ true → Planned (tree (now (bytes .entry))) disciplines leaf class length r) ⌝ }
 {
@@ -95,7 +95,7 @@ pub fn plan_to(bytes: &[u8], disciplines: Disciplines, leaf: usize, class: u8, l
     let mut plan = begun(disciplines, leaf, class);
     let mut node = 0;
     while node != leaf {
-        let Toward::Child(index, child) = branches::toward(bytes, node, leaf) else {
+        let Toward::Child(index, child) = topology_branches::toward(bytes, node, leaf) else {
             return plan;
         };
         plan = step_down(

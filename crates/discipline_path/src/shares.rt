@@ -1,16 +1,16 @@
-// What one node gives a packet on its way: the rank of its entry, and the finish of the child that it goes to.
-use disciplines::STRICT;
-use disciplines::WEIGHTED;
+// What one node gives a packet: the rank of its entry, and the finish of the child that the packet goes to.
+use discipline_model::STRICT;
+use discipline_model::WEIGHTED;
 use queue_state::Rank;
 ghost use mathlib.Core.Path.{_≡_};
 ghost use Prim.Native.Nat.{_*_, _/_, _<_, max};
-ghost use Rattle.disciplines.specs.Figure.{finishBy};
-ghost use Rattle.discipline_path.specs.Shares.{Shares};
+ghost use Rattle.discipline_model.specs.Figure.{finishBy};
+ghost use Rattle.discipline_path.specs.InnerShares.{Shares};
 
 // The largest finish.
 const MOST_FINISH: Rank = 4294967295;
 
-// A rank, and at a weighted node the child's finish where it fits.
+// A rank and, at a weighted node, the child's finish if it fits.
 pub(crate) struct Share {
     pub rank: Rank,
     pub finish: Rank,
@@ -36,7 +36,7 @@ fn added(length: u16, weight: u8) -> Rank
     (length as Rank) * 256 / (weight as Rank)
 }
 
-// Figure 1 of document 002: by the discipline that the node acts by, its virtual time, and the child's last finish and weight.
+// What a node gives by Figure 1 of document 002, from the discipline by which it acts, its virtual time, and the child's last finish and weight.
 pub(crate) fn share_of(
     discipline: u8,
     virtual_time: Rank,

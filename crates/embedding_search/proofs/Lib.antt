@@ -1,4 +1,4 @@
-pub mod Found
-pub mod Steps
-pub mod Leaf
-pub mod Answers
+pub mod FoundSimulated
+pub mod TryAt
+pub mod FirstLeaf
+pub mod Searches

@@ -1,23 +1,23 @@
--- What the search promises (`Searches`), and what its map is good for by the queue tree's contracts (`FoundSimulated`). `proofs/Found.antt` proves
--- the latter.
+-- What the search promises (`Searches`). And that both trees answer alike if paths are carried over by its map, which follows from the queue tree's
+-- contracts (`FoundSimulated`, proved in `proofs/FoundSimulated.antt`).
 use mathlib.Core.Path.{_≡_}
 use Prim.Native.Nat.{ℕ}
 use mathlib.Core.List.{List}
 use lib.ListN.{length, take}
 use Rattle.topology.specs.Reader.{tree}
-use Rattle.pifo.specs.Machine.{Call}
-use Rattle.embedding_laws.specs.Least.{searchMap}
+use Rattle.pifo_model.specs.Machine.{Call}
+use Rattle.embedding_model.specs.Least.{searchMap}
 use Rattle.queue_state.specs.State.{Packet}
 use Rattle.queue_state.specs.Opening.{limitFault, openedState}
 use Rattle.queue_state.specs.Calls.{Serves}
-use Rattle.queue_state.specs.Runs.{History, Execution}
+use Rattle.queue_state.specs.Demand.{History, Execution}
 use Rattle.queue_state.specs.declared.State.{State}
-use Rattle.pair_step.specs.Step.{ServesCarried}
-use Rattle.pair_step.specs.Alike.{SeenAlike}
+use Rattle.pair_step.specs.InStep.{ServesCarried}
+use Rattle.pair_step.specs.Alike.{ObservedAlike}
 use Rattle.embedding_search.specs.Outcomes.{outcome, numberOf}
 use Rattle.embedding_search.specs.declared.Searched.{Searched}
 
--- the answer to a search: how it ends, and the least map, or zeros
+-- the answer to a search: its outcome, and the least map, or zeros
 pub record Searches (source target : List ℕ) (r : Searched) : Type 0 where
   pub outcome : r .outcome ≡ outcome source target
   pub map : r .map ≡ searchMap source target
@@ -28,17 +28,17 @@ images source r = take (length source) (r .map)
 
 -- A drawing is simulated on a chip's tree by the map of a search's answer r.
 pub record Simulated (source target : List ℕ) (r : Searched) : Type 0 where
-  -- both trees open for every limit from 1 to 256, and for others both are refused by 17
+  -- both trees open with every limit from 1 to 256, and both refuse any other limit by 17
   pub opens : (limit : ℕ) → (openedState source limit .refusal ≡ limitFault limit) × (openedState target limit .refusal ≡ limitFault limit)
-  -- opened, they are seen alike over every list of calls, where the paths of the chip's pushes are carried over by the map of r
+  -- after the opening the same is observed of both over every list of calls, with the paths of the chip's pushes carried over by the map of r
   pub alike : (limit : ℕ) → limitFault limit ≡ 0
       → let x = openedState source limit .state in
       let y = openedState target limit .state in
       (calls : List (Call Packet)) (vs ws : History State) → Execution Serves x calls vs
       → Execution (ServesCarried (tree source) (tree target) (images source r)) y calls ws
-      → SeenAlike (tree source) (tree target) (images source r) limit calls x y vs ws
+      → ObservedAlike (tree source) (tree target) (images source r) limit calls x y vs ws
 
--- So it is wherever the search answers 0.
+-- This holds whenever the search answers 0.
 abbrev pub FoundSimulated : Type 0
 FoundSimulated =
     (source target : List ℕ) (r : Searched) → Searches source target r → numberOf (r .outcome) ≡ 0 → Simulated source target r

@@ -1,62 +1,63 @@
 // The search for the least map between two trees.
 //
-// It goes by the reduced drawing of the source (paper 02, 2.2). A lone leaf goes to the first leaf of the target. For any other drawing
-// the search fills a table from the last source node to the first. Its entry for a source node s and a target node t is the least list of
-// images of s's children below t, packed into one number with the first child in the highest place, so that the order of the numbers is
-// the order of the lists. The branches of unrelated nodes are stretches of node numbers without a common node. So a scan over the target
-// nodes p, from the end of t's branch down to t + 1, meets the children's images one after the other: for each set of children p is
-// skipped, or one child of the set goes to p and the others go where p's branch has ended. The map is read off from the root.
+// It works on the reduced drawing of the source (paper 02, 2.2). A lone leaf goes to the first leaf of the target. For any other drawing the search
+// fills a table from the last source node to the first. The entry for a source node s and a target node t is the least list of images of the
+// children of s below t, packed into one number with the first child in the highest place, so that numbers are ordered as their lists are. The
+// branches of unrelated nodes are disjoint intervals of node numbers. So a scan over the target nodes p, from the end of t's branch down to t + 1,
+// places the children one at a time: for each set of children, none of them goes to p, or one does and the others are placed from the end of p's
+// branch on. The map is then read from the table, from the root down.
 //
-// At one node p a source node with k children takes 2^k steps, and 2^(k - 1) for each child, in whose sets alone it is tried: together
-// (k + 2) * 2^(k - 1). A target node lies in the branches of at most 9 nodes, so all scans of one source node meet at most 9 * 64 nodes;
-// they meet fewer where branches end together, since a scan goes on from the one before it if that began at the same end. The root is tried
-// at the target's root alone. All k together are at most 31 and each is at most 8, so that the sum of (k + 2) * 2^(k - 1) stays below
-// 4500: about two and a half million steps in all, about 1 ms on the slowest pair that was found.
+// At one node p, a source node with k children takes 2^k steps, and 2^(k - 1) more for each child, which is tried only in the sets that contain it:
+// together (k + 2) * 2^(k - 1). A target node lies in the branches of at most 9 nodes, so all scans for one source node visit at most 9 * 64 nodes.
+// They visit fewer if branches end at the same place, since a scan continues the previous one if that began at the same end. The root is tried only
+// at the target's root. The sum of all k is at most 31 and each is at most 8, so the sum of (k + 2) * 2^(k - 1) is below 4500: about two and a half
+// million steps in all, about 1 ms on the slowest pair that was found.
 //
-// The contract of `search` is `Searches` in specs/Search. It cites embedding_laws/specs/Least and specs/Outcomes, which a reader has to believe;
-// the other definitions are for private functions.
+// The contract of `search` is `Searches` in specs/Search. It rests on specs/Outcomes and on embedding_model/specs/Least.
 ghost use mathlib.Core.Path.{_≡_};
 ghost use Prim.Native.Nat.{_≤_, _<_, _*_, _+_, _-_, min};
 ghost use mathlib.Core.Logic.{_≢_};
 ghost use mathlib.Core.List.{[], _∷_};
 ghost use lib.ListN.{length, getD};
 ghost use Rattle.topology.specs.Reader.{tree};
-ghost use Rattle.embedding_laws.specs.Sets.{power, none};
-ghost use Rattle.embedding_laws.specs.Tables.{Ends, Frame, endBy, cell, Turns, RowTried, ChildTried, RowCopied, RowFilled, LastRow, Scanned, Started, BranchOf, PlacedBelow, Room, NodeFrame, Draws, Pair, bestBy};
-ghost use Rattle.embedding_laws.specs.Meaning.{KidsOf, EntryBy, reachBy, NodeTo, Truth, Different, Put, ReadTo, firstLeaf};
+ghost use Rattle.topology.specs.InnerEnds.{Ends};
+ghost use Rattle.embedding_program.specs.InnerSets.{power, noImages};
+ghost use Rattle.embedding_program.specs.InnerTables.{TableFrame, endBy, cell, Alternation, RowTried, ChildTried, RowCopied, RowFilled, LastRow, Scanned, Started, BranchOf, PlacedBelow, Room, NodeFrame, TreeBytes, TreePair, bestBy};
+ghost use Rattle.embedding_program.specs.InnerMeaning.{KidsOf, BestEntryBy, reachBy, NodeTo, Truth, Different, Put, ReadTo};
 ghost use Rattle.embedding_search.specs.Outcomes.{numberOf};
-ghost use Rattle.embedding_search.specs.Images.{FindsLeast};
+ghost use Rattle.embedding_search.specs.InnerImages.{FindsLeast};
 ghost use Rattle.embedding_search.specs.Search.{Searches};
-use reduction::gather;
-use reduction::spread_out;
-use two_trees::branch_ends;
-use two_trees::trees_fault;
+ghost use Rattle.embedding_model.specs.InnerLeast.{firstLeaf};
+use embedding_trees::branch_ends;
+use embedding_trees::trees_fault;
+use topology_reduction::restrict;
+use topology_reduction::spread_out;
 
-// How a search ends: with the least map; with none; or refused by a tree's fault, whose number paper 01 gives.
+// The outcome of a search: the least map, no map, or a refusal by the number of a tree's fault.
 pub enum Outcome {
     Map,
     NoMap,
     Refused(u8),
 }
 
-// The search's answer: how it ends, and the least map in 32 places, those past the last source node 0; without a map 32 zeros.
+// The search's answer: the outcome, and the least map in 32 places, those past the last source node 0; 32 zeros if there is no map.
 pub struct Searched {
     pub outcome: Outcome,
     pub map: [u8; 32],
 }
 
-// The least images of the nodes of a drawing without passed nodes, in 32 places, or that there are none, and zeros.
+// The least list of images of a drawing without passed nodes, in 32 places; zeros if there is none.
 struct LeastImages {
     is_found: bool,
     images: [u8; 32],
 }
 
-// What stands in the tables for no images; more than any list of 8 images, each below 64, packed into one number.
+// The number for no list of images: greater than that of any list of 8 images, each below 64.
 const NONE: u64 = 281474976710656;
 
 // The children of a source node by place: the last child has place 0, the first the highest.
 fn kids_of(source: &[u8], ends: &[usize; 64], node: usize) -> [usize; 8]
-    requires { ⌜ Draws 32 (now source) × Ends (now source) (now ends) × (node < length (now source)) ⌝ }
+    requires { ⌜ TreeBytes 32 (now source) × Ends (now source) (now ends) × (node < length (now source)) ⌝ }
     ensures { λ r. ⌜ KidsOf (tree (now (source .entry))) node r ⌝ }
 {
     let mut kids = [0usize; 8];
@@ -70,7 +71,7 @@ fn kids_of(source: &[u8], ends: &[usize; 64], node: usize) -> [usize; 8]
     kids
 }
 
-// How many sets there are of so many children.
+// The number of sets of `children` children.
 fn sets_of(children: usize) -> usize
     requires { ⌜ children ≤ 8 ⌝ }
     ensures { λ r. ⌜ r ≡ power children ⌝ }
@@ -91,18 +92,19 @@ fn lesser(x: u64, y: u64) -> u64
     if x < y { x } else { y }
 }
 
-// What the entry of row `p` for a set becomes when a child of the set, of the given power, may go to p: `here` is the child's part of the
-// number, and the others go where p's branch ends.
+// The entry of row `p` for a set after a child of the set, of the given power, is tried at p: `here` is the child's part of the number, and the
+// other children are placed from the end of p's branch on.
 fn tried(go: &[u64], p: usize, end: usize, set: usize, power: usize, here: u64) -> u64
-    requires { ⌜ Room (now go) × (p < 64) × (end ≤ 64) × (set < 256) × (power ≤ set) × (here ≤ none) ⌝ }
+    requires { ⌜ Room (now go) × (p < 64) × (end ≤ 64) × (set < 256) × (power ≤ set) × (here ≤ noImages) ⌝ }
     ensures { λ r. ⌜ r ≡ min (cell (now (go .entry)) p set) (here + cell (now (go .entry)) end (set - power)) ⌝ }
 {
     lesser(go[p * 256 + set], here + go[end * 256 + (set - power)])
 }
 
-// Tries a child at `p` in every entry of row p whose set holds it. Half of the sets do, by turns of the child's power.
+// Tries a child at `p` in every entry of row p whose set contains it. Half of the sets do: `power` sets without the child and `power` sets with it
+// alternate.
 fn try_child(go: &mut [u64], p: usize, end: usize, sets: usize, power: usize, here: u64)
-    requires { ⌜ Room (now go) × (p < end) × (end ≤ 64) × Turns sets power × (here ≤ none) ⌝ }
+    requires { ⌜ Room (now go) × (p < end) × (end ≤ 64) × Alternation sets power × (here ≤ noImages) ⌝ }
     ensures { λ r. ⌜ RowTried (now (go .entry)) p end power here sets (now (go .exit)) ⌝ }
 {
     let half = sets / 2;
@@ -126,7 +128,7 @@ fn try_at(
     power: usize,
     weight: u64,
 )
-    requires { ⌜ (length (now best) ≡ 2048) × (kid < 32) × Room (now go) × (p < end) × (end ≤ 64) × Turns sets power × (weight ≤ 4398046511104) ⌝ }
+    requires { ⌜ (length (now best) ≡ 2048) × (kid < 32) × Room (now go) × (p < end) × (end ≤ 64) × Alternation sets power × (weight ≤ 4398046511104) ⌝ }
     ensures { λ r. ⌜ ChildTried (bestBy (now (best .entry)) kid p) (now (go .entry)) p end power (p * weight) sets (now (go .exit)) ⌝ }
 {
     if NONE <= best[kid * 64 + p] {
@@ -135,7 +137,7 @@ fn try_at(
     try_child(go, p, end, sets, power, (p as u64) * weight);
 }
 
-// Row `p` as the one behind it: no child is at p.
+// Copies the next row to row `p`: no child is placed at p.
 fn copy_row(go: &mut [u64], p: usize, sets: usize)
     requires { ⌜ Room (now go) × (p < 64) × (sets ≤ 256) ⌝ }
     ensures { λ r. ⌜ RowCopied (now (go .entry)) p sets (now (go .exit)) ⌝ }
@@ -147,7 +149,7 @@ fn copy_row(go: &mut [u64], p: usize, sets: usize)
     }
 }
 
-// Fills in row `p`, an entry for each set of children: p is skipped, or one of the set's children goes to it.
+// Fills in row `p`, an entry for each set of children: none of them goes to p, or one does.
 fn fill_row(
     best: &[u64],
     kids: &[usize; 8],
@@ -157,7 +159,7 @@ fn fill_row(
     p: usize,
     sets: usize,
 )
-    requires { ⌜ Frame (now best) (now kids) (now ends) children (now go) × (p < endBy (now ends) p) × (sets ≡ power children) ⌝ }
+    requires { ⌜ TableFrame (now best) (now kids) (now ends) children (now go) × (p < endBy (now ends) p) × (sets ≡ power children) ⌝ }
     ensures { λ r. ⌜ RowFilled (now (best .entry)) (now (kids .entry)) (now (ends .entry)) children (now (go .entry)) p (now (go .exit)) ⌝ }
 {
     let end = ends[p];
@@ -186,8 +188,8 @@ fn last_row(go: &mut [u64], hi: usize, sets: usize)
     }
 }
 
-// The row that a scan down from `end` begins with. Where the scan before began at the same end, `hi`, its lowest row is `low`, and this one
-// goes on from there.
+// The row from which a scan down from `end` begins. If the previous scan began at the same end, `hi`, this one continues from its lowest row,
+// `low`.
 fn start_row(go: &mut [u64], low: usize, hi: usize, end: usize, sets: usize) -> usize
     requires { ⌜ Room (now go) × (end ≤ 64) × (sets ≤ 256) ⌝ }
     ensures { λ r. ⌜ Started (now (go .entry)) low hi end sets r (now (go .exit)) ⌝ }
@@ -210,7 +212,7 @@ fn place(
     hi: usize,
     t: usize,
 ) -> u64
-    requires { ⌜ Frame (now best) (now kids) (now ends) children (now go) × BranchOf (now ends) t × (t < 64) × Scanned (now best) (now kids) (now ends) children (now go) low hi × (t < low) ⌝ }
+    requires { ⌜ TableFrame (now best) (now kids) (now ends) children (now go) × BranchOf (now ends) t × (t < 64) × Scanned (now best) (now kids) (now ends) children (now go) low hi × (t < low) ⌝ }
     ensures { λ r. ⌜ PlacedBelow (now (best .entry)) (now (kids .entry)) (now (ends .entry)) children t (now (go .exit)) r ⌝ }
 {
     let sets = sets_of(children);
@@ -230,8 +232,8 @@ struct Entered {
     hi: usize,
 }
 
-// The table's entry for a source node and a target node `t`, by their numbers of children: nothing where rule 3 forbids it, and nothing
-// for a node with children at a leaf.
+// The table's entry for a source node and a target node `t`, by their numbers of children: no images if rule 3 forbids t, and none for an inner
+// node at a leaf.
 fn entry(
     best: &[u64],
     kids: &[usize; 8],
@@ -243,8 +245,8 @@ fn entry(
     width: u8,
     t: usize,
 ) -> Entered
-    requires { ⌜ Frame (now best) (now kids) (now ends) children (now go) × BranchOf (now ends) t × (t < 64) × Scanned (now best) (now kids) (now ends) children (now go) low hi × (t < low) ⌝ }
-    ensures { λ r. ⌜ EntryBy (now (best .entry)) (now (kids .entry)) (now (ends .entry)) children width t (r .least) × Room (now (go .exit)) × Scanned (now (best .entry)) (now (kids .entry)) (now (ends .entry)) children (now (go .exit)) (r .low) (r .hi) × (t < r .low) ⌝ }
+    requires { ⌜ TableFrame (now best) (now kids) (now ends) children (now go) × BranchOf (now ends) t × (t < 64) × Scanned (now best) (now kids) (now ends) children (now go) low hi × (t < low) ⌝ }
+    ensures { λ r. ⌜ BestEntryBy (now (best .entry)) (now (kids .entry)) (now (ends .entry)) children width t (r .least) × Room (now (go .exit)) × Scanned (now (best .entry)) (now (kids .entry)) (now (ends .entry)) children (now (go .exit)) (r .low) (r .hi) × (t < r .low) ⌝ }
 {
     let end = ends[t];
     if children == 0 {
@@ -271,15 +273,15 @@ fn entry(
     }
 }
 
-// How many of the target's nodes a source node may go to: by rule 2 the root goes to the first.
+// How many target nodes are tried as the image of a source node: for the root, by rule 2, only the first.
 fn reach(node: usize, nodes: usize) -> usize
     ensures { λ r. ⌜ r ≡ reachBy node nodes ⌝ }
 {
     if node == 0 { 1 } else { nodes }
 }
 
-// Fills in the table's entries for source node `s` and the first `count` target nodes, from the last of these to the first, so that a scan
-// may go on from the one before it. No branch ends at 0: there is none before the first.
+// Fills in the table's entries for source node `s` and the first `count` target nodes, from the last of these to the first, so that a scan can
+// continue the previous one. Before the first scan `hi` is 0, where no branch ends.
 fn fill_node(
     source: &[u8],
     target: &[u8],
@@ -305,7 +307,7 @@ fn fill_node(
     }
 }
 
-// Fills in the table, source nodes from the last to the first.
+// Fills in the table, from the last source node to the first.
 fn fill_table(
     source: &[u8],
     target: &[u8],
@@ -314,7 +316,7 @@ fn fill_table(
     best: &mut [u64],
     go: &mut [u64],
 )
-    requires { ⌜ Pair (now source) (now target) (now «source_ends») (now «target_ends») × (length (now best) ≡ 2048) × Room (now go) ⌝ }
+    requires { ⌜ TreePair (now source) (now target) (now «source_ends») (now «target_ends») × (length (now best) ≡ 2048) × Room (now go) ⌝ }
     ensures { λ r. ⌜ Truth (tree (now (source .entry))) (tree (now (target .entry))) (bestBy (now (best .exit))) 0 × (length (now (best .exit)) ≡ 2048) ⌝ }
 {
     let mut s = source.len();
@@ -342,7 +344,7 @@ fn set_images(kids: &[usize; 8], children: usize, number: u64, images: [u8; 32])
     map
 }
 
-// Reads the images of the children of `s` off the table, where those of the nodes up to s are read.
+// Reads the images of the children of `s` from the table, after those of the children of earlier nodes.
 fn read_node(
     source: &[u8],
     ends: &[usize; 64],
@@ -350,7 +352,7 @@ fn read_node(
     s: usize,
     images: [u8; 32],
 ) -> [u8; 32]
-    requires { ⌜ Draws 32 (now source) × Ends (now source) (now ends) × (length (now best) ≡ 2048) × (s < length (now source)) × ReadTo (tree (now source)) (bestBy (now best)) s images ⌝ }
+    requires { ⌜ TreeBytes 32 (now source) × Ends (now source) (now ends) × (length (now best) ≡ 2048) × (s < length (now source)) × ReadTo (tree (now source)) (bestBy (now best)) s images ⌝ }
     ensures { λ r. ⌜ ReadTo (tree (now (source .entry))) (bestBy (now (best .entry))) (s + 1) r ⌝ }
 {
     let kids = kids_of(source, ends, s);
@@ -358,9 +360,9 @@ fn read_node(
     set_images(&kids, source[s] as usize, best[s * 64 + image], images)
 }
 
-// Reads the images off the table, from the root on.
+// Reads all images from the table, from the root down.
 fn read_off(source: &[u8], ends: &[usize; 64], best: &[u64]) -> [u8; 32]
-    requires { ⌜ Draws 32 (now source) × Ends (now source) (now ends) × (length (now best) ≡ 2048) ⌝ }
+    requires { ⌜ TreeBytes 32 (now source) × Ends (now source) (now ends) × (length (now best) ≡ 2048) ⌝ }
     ensures { λ r. ⌜ ReadTo (tree (now (source .entry))) (bestBy (now (best .entry))) (length (now (source .entry))) r ⌝ }
 {
     let mut map = [0u8; 32];
@@ -373,7 +375,7 @@ fn read_off(source: &[u8], ends: &[usize; 64], best: &[u64]) -> [u8; 32]
     map
 }
 
-// The first leaf of a tree in the order of the numbers; the number of bytes where none of them is 0.
+// The first leaf of a tree, by node number; the number of bytes if none of them is 0.
 fn first_leaf(bytes: &[u8]) -> usize
     ensures { λ r. ⌜ r ≡ firstLeaf (now (bytes .entry)) ⌝ }
 {
@@ -387,9 +389,9 @@ fn first_leaf(bytes: &[u8]) -> usize
     n
 }
 
-// The least images of a lone leaf, for which rule 2 lapses: the first leaf of the target.
+// The least image of a lone leaf, to which rule 2 does not apply: the first leaf of the target.
 fn place_leaf(target: &[u8]) -> LeastImages
-    requires { ⌜ Draws 64 (now target) ⌝ }
+    requires { ⌜ TreeBytes 64 (now target) ⌝ }
     ensures { λ r. ⌜ FindsLeast (0 ∷ []) (now (target .entry)) r ⌝ }
 {
     let mut images = [0u8; 32];
@@ -400,9 +402,9 @@ fn place_leaf(target: &[u8]) -> LeastImages
     }
 }
 
-// The least images of a tree that is no lone leaf, by the tables.
+// The least images of a tree that is not a lone leaf, by the tables.
 fn solve(source: &[u8], target: &[u8]) -> LeastImages
-    requires { ⌜ Draws 32 (now source) × Draws 64 (now target) × (getD (now source) 0 0 ≢ 0) ⌝ }
+    requires { ⌜ TreeBytes 32 (now source) × TreeBytes 64 (now target) × (getD (now source) 0 0 ≢ 0) ⌝ }
     ensures { λ r. ⌜ FindsLeast (now (source .entry)) (now (target .entry)) r ⌝ }
 {
     let source_ends = branch_ends(source);
@@ -429,9 +431,9 @@ fn solve(source: &[u8], target: &[u8]) -> LeastImages
     }
 }
 
-// The least images between two trees that were read.
+// The least images between two trees without faults.
 fn least_images(source: &[u8], target: &[u8]) -> LeastImages
-    requires { ⌜ Draws 32 (now source) × Draws 64 (now target) ⌝ }
+    requires { ⌜ TreeBytes 32 (now source) × TreeBytes 64 (now target) ⌝ }
     ensures { λ r. ⌜ FindsLeast (now (source .entry)) (now (target .entry)) r ⌝ }
 {
     if source[0] == 0 {
@@ -441,7 +443,7 @@ fn least_images(source: &[u8], target: &[u8]) -> LeastImages
     }
 }
 
-// Searches the least map of a source into a target: the least images of the reduced drawing, with 255 at the nodes that are passed over.
+// Searches for the least map of a source into a target: the least images of the reduced drawing, with 255 at the nodes that are passed over.
 pub fn search(source: &[u8], target: &[u8]) -> Searched
     ensures { λ r. ⌜ Searches (now (source .entry)) (now (target .entry)) r ⌝ }
 {
@@ -452,7 +454,7 @@ pub fn search(source: &[u8], target: &[u8]) -> Searched
             map: [0u8; 32],
         };
     }
-    let kept = gather(source, source);
+    let kept = restrict(source, source);
     let bytes = kept.numbers;
     let least = least_images(&bytes[..kept.count], target);
     if !least.is_found {

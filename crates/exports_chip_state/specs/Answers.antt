@@ -1,6 +1,6 @@
 -- The answer to an opening of both trees as plain numbers.
 use Rattle.chip_open.specs.declared.BothOpened.{BothOpened}
-use Rattle.plain_tree.specs.Trees.{plainTree}
+use Rattle.exports_plain_tree.specs.Trees.{plainTree}
 use Rattle.exports_chip_state.specs.declared.PlainPairOpened.{PlainPairOpened}
 
 abbrev pub plainBoth : BothOpened → PlainPairOpened

@@ -1,23 +1,23 @@
-// The openings and the counts of a chip's tree with disciplines for a program in C or Rust: what `tests/` links and compares. A tree crosses as plain
-// numbers, the drawings as slices of the caller's. The calls on a chip's tree are in the crate `exports_chip`.
-use plain_answers::PlainAmount;
-use plain_answers::amount_of;
-use plain_tree::PlainRules;
-use plain_tree::PlainTree;
-use plain_tree::PlainTreeOpened;
-use plain_tree::tree_of;
+// The openings and the counts of a chip's tree with disciplines, for a program in C or Rust: `tests/` links and compares them. A tree is passed as
+// plain numbers, the drawings as slices. The calls on a chip's tree are in the crate `exports_chip_calls`.
+use exports_plain_answers::PlainAmount;
+use exports_plain_answers::amount_of;
+use exports_plain_tree::PlainRules;
+use exports_plain_tree::PlainTree;
+use exports_plain_tree::PlainTreeOpened;
+use exports_plain_tree::tree_of;
 ghost use mathlib.Core.Path.{_≡_};
-ghost use Rattle.pifo.specs.Tree.{held};
+ghost use Rattle.pifo_model.specs.Tree.{held};
 ghost use Rattle.queue_state.specs.State.{treeOf};
 ghost use Rattle.chip_state.specs.Opening.{openedChip};
 ghost use Rattle.chip_open.specs.Opening.{openedBoth};
-ghost use Rattle.chip_counts.specs.Counts.{chipAmount};
-ghost use Rattle.plain_answers.specs.Answers.{plainAmount};
-ghost use Rattle.plain_tree.specs.Trees.{treeFrom};
-ghost use Rattle.plain_tree.specs.Answers.{plainOpened};
+ghost use Rattle.chip_counts.specs.Amounts.{chipAmount};
+ghost use Rattle.exports_plain_answers.specs.Answers.{plainAmount};
+ghost use Rattle.exports_plain_tree.specs.Trees.{treeFrom};
+ghost use Rattle.exports_plain_tree.specs.Answers.{plainOpened};
 ghost use Rattle.exports_chip_state.specs.Answers.{plainBoth};
 
-// The answer to an opening of both trees: 0, the trees, empty, and the least map; or a refusal's number and zeros throughout.
+// The answer to an opening of both trees: the trees, empty, the least map and 0; or zeros throughout and the refusal's number.
 #[repr(C)]
 pub struct PlainPairOpened {
     pub source: PlainTree,
@@ -40,8 +40,8 @@ pub extern "C" fn linduvar_pair_open(
     let both = chip_open::open_both(source, target, limit, rules);
     let map = both.map;
     PlainPairOpened {
-        source: plain_tree::plain(both.source),
-        chip: plain_tree::plain(both.chip),
+        source: exports_plain_tree::plain(both.source),
+        chip: exports_plain_tree::plain(both.chip),
         map,
         refusal: both.refusal,
     }
@@ -58,7 +58,7 @@ pub extern "C" fn linduvar_chip_open(
     ensures { λ r. ⌜ r ≡ plainOpened (openedChip (now (source .entry)) (now (target .entry)) limit (rules .rules)) ⌝ }
 {
     let rules = rules.rules;
-    plain_tree::opened(chip_open::open(source, target, limit, rules))
+    exports_plain_tree::opened(chip_open::open(source, target, limit, rules))
 }
 
 // How many packets a chip's tree holds.

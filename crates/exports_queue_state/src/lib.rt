@@ -1,18 +1,18 @@
-// The opening of a queue tree and the questions about it, for a program in C or Rust: what `tests/` links and compares. A state crosses as
+// The opening of a queue tree and the questions for its counts, for a program in C or Rust: `tests/` links and compares them. A state is passed as
 // plain numbers.
-use plain_answers::PlainAmount;
-use plain_answers::amount_of;
-use plain_state::PlainState;
+use exports_plain_answers::PlainAmount;
+use exports_plain_answers::amount_of;
+use exports_plain_state::PlainState;
 ghost use mathlib.Core.Path.{_≡_};
-ghost use Rattle.pifo.specs.Tree.{held};
+ghost use Rattle.pifo_model.specs.Tree.{held};
 ghost use Rattle.queue_state.specs.Opening.{openedState};
 ghost use Rattle.queue_counts.specs.Amounts.{amount};
 ghost use Rattle.queue_state.specs.State.{wellFormed, treeOf};
-ghost use Rattle.plain_state.specs.Plain.{stateOf};
-ghost use Rattle.plain_answers.specs.Answers.{plainAmount};
+ghost use Rattle.exports_plain_state.specs.Plain.{stateOf};
+ghost use Rattle.exports_plain_answers.specs.Answers.{plainAmount};
 ghost use Rattle.exports_queue_state.specs.Answers.{plainOpened};
 
-// The answer to an opening: 0 and the empty tree, or a refusal's number and zeros throughout, which every call refuses by 18.
+// The answer to an opening: the empty tree and 0; or a state of zeros, on which every call is refused by 18, and the refusal's number.
 #[repr(C)]
 pub struct PlainOpened {
     pub state: PlainState,
@@ -26,7 +26,7 @@ pub extern "C" fn linduvar_open(bytes: &[u8], limit: usize) -> PlainOpened
 {
     let opened = queue_state::open(bytes, limit);
     PlainOpened {
-        state: plain_state::plain(opened.state),
+        state: exports_plain_state::plain(opened.state),
         refusal: opened.refusal,
     }
 }
@@ -36,7 +36,7 @@ pub extern "C" fn linduvar_open(bytes: &[u8], limit: usize) -> PlainOpened
 pub extern "C" fn linduvar_held(state: PlainState) -> PlainAmount
     ensures { λ r. ⌜ r ≡ plainAmount (amount (wellFormed (stateOf state)) (held (treeOf (stateOf state)))) ⌝ }
 {
-    amount_of(queue_counts::held(plain_state::state_of(state)))
+    amount_of(queue_counts::held(exports_plain_state::state_of(state)))
 }
 
 // How many pushes a tree has refused because it was full.
@@ -44,5 +44,5 @@ pub extern "C" fn linduvar_held(state: PlainState) -> PlainAmount
 pub extern "C" fn linduvar_refusals(state: PlainState) -> PlainAmount
     ensures { λ r. ⌜ r ≡ plainAmount (amount (wellFormed (stateOf state)) (state .refused)) ⌝ }
 {
-    amount_of(queue_counts::refusals(plain_state::state_of(state)))
+    amount_of(queue_counts::refusals(exports_plain_state::state_of(state)))
 }

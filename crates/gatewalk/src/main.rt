@@ -2,11 +2,11 @@
 // script prints.
 fn walk(input: &mut [u8], text: &mut [u8]) {
     let n = io::read_full(0, input);
-    let end = script::run(&input[..n], text);
-    stream::print(&text[..end]);
+    let end = script_run::run(&input[..n], text);
+    text_stream::print(&text[..end]);
 }
 
-// The text fits: at most 13 bytes for each command, and 132 for a map (`output-fits` in script/proofs/Lengths).
+// The text fits: at most 13 bytes for each command, and 132 for a map (`output-fits` in script_run/proofs/Lengths).
 fn main() {
     let mut input = [0u8; 65536];
     let mut text = [0u8; 852100];

@@ -1,2 +1,2 @@
-pub mod Ranks
-pub mod Alike
+pub mod RankAlike
+pub mod SchedulersAlike

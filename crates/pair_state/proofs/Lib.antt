@@ -1,3 +1,3 @@
-pub mod Start
-pub mod Kept
-pub mod Numbers
+pub mod OpensBoth
+pub mod Truncated
+pub mod BothFault

@@ -1,2 +1,1 @@
--- To believe: Opening (what an opening promises).
 pub mod Opening

@@ -5,22 +5,23 @@ use Prim.Native.Nat.{ℕ, zero, suc}
 use mathlib.Core.List.{List}
 use mathlib.Core.Bool.{false}
 use lib.ListN.{length, take, replicate}
-use Rattle.topology.specs.Reader.{orElse, tree}
-use Rattle.pifo.specs.Machine.{opened}
-use Rattle.embedding_laws.specs.Least.{searchFault, searchMap}
+use Rattle.base.specs.Refusals.{orElse}
+use Rattle.topology.specs.Reader.{tree}
+use Rattle.pifo_model.specs.Machine.{opened}
+use Rattle.embedding_model.specs.Least.{searchFault, searchMap}
 use Rattle.embedding_search.specs.Outcomes.{outcome}
 use Rattle.embedding_search.specs.declared.Outcome.{Outcome}
 use Rattle.queue_state.specs.State.{machine, wellFormed}
 use Rattle.queue_state.specs.Opening.{limitFault, noTree, openedState}
-use Rattle.pair_step.specs.Step.{InStep}
+use Rattle.pair_step.specs.InStep.{InStep}
 use Rattle.pair_state.specs.declared.Pair.{Pair}
 use Rattle.pair_state.specs.declared.PairOpened.{PairOpened}
 
--- The number by which an opening of both is refused: the search's, then the limit's.
+-- The refusal of an opening of both trees: the search's, then the limit's; or 0.
 unfoldable pub bothFault : List ℕ → List ℕ → ℕ → ℕ
 bothFault source target limit = orElse (searchFault source target) (limitFault limit)
 
--- zeros throughout: no trees, and no map
+-- no trees and no map: zeros throughout
 abbrev pub noPair : Pair
 noPair = record { source = noTree; chip = noTree; map = replicate 32 0 }
 
@@ -34,7 +35,7 @@ pairBy zero source target limit =
     }
 pairBy (suc n) source target limit = noPair
 
--- An opening of both: the pair, how the search for its map ends, and the number.
+-- The answer to an opening of both trees: the pair, the outcome of the search for its map, and the refusal's number.
 abbrev pub pairOpened : Pair → Outcome → ℕ → PairOpened
 pairOpened pair outcome number = record { pair = pair; outcome = outcome; refusal = number }
 
@@ -43,8 +44,8 @@ openedPair source target limit =
     let number = bothFault source target limit in
     pairOpened (pairBy number source target limit) (outcome source target) number
 
--- What an opening amounts to (`opens-both` in proofs/Start): both machines empty, with the least map, and in step; where it is refused, two
--- states that every call refuses by 18.
+-- What follows for an opening (`opens-both` in proofs/OpensBoth): both machines are empty and in step, and the map is the least one; if it is
+-- refused, every call on the two states is refused by 18.
 pub record OpensBoth (source target : List ℕ) (limit : ℕ) (r : PairOpened) : Type 0 where
   pub refusal : r .refusal ≡ bothFault source target limit
   pub outcome : r .outcome ≡ outcome source target

@@ -1,27 +1,27 @@
-// A pair of trees, the one that a park draws and the one of a gateway's chip, opened together with the map of the one into the other. The
-// crate `paired` has what calls on both of them keep.
+// A pair of trees, the source's and the chip's, opened together with the map of the one into the other. The crate `pair_step` says what holds between
+// the two from call to call.
 use embedding_search::Outcome;
 use embedding_search::number_of;
 use queue_state::State;
 ghost use mathlib.Core.Path.{_≡_};
 ghost use Rattle.pair_state.specs.Opening.{noPair, pairOpened, openedPair};
 
-// The tree as drawn, the chip's tree, and the map of the one into the other.
+// The source's tree, the chip's tree, and the map of the one into the other.
 pub struct Pair {
     pub source: State,
     pub chip: State,
     pub map: [u8; 32],
 }
 
-// The answer to an opening: how the search for the map ends, and 0 and both trees, empty; or a refusal's number and zeros throughout, which
-// every call refuses by 18.
+// The answer to an opening: the outcome of the search for the map; and both trees, empty, with the map and 0, or zeros throughout with the refusal's
+// number. Every call on a state of zeros is refused by 18.
 pub struct PairOpened {
     pub pair: Pair,
     pub outcome: Outcome,
     pub refusal: u8,
 }
 
-// No trees and no map, with how the search ends and a number.
+// The answer to an opening that is refused: no trees and no map, the outcome of the search, and the refusal's number.
 fn refused(outcome: Outcome, refusal: u8) -> PairOpened
     ensures { λ r. ⌜ r ≡ pairOpened noPair outcome refusal ⌝ }
 {
@@ -38,7 +38,7 @@ fn refused(outcome: Outcome, refusal: u8) -> PairOpened
     }
 }
 
-// Opens both trees, empty, with one packet limit and the least map: 1 to 5 of the source, 1 to 5 of the target, 12, 17.
+// Opens both trees, empty, with one packet limit and the least map. Tested in this order: 1 to 5 of the source, 1 to 5 of the target, 12, 17.
 pub fn open(source: &[u8], target: &[u8], limit: usize) -> PairOpened
     ensures { λ r. ⌜ r ≡ openedPair (now (source .entry)) (now (target .entry)) limit ⌝ }
 {

@@ -1,2 +1,2 @@
-// No function: this crate holds what one call on each of two trees keeps, the tree that a park draws and the tree of a gateway's chip, and what
-// follows for whole lists of calls. It rests on the contracts of the queue tree; the search's and the translator's theorems rest on it.
+// No function: this crate states what holds between the source's tree and the chip's tree from call to call, and what follows for lists of calls. It
+// rests on the contracts of the queue tree. The theorems about the search, the translator and the opening of both trees rest on it.

@@ -6,8 +6,8 @@ use queue_state::State;
 use topology::TARGET_NODES;
 ghost use Rattle.queue_check.specs.Tests.{Tests};
 
-// A state's test: whether it is well formed, and then the packets and the entries that it holds, and the head of each queue that is not
-// empty.
+// The test of a state: whether it is well formed; and if so, how many packets (`held`) and entries (`used`) it holds, and the head of each queue that
+// is not empty.
 pub struct Test {
     pub sound: bool,
     pub held: usize,

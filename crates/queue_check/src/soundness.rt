@@ -1,4 +1,4 @@
-// The test of a state (refusal 18): one pass over the queues, each with the counts of its node's children.
+// The test of a state (refusal 18): one pass over the queues, which counts in each queue how often each child occurs.
 use super::Test;
 use queue_state::Entry;
 use queue_state::Item;
@@ -11,7 +11,7 @@ ghost use lib.ListN.{length};
 ghost use Rattle.topology.specs.Reader.{fault};
 ghost use Rattle.queue_state.specs.State.{itemOf};
 ghost use Rattle.queue_check.specs.Tests.{noTest};
-ghost use Rattle.queue_check.specs.Sound.{Slot, Placed, Tallied, Decides, AllMatch, Mismatch};
+ghost use Rattle.queue_check.specs.InnerSound.{Slot, Placed, Tallied, Decides, AllMatch, Mismatch};
 
 pub(crate) fn unsound() -> Test
     ensures { λ r. ⌜ r ≡ noTest ⌝ }
@@ -27,7 +27,7 @@ pub(crate) fn unsound() -> Test
     }
 }
 
-// The child number of an item that a node with `children` children may hold, 0 for a packet; 9 where it may not hold the item.
+// The child number of an item that a node with `children` children may hold, 0 for a packet; 9 if it may not hold the item.
 fn slot(item: Item, children: u8) -> usize
     requires { ⌜ children ≤ 8 ⌝ }
     ensures { λ r. ⌜ Slot (itemOf item) children r ⌝ }
@@ -46,7 +46,7 @@ fn slot(item: Item, children: u8) -> usize
     }
 }
 
-// The slot of an entry behind one of rank `last`, 9 where the rank falls.
+// The slot of an entry that follows one of rank `last`; 9 if the rank falls.
 fn place(entry: Entry, last: Rank, children: u8) -> usize
     requires { ⌜ children ≤ 8 ⌝ }
     ensures { λ r. ⌜ Placed entry last children r ⌝ }
@@ -70,14 +70,14 @@ fn children_match(bytes: &[u8], counts: &[u16], lengths: &[u16], node: usize) ->
         if counts[i + 1] != lengths[child] {
             return false;
         }
-        child = branches::branch_end(bytes, child);
+        child = topology_branches::branch_end(bytes, child);
         i += 1;
     }
     true
 }
 
-// Queue by queue: it lies within the array, no rank falls in it, its node may hold its items, and each child occurs in it as often as
-// that child's own queue is long. The root's queue is within the limit. Two loops in one function, since each function that takes the entries
+// Tests each queue: it lies within the array, no rank falls in it, its node may hold its items, and each child occurs in it as often as that child's
+// own queue is long. Then tests that the root's queue is within the limit. Both loops are in one function, since each function that takes the entries
 // copies them.
 pub(crate) fn tally(bytes: &[u8], lengths: [u16; 64], entries: [Entry; 2304], limit: usize) -> Test
     requires { ⌜ fault 64 (now bytes) ≡ 0 ⌝ }

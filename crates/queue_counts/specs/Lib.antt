@@ -1,2 +1,1 @@
--- To believe: Amounts (what `held` and `refusals` promise).
 pub mod Amounts

@@ -1,15 +1,15 @@
-// A queue tree asked for its counts, packets held and pushes refused; and a refusal that comes after the state's own test.
+// The counts of a queue tree, packets held and pushes refused; and a refusal that is tested after the state itself.
 use queue_check::examine;
 use queue_state::Answer;
 use queue_state::State;
 ghost use mathlib.Core.Path.{_≡_};
-ghost use Rattle.pifo.specs.Tree.{held};
+ghost use mathlib.Core.Bool.{cond};
+ghost use Rattle.pifo_model.specs.Tree.{held};
 ghost use Rattle.queue_state.specs.State.{wellFormed, treeOf};
-ghost use Rattle.topology.specs.Reader.{pick};
 ghost use Rattle.queue_state.specs.declared.Answer.the-variants.{Refused};
 ghost use Rattle.queue_counts.specs.Amounts.{amount};
 
-// The answer to a question about a state: a count, or a refusal by its number.
+// The answer to a question about a state: a count, or a refusal's number.
 pub enum Amount {
     Count(u32),
     Refused(u8),
@@ -38,9 +38,9 @@ pub fn refusals(state: State) -> Amount
     Amount::Count(state.refused)
 }
 
-// A refusal by a number that comes after 18: the number, or 18 where the state is not well formed.
+// A refusal that is tested after 18: the given number, or 18 if the state is not well formed.
 pub fn refused(state: State, number: u8) -> Answer
-    ensures { λ r. ⌜ r ≡ Refused (pick (wellFormed state) number 18) ⌝ }
+    ensures { λ r. ⌜ r ≡ Refused (cond (wellFormed state) number 18) ⌝ }
 {
     let test = examine(state);
     if test.sound {

@@ -1,4 +1,4 @@
-// A pop: the way down from the root by the heads of the queues.
+// A pop: the way down from the root along the heads of the queues.
 use super::Taken;
 use super::Way;
 use queue_state::Entry;
@@ -12,13 +12,14 @@ ghost use mathlib.Core.Bool.{false};
 ghost use lib.ListN.{length, replicate};
 ghost use Rattle.topology.specs.Reader.{fault, tree};
 ghost use Rattle.topology.specs.Address.{subtree};
-ghost use Rattle.pifo.specs.Numbered.{Queues, descent};
+ghost use Rattle.pifo_model.specs.InnerNumbered.{descent};
 ghost use Rattle.queue_state.specs.State.{Packet};
 ghost use Rattle.queue_check.specs.Tests.{Heading};
-ghost use Rattle.queue_pop.specs.Ways.{noTaken};
-ghost use Rattle.queue_pop.specs.Departures.{Down, ended as Departures·ended, taking as Departures·taking};
+ghost use Rattle.queue_pop.specs.Way.{noTaken};
+ghost use Rattle.queue_pop.specs.InnerDepartures.{Down, ended as Departures·ended, taking as Departures·taking};
+ghost use Rattle.pifo_model.specs.Assembled.{Queues};
 
-// A pop from some node on: the packet that leaves, what is taken on its way down to the leaf, and the lengths of all queues after it.
+// A pop from some node down: whether it finds a packet, the packet, what is taken on the way to the leaf, and the lengths of all queues after it.
 pub(crate) struct Trail {
     pub found: bool,
     pub packet: Packet,
@@ -51,7 +52,7 @@ fn no_trail() -> Trail
     }
 }
 
-// The end of a trail at a leaf, with nothing taken yet.
+// A trail that ends at a leaf, with nothing taken yet.
 fn ended(packet: Packet, lengths: [u16; 64], count: usize) -> Trail
     ensures { λ r. ⌜ r ≡ Departures·ended packet lengths count ⌝ }
 {
@@ -88,7 +89,7 @@ fn taking(trail: Trail, depth: usize, node: usize, child: u8, rank: Rank, rest: 
     }
 }
 
-// Pops from a node on, in at most `left` nodes: takes the head of the node's queue, which is a packet or names the child to go on at.
+// Pops from a node down, through at most `left` nodes: takes the head of the node's queue, which is a packet or names the child to go on at.
 pub(crate) fn pop_from(
     bytes: &[u8],
     lengths: [u16; 64],
@@ -118,7 +119,7 @@ pub(crate) fn pop_from(
             own - 1,
         ),
         Item::Child(index) => {
-            let Found::Node(child) = branches::child(bytes, node, index as usize) else {
+            let Found::Node(child) = topology_branches::child(bytes, node, index as usize) else {
                 return no_trail();
             };
             let below = pop_from(bytes, lengths, heads, child, left - 1);

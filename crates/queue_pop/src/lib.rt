@@ -1,5 +1,5 @@
-// The pop of the queue tree, a PIFO tree with a packet limit: it takes the tree's state and gives back the state after it. The crate
-// `queue_state` has the state and its opening, `queue_check` its test, `queue_push` the push.
+// The pop of the queue tree, a PIFO tree with a packet limit: it takes the tree's state and returns the state after it. The crate `queue_state` has
+// the state and its opening, `queue_check` its test, `queue_push` the push.
 mod departures;
 
 use queue_check::examine;
@@ -9,11 +9,11 @@ use queue_state::Served;
 use queue_state::State;
 use queue_state::wide16;
 ghost use mathlib.Core.Path.{_≡_};
-ghost use Rattle.pifo.specs.Machine.{popping};
+ghost use Rattle.pifo_model.specs.Machine.{popping};
 ghost use Rattle.queue_state.specs.Calls.{answerOf, Serves};
-ghost use Rattle.queue_pop.specs.Ways.{wayOf};
+ghost use Rattle.queue_pop.specs.Way.{wayOf};
 
-// What a pop takes at a node: the head of its queue, with the child that it names, 0 at a leaf.
+// What a pop takes at a node: the head of its queue. `child` is the child that the head names, 0 at a leaf.
 #[repr(C)]
 pub struct Taken {
     pub node: u8,
@@ -21,7 +21,7 @@ pub struct Taken {
     pub rank: Rank,
 }
 
-// The way of a packet that departs: its first `count` places from the root on, the others 0.
+// The way of a pop: its first `count` places, from the root down; the others are 0.
 #[repr(C)]
 pub struct Way {
     pub taken: [Taken; 9],
@@ -35,10 +35,10 @@ pub struct Popped {
 
 // Pops the packet at the head: 18 and 16 are tested in this order.
 //
-// One copy of the state serves the test and is then changed in place, since each function that takes a state copies it; hence the loops
-// here. What a pop leaves is read from the state as it came, so that the compiler makes no second copy.
+// Each function that takes a state copies it. So the loops are in this function, and one copy is tested and then changed in place. Old values are
+// read from the argument, so that the compiler makes no second copy.
 //
-// The loops close the gaps: of each queue as many of the last entries stay as its new length says, and move down behind those before them.
+// The loops close the gaps: of each queue the last entries, as many as its new length, move down to follow the entries before them.
 pub fn pop(state: State) -> Popped
     ensures { λ r. ⌜ Serves state popping (answerOf (r .served .answer)) (r .served .state) × (r .way ≡ wayOf state) ⌝ }
 {

@@ -10,9 +10,9 @@ ghost use mathlib.Core.Logic.{_≢_, _⊎_};
 ghost use Prim.Native.Nat.{_≤_, _<_};
 ghost use lib.ListN.{length};
 ghost use Rattle.topology.specs.Reader.{fault, tree};
-ghost use Rattle.queue_check.specs.Sound.{Decides};
+ghost use Rattle.queue_check.specs.InnerSound.{Decides};
 ghost use Rattle.queue_state.specs.State.{startOf};
-ghost use Rattle.queue_push.specs.Arrivals.{Walked, Ones, Raised};
+ghost use Rattle.queue_push.specs.InnerArrivals.{Walked, Ones, Raised};
 ghost use Rattle.queue_push.specs.Calls.{stepsOf};
 
 // The fault of a path, or the new entry of each node that is marked as pending.
@@ -39,7 +39,7 @@ pub(crate) fn walk(bytes: &[u8], path: Path, packet: Packet) -> Added
     let mut i = 0;
     while i < count {
         let step = steps[i];
-        let Found::Node(child) = branches::child(bytes, node, step.child as usize) else {
+        let Found::Node(child) = topology_branches::child(bytes, node, step.child as usize) else {
             return Added {
                 fault: 13,
                 pending,
@@ -76,7 +76,7 @@ pub(crate) fn walk(bytes: &[u8], path: Path, packet: Packet) -> Added
     }
 }
 
-// Whether a new entry goes right behind an old one of its queue.
+// Whether a new entry goes right after an old entry of its queue: it is pending, and its rank is no smaller.
 pub(crate) fn goes_behind(pending: u8, old_rank: Rank, new_rank: Rank) -> bool
     ensures { λ r. ⌜ Decides r ((pending ≢ 0) × («old_rank» ≤ «new_rank»)) ((pending ≡ 0) ⊎ («new_rank» < «old_rank»)) ⌝ }
 {
@@ -89,7 +89,7 @@ pub(crate) fn goes_behind(pending: u8, old_rank: Rank, new_rank: Rank) -> bool
     false
 }
 
-// The lengths with the new entries.
+// The lengths of the queues with the new entries.
 pub(crate) fn raised(nodes: usize, lengths: [u16; 64], pending: [u8; 64]) -> [u16; 64]
     requires { ⌜ (nodes ≤ 64) × (startOf lengths nodes ≤ 2304) × Ones pending ⌝ }
     ensures { λ r. ⌜ Raised nodes lengths pending r ⌝ }

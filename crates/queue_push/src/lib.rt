@@ -1,5 +1,5 @@
-// The push of the queue tree, a PIFO tree with a packet limit: it takes the tree's state and gives back the state after it. The crate
-// `queue_state` has the state and its opening, `queue_check` its test, `queue_pop` the pop.
+// The push of the queue tree, a PIFO tree with a packet limit: it takes the tree's state and returns the state after it. The crate `queue_state` has
+// the state and its opening, `queue_check` its test, `queue_pop` the pop.
 mod arrivals;
 
 use queue_check::examine;
@@ -11,7 +11,7 @@ use queue_state::State;
 use queue_state::wide16;
 ghost use mathlib.Core.Path.{_≡_};
 ghost use Prim.Native.Nat.{suc, min};
-ghost use Rattle.pifo.specs.Machine.{pushing, most, room as Machine·room};
+ghost use Rattle.pifo_model.specs.Machine.{pushing, most, room as Machine·room};
 ghost use Rattle.queue_state.specs.Calls.{answerOf, Serves};
 ghost use Rattle.queue_push.specs.Calls.{stepsOf, extendedBy};
 
@@ -21,7 +21,7 @@ pub struct Step {
     pub rank: Rank,
 }
 
-// A path: its first `count` steps, of which no tree takes a ninth, and the rank at the leaf.
+// A path: its first `count` steps, and the rank at the leaf. There is a place for a ninth step, which every tree refuses by 13.
 #[repr(C)]
 pub struct Path {
     pub steps: [Step; 9],
@@ -29,7 +29,7 @@ pub struct Path {
     pub leaf_rank: Rank,
 }
 
-// The path with one step more; as it came where its nine places are full.
+// The path with one more step; unchanged if its nine places are full.
 pub fn extended(path: Path, child: u8, rank: Rank) -> Path
     ensures { λ r. ⌜ r ≡ extendedBy path child rank ⌝ }
 {
@@ -49,7 +49,7 @@ pub fn extended(path: Path, child: u8, rank: Rank) -> Path
 // The largest count of refusals.
 const MOST_REFUSALS: u32 = 4294967295;
 
-// One refusal more, up to the largest count.
+// The count of refusals with one more, up to the largest count.
 fn counted(refusals: u32) -> u32
     ensures { λ r. ⌜ r ≡ min (suc refusals) most ⌝ }
 {
@@ -59,7 +59,7 @@ fn counted(refusals: u32) -> u32
     refusals + 1
 }
 
-// Whether there is room for a push where so many packets are held: 0, or the number by which it is refused.
+// Whether there is room for a push if `held` packets are held: 0, or the refusal's number.
 fn room(limit: usize, held: usize) -> u8
     ensures { λ r. ⌜ r ≡ Machine·room limit held ⌝ }
 {
@@ -71,11 +71,11 @@ fn room(limit: usize, held: usize) -> u8
 
 // Pushes a packet along a path: 18, 13, 14, 15 are tested in this order.
 //
-// One copy of the state serves the test and is then changed in place, since each function that takes a state copies it; hence the loop
-// here. What a push leaves is read from the state as it came, so that the compiler makes no second copy.
+// Each function that takes a state copies it. So the loop is in this function, and one copy is tested and then changed in place. Old values are read
+// from the argument, so that the compiler makes no second copy.
 //
-// The loop makes room: each new entry goes behind the last entry of its queue that has no greater rank, or before all of them where there is
-// none. From the last entry to the first, each moves up once, by as many places as new entries are still to come.
+// The loop makes room: each new entry goes after the last entry of its queue that has no greater rank, or to the front if there is none. From the
+// last entry to the first, each moves up once, by as many places as there are new entries still to be placed.
 pub fn push(state: State, path: Path, packet: Packet) -> Served
     ensures { λ r. ⌜ Serves state (pushing (stepsOf path) (path .«leaf_rank») packet) (answerOf (r .answer)) (r .state) ⌝ }
 {

@@ -1,5 +1,5 @@
--- The lengths of a state's arrays: what a function knows of a state that it is given (`the-arrays`). The paths here are the only ones that go
--- by the order of the fields; a field more at a frame's end leaves them.
+-- The lengths of a state's arrays, which every state that a function gets has (`the-arrays`). Only the projections here depend on the order of the
+-- fields; a new field at the end of a frame does not change them.
 use mathlib.Core.Path.{_≡_, sym, _∙_}
 use Prim.Native.Nat.{ℕ}
 use mathlib.Core.List.{List, map}
@@ -7,7 +7,7 @@ use lib.ListN.{length}
 use mir.Val.{Val}
 use denote.Laws.{Is}
 use denote.Struct.Declared.{row}
-use Rattle.lists.proofs.Map.{length-map}
+use Rattle.base.proofs.Map.{length-map}
 use Rattle.queue_state.specs.declared.State.{State}
 use Rattle.queue_state.specs.declared.Frame.{Frame}
 use Rattle.queue_state.proofs.State
@@ -18,7 +18,7 @@ pub record Arrays (s : State) : Type 0 where
   pub lengths : length (s .lengths) ≡ 64
   pub entries : length (s .entries) ≡ 2304
 
--- the length of an array, as the checker has it of the array's machine values
+-- the length of an array, from the length of the list of its machine values
 pub kept {ℓ κ} : {A : Type ℓ} {B : Type κ} (f : A → B) (l : List A) {n : ℕ} → length (map f l) ≡ n → length l ≡ n
 kept f l e = sym (length-map f l) ∙ e
 

@@ -1,4 +1,4 @@
--- A state whose entries are changed in place: its other parts stay.
+-- A state in which only the entries are changed: its other parts stay as they are.
 use mathlib.Core.Path.{_≡_, ap}
 use mathlib.Core.List.{List}
 use Rattle.queue_state.specs.Calls.{withQueues}

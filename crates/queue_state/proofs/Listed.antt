@@ -1,4 +1,4 @@
--- The queues of a tree as a list, in the order of node numbers: a tree is put together again from them.
+-- The queues of a tree as a list, in the order of node numbers, and the tree assembled from this list.
 use mathlib.Core.Path.{_≡_, refl, sym, ap, ap₂, _∙_}
 use Prim.Native.Nat.{ℕ, suc, _+_, _<_}
 use native.Mathlib.Nat.{add-zero}
@@ -7,9 +7,9 @@ use mathlib.Core.List.{List, [], _∷_, _++_}
 use lib.ListN.{length, getD, length-append, List·getD-append}
 use lib.Seq.{getD-append-add}
 use Rattle.topology.specs.Tree.{size, sizes}
-use Rattle.pifo.specs.Queue.{Entry}
-use Rattle.pifo.specs.Tree.{PTree, PForest, pnode, pnil, pcons, shape, shapes}
-use Rattle.pifo.specs.Numbered.{Queues, assemble, assembleAll}
+use Rattle.pifo_model.specs.Queue.{Entry}
+use Rattle.pifo_model.specs.Tree.{PTree, PForest, pnode, pnil, pcons, shape, shapes}
+use Rattle.pifo_model.specs.Assembled.{Queues, assemble, assembleAll}
 
 module _ {P : Type 0} where
   abbrev mutual

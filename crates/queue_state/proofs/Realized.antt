@@ -1,5 +1,5 @@
--- Every machine that a state can have is the machine of one: the state with the tree's queues one behind the other, in the order of their nodes
--- (`realized`).
+-- Every machine within the limits of a state is the machine of some state: the one with the tree's queues one after the other, in the order of their
+-- nodes (`realized`).
 use mathlib.Core.Path.{_≡_, refl, sym, ap, _∙_}
 use Prim.Native.Nat.{ℕ, zero, suc, _*_, _-_, _≤_, _<_}
 use native.Mathlib.Nat.{zero-add, mul-le-mul-right}
@@ -8,27 +8,27 @@ use mathlib.Core.List.{List, [], _∷_, _++_, map}
 use mathlib.Core.Bool.{true}
 use lib.ListN.{length, getD, replicate, length-append, List·getD-append}
 use lib.Seq.{take-append-seam}
-use Rattle.lists.proofs.Map.{length-map, getD-map}
+use Rattle.base.proofs.Map.{length-map, getD-map}
 use Rattle.topology.specs.Tree.{Topo, size, height}
 use Rattle.topology.specs.Reader.{fault, tree}
 use Rattle.topology.proofs.Reader.{within}
 use Rattle.topology.proofs.Lookup.{valid-size, valid-length}
-use Rattle.pifo.specs.Queue.{Item, Entry, child, packet, entry}
-use Rattle.pifo.specs.Tree.{PTree, shape, held, well}
-use Rattle.pifo.specs.Numbered.{Queues, assemble}
-use Rattle.pifo.specs.Machine.{Machine}
-use Rattle.pifo.proofs.Total.{total, total-held, total-assemble, sumFrom}
+use Rattle.pifo_model.specs.Queue.{Item, Entry, child, packet, entry}
+use Rattle.pifo_model.specs.Tree.{PTree, shape, held, well}
+use Rattle.pifo_model.specs.Machine.{Machine}
+use Rattle.pifo_model.proofs.Total.{total, total-held, total-assemble, sumFrom}
 use Rattle.queue_state.specs.State.{Packet, entryOf, startOf, queues, bytes, treeOf, machine, wellFormed}
 use Rattle.queue_state.specs.Entries.{noEntry}
 use Rattle.queue_state.specs.declared.Item.{Item as CodeItem}
 use Rattle.queue_state.specs.declared.Item.the-variants.{Child, Packet as PacketItem}
 use Rattle.queue_state.specs.declared.Entry.{Entry as CodeEntry}
 use Rattle.queue_state.specs.declared.State.{State}
-use Rattle.queue_state.proofs.Formed.{form}
-use Rattle.queue_state.proofs.Parts.{map-append, joined, start-joined, cut}
+use Rattle.queue_state.proofs.WellFormed.{form}
+use Rattle.queue_state.proofs.Stretch.{map-append, joined, start-joined, cut}
 use Rattle.queue_state.proofs.Listed.{queuesOf, queues-size, assemble-listed}
+use Rattle.pifo_model.specs.Assembled.{Queues, assemble}
 
--- ---- the code's entry for the definition's
+-- ---- the code's entry for an entry of the definition
 
 abbrev codeItem : Item Packet → CodeItem
 codeItem (child i) = Child i
@@ -51,7 +51,7 @@ joined-length q n (suc k) = omega (arith, length-append (q n) (joined q (suc n) 
 
 -- ---- the state of a machine
 
--- a list in so many places, filled up with one element
+-- a list extended to a given length with one element
 abbrev filled {ℓ} : {A : Type ℓ} → ℕ → A → List A → List A
 filled n a l = l ++ replicate (n - length l) a
 
@@ -73,7 +73,7 @@ stateFor bs m =
       entries = filled 2304 noEntry (entriesOf (m .tree));
     }
 
--- what is asked of a machine for which there is a state
+-- what a machine has to meet for there to be a state of it
 pub record Fits (bs : List ℕ) (m : Machine Packet) : Type 0 where
   pub valid : fault 64 bs ≡ 0
   pub topology : m .topology ≡ tree bs

@@ -3,14 +3,14 @@ use mathlib.Core.Path.{_≡_}
 use Prim.Native.Nat.{ℕ}
 use mathlib.Core.List.{List}
 use mathlib.Core.Bool.{true, false}
-use Rattle.pifo.specs.Machine.{Call, Answer, accepted, departed, refused, full, serve}
+use Rattle.pifo_model.specs.Machine.{Call, Answer, accepted, departed, refused, full, serve}
 use Rattle.queue_state.specs.State.{Packet, machine, wellFormed}
 use Rattle.queue_state.specs.declared.Answer.{Answer as CodeAnswer}
 use Rattle.queue_state.specs.declared.Answer.the-variants.{Accepted, Departed, Refused, Full}
 use Rattle.queue_state.specs.declared.Entry.{Entry}
 use Rattle.queue_state.specs.declared.State.{State}
 
--- The definition's answer for each case of the code's; `numberOf` (pifo/specs/Machine) gives the paper's number for it.
+-- The machine's answer for each case of the code's answer; `numberOf` (pifo_model/specs/Machine) gives paper 01's number for it.
 abbrev pub answerOf : CodeAnswer → Answer Packet
 answerOf (Accepted h) = accepted h
 answerOf (Departed p) = departed p
@@ -25,13 +25,14 @@ counting s c = record { frame = s .frame; refused = c; lengths = s .lengths; ent
 abbrev pub withQueues : State → List ℕ → List Entry → State
 withQueues s lengths entries = record { frame = s .frame; refused = s .refused; lengths = lengths; entries = entries }
 
--- A call on a state: refused by 18 where the state is not well formed, else as the machine answers. A refusal leaves the state as it
--- was, but for the count where there is no room. After an accepted push or a pop, the machine determines the lengths of the queues and the
--- entries in them (`same-machine` in proofs/Canon); left free is what stands in the arrays past the last node and past the last entry.
+-- A call on a state: refused by 18 if the state is not well formed, else answered as the machine answers. A refusal leaves the state as it was,
+-- except for the count of refusals if there is no room. After an accepted push or a pop, the machine determines the lengths of the queues and the
+-- entries in them (`same-machine` in proofs/SameMachine). Unspecified: the contents of the arrays past the last node and past the last entry; no
+-- answer depends on them.
 pub record Serves (s : State) (call : Call Packet) (a : Answer Packet) (r : State) : Type 0 where
   pub ill : wellFormed s ≡ false → a ≡ refused 18
   pub answer : wellFormed s ≡ true → a ≡ serve (machine s) call .0
   pub machine : wellFormed s ≡ true → machine r ≡ serve (machine s) call .1
   pub formed : wellFormed s ≡ true → wellFormed r ≡ true
-  pub kept : (n : ℕ) → a ≡ refused n → r ≡ s
+  pub unaltered : (n : ℕ) → a ≡ refused n → r ≡ s
   pub counted : (n c : ℕ) → a ≡ full n c → r ≡ counting s c

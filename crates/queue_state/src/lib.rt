@@ -1,8 +1,8 @@
-// The state of a queue tree, by value, opened empty, and the answers to calls on it. The crate `queue_check` has its test (18), `queue_counts`
-// its counts; `queue_push` and `queue_pop` have push and pop.
+// The state of a queue tree, its opening, and the answers to calls on it. A state is passed by value. The crate `queue_check` has the test of a state
+// (18), `queue_counts` its counts; `queue_push` and `queue_pop` have push and pop.
 //
-// The queues stand one behind the other in one array, in the order of their nodes and each from its head on, and beside them the length
-// of each. 256 packets on 9 nodes each make 2304 entries at the most.
+// The queues are stored one after another in one array, in the order of their nodes and each from its head on; a second array has their lengths.
+// There are at most 2304 entries: 256 packets, each with entries at up to 9 nodes.
 mod opening;
 
 use topology::Reading;
@@ -15,7 +15,7 @@ pub type Rank = u32;
 
 pub type Packet = u32;
 
-// What a queue orders: child numbers at inner nodes, packets at leaves.
+// The item of an entry: a child number at an inner node, a packet at a leaf.
 pub enum Item {
     Child(u8),
     Packet(Packet),
@@ -26,7 +26,7 @@ pub struct Entry {
     pub item: Item,
 }
 
-// What stands beside the queues and their count of refusals. Plain numbers only, so that it crosses to C and Rust as it is.
+// The part of a state that no call changes. It has plain numbers only, so that C and Rust can use it as it is.
 #[repr(C)]
 pub struct Frame {
     pub topology: [u8; 64],
@@ -41,14 +41,14 @@ pub struct State {
     pub entries: [Entry; 2304],
 }
 
-// The answer to an opening: 0 and the empty tree, or a refusal's number and zeros throughout, which every call refuses by 18.
+// The answer to an opening: the empty tree and 0; or a state of zeros, on which every call is refused by 18, and the refusal's number.
 pub struct Opened {
     pub state: State,
     pub refusal: u8,
 }
 
-// The answer to a call: the packets held after a push, the packet that departs, a refusal by its number; or the number of a push that has
-// no room, with the new count of refusals.
+// The answer to a call: the number of packets held after a push; the packet that departs; a refusal's number; or, for a push without room, the
+// refusal's number and the new count of refusals.
 pub enum Answer {
     Accepted(u32),
     Departed(Packet),

@@ -1,5 +1,5 @@
-// Reads a topology from standard input, its bytes as they are, and writes a line for each node: its number, its number of children and
-// the number after its branch's last; or `no` and the refusal's number.
+// Reads a topology from standard input, its bytes as they are, and writes a line for each node: its number, its number of children, and one past the
+// last node of its branch; or `no` and the refusal's number.
 use topology::Reading;
 use topology::TARGET_NODES;
 use topology::wide;
@@ -12,7 +12,7 @@ fn print(n: usize, after: u8) {
 }
 
 fn print_node(bytes: &[u8], node: usize) {
-    let end = branches::branch_end(bytes, node);
+    let end = topology_branches::branch_end(bytes, node);
     if node < bytes.len() {
         print(node, b' ');
         print(wide(bytes[node]), b' ');

@@ -1,5 +1,5 @@
--- Numbers as text: a number of base ten is the digits before its last one, and that; how many digits a number takes; and the digits of base
--- sixteen made from the last to the first.
+-- Numbers as text: a decimal number is its other digits followed by its last digit; how many digits a number takes; and hexadecimal digits, computed
+-- from the last to the first.
 use mathlib.Core.Path.{_≡_, refl, sym, ap, _∙_}
 use Prim.Native.Nat.{ℕ, zero, suc, _+_, _/_, _%_, _^_, _-_, _≤_, _<_}
 use native.Mathlib.Nat.{not-suc-le-zero, pow-suc, div-lt-self}
@@ -11,7 +11,7 @@ use lib.Seq.{drop-cons, getD-set-same, drop-set-lt}
 use lib.Dec.{ltb}
 use borrow.Author.Tests.{lt-ltb, le-ltb, ltb-true, ltb-false}
 use Rattle.text.specs.Text.{decimalLast, decimal, hexDigit, hexLast, hex8, Puts}
-use Rattle.text.proofs.Writing.{puts-as, puts-then}
+use Rattle.text.proofs.Written.{puts-as, puts-then}
 
 cond-else : (t : Bool) {a b : List ℕ} → (t ≡ false → a ≡ b) → cond t [] a ≡ cond t [] b
 cond-else true f = refl
@@ -20,7 +20,7 @@ cond-else false f = f refl
 shorter : (n m : ℕ) → n < suc m → 10 ≤ n → n / 10 < m
 shorter n m h g = omega (arith, div-lt-self {n = n} {k = 10} (omega arith) (omega arith))
 
--- where more digits are allowed than n takes, the bound makes no difference
+-- if more digits are allowed than n takes, the bound makes no difference
 enough : (j k n : ℕ) → n < j → n < k → decimalLast j n ≡ decimalLast k n
 unfolding decimalLast
 enough zero k n h g = absurd (not-suc-le-zero h)
@@ -42,12 +42,12 @@ decimal-more n h =
     let e = enough n (suc (n / 10)) (n / 10) (shorter n n (omega arith) h) (omega arith) in
     rw (le-ltb n 10 h) (ap (λ (l : List ℕ). l ++ ((48 + n % 10) ∷ [])) e)
 
--- the last digit goes behind the digits before it
+-- the last digit is written behind the digits before it
 pub puts-last : {before middle after : List ℕ} {at place end : ℕ} (n : ℕ) → 10 ≤ n → Puts before at (decimal (n / 10)) middle place
     → Puts middle place ((48 + n % 10) ∷ []) after end → Puts before at (decimal n) after end
 puts-last n h p q = puts-as (sym (decimal-more n h)) (puts-then p q)
 
--- a number below 10 ^ k takes at most k digits, where k is not 0
+-- a number below 10 ^ k takes at most k digits, for k at least 1
 pub length-decimal : (k n : ℕ) → n < 10 ^ suc k → length (decimal n) ≤ suc k
 length-decimal zero n h =
     let one : n < 10 = omega (arith, pow-suc 10 0) in
@@ -97,7 +97,7 @@ pub hex-digit-high : (d : ℕ) → 10 ≤ d → 55 + d ≡ hexDigit d
 unfolding hexDigit
 hex-digit-high d h = rw (le-ltb d 10 h)
 
--- Of n's eight digits the last ones stand in `text` from i on, and the first i are those of `rest`.
+-- The last of n's eight digits are in `text` from i on, and the first i digits are those of `rest`.
 pub record Spelt (n i rest : ℕ) (text : List ℕ) : Type 0 where
   pub in-8 : i ≤ 8
   pub wide : length text ≡ 8
@@ -112,7 +112,7 @@ spelt-none n text e =
       is = sym (append-nil (hexLast 8 n)) ∙ ap (λ (l : List ℕ). hexLast 8 n ++ l) (sym (drop-of-length-le text {i = 8} (omega arith)));
     }
 
--- one digit more
+-- one more digit
 pub spelt-next : (n i rest d : ℕ) (text : List ℕ) → Spelt n i rest text → 0 < i → d ≡ hexDigit (rest % 16)
     → Spelt n (i - 1) (rest / 16) (set text (i - 1) d)
 unfolding hexLast

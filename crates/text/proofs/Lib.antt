@@ -1,3 +1,3 @@
-pub mod Writing
+pub mod Written
 pub mod Digits
 pub mod Examples

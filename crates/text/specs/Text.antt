@@ -1,4 +1,4 @@
--- Numbers as text in ASCII, and text that is written into a buffer as far as the buffer goes.
+-- Numbers as text in ASCII, and text that is written into a buffer, as far as the buffer has room.
 use mathlib.Core.Path.{_≡_}
 use Prim.Native.Nat.{ℕ, zero, suc, _+_, _/_, _%_, min}
 use mathlib.Core.Bool.{cond}
@@ -6,7 +6,7 @@ use mathlib.Core.List.{List, [], _∷_, _++_}
 use lib.ListN.{length, set}
 use lib.Dec.{ltb}
 
--- the last digits of n in base ten, at most `most` of them, with no zero before the first
+-- the last digits of n in base ten, at most `most` of them, without leading zeros
 unfoldable pub decimalLast : ℕ → ℕ → List ℕ
 decimalLast zero n = []
 decimalLast (suc most) n =
@@ -29,12 +29,13 @@ hexLast (suc k) n = hexLast k (n / 16) ++ (hexDigit (n % 16) ∷ [])
 unfoldable pub hex8 : ℕ → List ℕ
 hex8 n = hexLast 8 n
 
--- The buffer with the text at places `at`, `at` + 1 and on. A place past the buffer's end takes no byte.
+-- The buffer with the text written from place `at` on; bytes past the buffer's end are left out.
 unfoldable pub written : List ℕ → ℕ → List ℕ → List ℕ
 written buffer at [] = buffer
 written buffer at (byte ∷ text) = written (set buffer at byte) (suc at) text
 
--- The text goes into the buffer `before` at `at`, which leaves `after`; `place` is the one behind the text, and never past the buffer's end.
+-- The text is put into the buffer `before` at place `at`, and `after` is the buffer then; `place` is the one after the text, but not past the
+-- buffer's end.
 pub record Puts (before : List ℕ) (at : ℕ) (text after : List ℕ) (place : ℕ) : Type 0 where
   pub bytes : after ≡ written before at text
   pub next : place ≡ min (at + length text) (length before)

@@ -1,5 +1,5 @@
-// Text put into a lent buffer at a place. Each call writes what fits and answers the place behind its text, where the next call goes on;
-// an answer below the buffer's length says that all of the text was written.
+// Text that is put into a caller's buffer at a place. Each call writes what fits and returns the place after its text, where the next call goes on.
+// If that is below the buffer's length, all of the text was written.
 ghost use Rattle.text.specs.Text.{decimal, hexDigit, Puts};
 ghost use Rattle.text.specs.Text.{hex8 as Text·hex8};
 ghost use mathlib.Core.Path.{_≡_};
@@ -18,7 +18,7 @@ pub fn put(out: &mut [u8], at: usize, byte: u8) -> usize
     }
 }
 
-// A place, or the end where the place lies past it.
+// A place, but not past the end.
 fn within(at: usize, end: usize) -> usize
     ensures { λ r. ⌜ r ≡ min at end ⌝ }
 {

@@ -1,18 +1,19 @@
--- Accepted bytes. After them the reader goes on with the debt and the marks that they leave (`goes-on`), and they are refused, by 1, exactly where
--- something is owed (`accepted-fault`). Bytes before accepted ones are accepted (`accepted-before`), and the first byte that is not decides
--- (`first-decides`). They are how the code of some tree begins (`begins-tree`): one is drawn with as many leaves behind them as are owed.
+-- Accepted bytes. The reader continues after them with the debt and the marks that they leave (`goes-on`). They are refused, by 1, exactly where nodes
+-- are still owed (`accepted-fault`). Bytes before accepted ones are accepted (`accepted-before`), and the first byte that is not accepted determines
+-- the fault (`first-decides`). Accepted bytes begin the code of some tree (`begins-tree`): as many leaves as are owed complete it.
 use mathlib.Core.Path.{_≡_, refl, sym, ap, _∙_}
 use Prim.Native.Nat.{ℕ, zero, suc, _+_, _≤_, _<_}
 use native.Mathlib.Nat.{add-zero, zero-add}
 use native.Mathlib.Omega.{arith}
 use mathlib.Core.List.{List, [], _∷_, _++_, append-nil}
-use mathlib.Core.Bool.{Bool, true, false}
+use mathlib.Core.Bool.{Bool, true, false, cond}
 use lib.ListN.{length, replicate}
 use lib.Dec.{eqb, leb, ltb, eqb·suc-zero}
+use Rattle.base.specs.Refusals.{orElse}
+use Rattle.base.proofs.Refusals.{orElse-same, cond-most}
 use Rattle.topology.specs.Tree.{code}
-use Rattle.topology.specs.Reader.{pick, orElse, owing, marking, faultAt, faultFrom, fault, tree}
+use Rattle.topology.specs.Reader.{owing, marking, faultAt, faultFrom, fault, tree}
 use Rattle.topology.specs.Debt.{debtAfter, marksAfter, Accepted}
-use Rattle.topology.proofs.Refusals.{orElse-same, pick-most}
 use Rattle.topology.proofs.Forests.{Draws, draws-node, draws-leaves, draws-tree}
 
 -- an accepted byte has no fault, and the bytes after it are accepted
@@ -21,8 +22,8 @@ pub accepted-byte : (limit n debt : ℕ) (marks : List ℕ) (b : ℕ) (bs : List
 accepted-byte limit n debt marks b bs h =
     by-tests (eqb debt 0) (leb limit n) (ltb 8 b) (ltb 8 (length marks)) (faultFrom limit (suc n) (owing debt b) (marking debt marks b) bs) h
   where
-    by-tests : (w x y z : Bool) (rest : ℕ) → orElse (pick w 2 (pick x 3 (pick y 4 (pick z 5 0)))) rest ≤ 1
-        → (_≡_ {A = ℕ} (pick w 2 (pick x 3 (pick y 4 (pick z 5 0)))) 0) × (rest ≤ 1)
+    by-tests : (w x y z : Bool) (rest : ℕ) → orElse (cond w 2 (cond x 3 (cond y 4 (cond z 5 0)))) rest ≤ 1
+        → (_≡_ {A = ℕ} (cond w 2 (cond x 3 (cond y 4 (cond z 5 0)))) 0) × (rest ≤ 1)
     by-tests true x y z rest h = absurd (omega arith)
     by-tests false true y z rest h = absurd (omega arith)
     by-tests false false true z rest h = absurd (omega arith)
@@ -48,19 +49,19 @@ goes-on limit bytes rest h =
     goes-on-from limit 0 1 [] bytes rest h
     ∙ ap (λ (k : ℕ). faultFrom limit k (debtAfter 1 bytes) (marksAfter 1 [] bytes) rest) (zero-add (length bytes))
 
--- so accepted bytes are refused, by 1, exactly where something is owed
-pub accepted-fault : (limit : ℕ) (bytes : List ℕ) → Accepted limit bytes → fault limit bytes ≡ pick (eqb (debtAfter 1 bytes) 0) 0 1
+-- so accepted bytes are refused, by 1, exactly where nodes are still owed
+pub accepted-fault : (limit : ℕ) (bytes : List ℕ) → Accepted limit bytes → fault limit bytes ≡ cond (eqb (debtAfter 1 bytes) 0) 0 1
 accepted-fault limit bytes h = ap (fault limit) (sym (append-nil bytes)) ∙ goes-on limit bytes [] h
 
 pub nothing-owed : (limit : ℕ) (bytes : List ℕ) → fault limit bytes ≡ 0 → debtAfter 1 bytes ≡ 0
 nothing-owed limit bytes e = by-debt (debtAfter 1 bytes) (sym (accepted-fault limit bytes (omega arith)) ∙ e)
   where
-    by-debt : (debt : ℕ) → _≡_ {A = ℕ} (pick (eqb debt 0) 0 1) 0 → debt ≡ 0
+    by-debt : (debt : ℕ) → _≡_ {A = ℕ} (cond (eqb debt 0) 0 1) 0 → debt ≡ 0
     by-debt zero e = refl
     by-debt (suc m) e = absurd (omega (arith, rw (eqb·suc-zero m) at e))
 
 before-from : (limit n debt : ℕ) (marks bs cs : List ℕ) → faultFrom limit n debt marks (bs ++ cs) ≤ 1 → faultFrom limit n debt marks bs ≤ 1
-before-from limit n debt marks [] cs h = pick-most 1 (eqb debt 0) 0 1 (omega arith) (omega arith)
+before-from limit n debt marks [] cs h = cond-most 1 (eqb debt 0) 0 1 (omega arith) (omega arith)
 before-from limit n debt marks (b ∷ bs) cs h =
     let a = accepted-byte limit n debt marks b (bs ++ cs) h in
     rw (a .0) (before-from limit (suc n) (owing debt b) (marking debt marks b) bs cs (a .1))
@@ -71,7 +72,7 @@ accepted-before limit bytes rest h = before-from limit 0 1 [] bytes rest h
 
 decides-from : (limit n debt : ℕ) (marks bs cs : List ℕ) → 1 < faultFrom limit n debt marks bs
     → faultFrom limit n debt marks (bs ++ cs) ≡ faultFrom limit n debt marks bs
-decides-from limit n debt marks [] cs h = absurd (omega (arith, pick-most 1 (eqb debt 0) 0 1 (omega arith) (omega arith)))
+decides-from limit n debt marks [] cs h = absurd (omega (arith, cond-most 1 (eqb debt 0) 0 1 (omega arith) (omega arith)))
 decides-from limit n debt marks (b ∷ bs) cs h =
     let rest : List ℕ → ℕ = faultFrom limit (suc n) (owing debt b) (marking debt marks b) in
     orElse-same (faultAt limit n debt (length marks) b) (rest (bs ++ cs)) (rest bs)
@@ -81,7 +82,7 @@ pub first-decides : (limit : ℕ) (bytes rest : List ℕ) → (Accepted limit by
 unfolding fault
 first-decides limit bytes rest h = decides-from limit 0 1 [] bytes rest (omega arith)
 
--- with as many leaves behind them as are still owed, accepted bytes draw as many trees as were owed
+-- accepted bytes, followed by as many leaves as are still owed, draw as many trees as were owed before them
 begins-from : (limit n debt : ℕ) (marks bs : List ℕ) → faultFrom limit n debt marks bs ≤ 1 → Draws (bs ++ replicate (debtAfter debt bs) 0) debt
 begins-from limit n debt marks [] h = draws-leaves debt
 begins-from limit n zero marks (b ∷ bs) h = absurd (omega arith)

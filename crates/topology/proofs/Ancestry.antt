@@ -1,5 +1,5 @@
--- What the branch under a node looks like in node numbers: it is the stretch of numbers from the node on, as long as the branch
--- has nodes. All follows from `num-append`: an address that goes on below node a has a's number and its own number in a's branch.
+-- The branch under a node in node numbers: it is the interval that begins at the node's number and is as long as the branch has nodes. All follows
+-- from `num-append`: the number of an address below node a is a's number plus the address's number in a's branch.
 use mathlib.Core.Path.{_≡_, refl, sym, ap, _∙_, subst}
 use Prim.Native.Nat.{ℕ, zero, suc, _+_, _-_, _≤_, _<_, zero-le}
 use native.Mathlib.Nat.{zero-add, not-suc-le-zero, le-of-suc-le-suc, zero-lt-suc}
@@ -51,7 +51,7 @@ module _ (t : Topo) (a m : ℕ) (h : a < size t) (g : m < size (subtree t a)) wh
   pub subtree-sum : subtree t (a + m) ≡ subtree (subtree t a) m
   subtree-sum = ap (sub t) addr-sum ∙ sub-append t (addr t a) (addr (subtree t a) m)
 
--- Node a is b or lies above it exactly where b's number is in a's stretch.
+-- Node a is b or lies above it exactly where b's number is in a's interval.
 pub above-from : (t : Topo) (a b : ℕ) → a < size t → b < size t → Above (addr t a) (addr t b) → (a ≤ b) × (b < a + size (subtree t a))
 above-from t a b h g (d, e) =
     let i = in-below t (addr t a) d (subst (In t) e (addr-in t b g)) in
@@ -75,11 +75,11 @@ subtree-end t a h =
     let p = size-pos (subtree t a) in
     omega (arith, sum-lt t a (size (subtree t a) - 1) h (omega arith))
 
--- two nodes of one address are one
+-- two nodes with the same address are equal
 pub addr-inj : (t : Topo) (a b : ℕ) → a < size t → b < size t → addr t a ≡ addr t b → a ≡ b
 addr-inj t a b h g e = sym (num-addr t a h) ∙ ap (num t) e ∙ num-addr t b g
 
--- a child's branch is less high than the tree, and no broader; a node's depth and number of children are within the tree's
+-- a child's branch is lower than the tree, and no broader; a node's depth and number of children are within the tree's
 pub nth-height : (ts : Forest) (k : ℕ) → k < count ts → height (nth ts k) < heights ts
 nth-height fnil k h = absurd (not-suc-le-zero h)
 nth-height (fcons t ts) zero h = omega arith

@@ -5,22 +5,18 @@ use Prim.Native.Nat.{ℕ, zero, suc, _+_, _-_, _≤_, _<_}
 use native.Mathlib.Numerals.{add-one}
 use native.Mathlib.Omega.{arith}
 use mathlib.Core.List.{List, []}
-use mathlib.Core.Bool.{Bool, true, false, _&&_}
+use mathlib.Core.Bool.{Bool, true, false, _&&_, cond}
 use lib.ListN.{length, take, drop, getD, List·getD-eq-default}
 use lib.Dec.{leb, ltb}
 use borrow.Author.Tests.{lt-ltb, le-ltb, le-leb, lt-leb, leb-true}
-use Rattle.topology.specs.Reader.{pick, orElse, fault, reading}
-use Rattle.topology.specs.Branch.{branchEnd, start, childAt, isAbove, towardFrom, towardAt, branchFault, unless, branchPart}
+use Rattle.base.proofs.Refusals.{orElse-first, refused-other}
+use Rattle.base.proofs.Tests.{clash}
+use Rattle.topology.specs.Reader.{fault, reading}
+use Rattle.topology.specs.Branch.{branchEnd, start, childAt, isAbove, towardFrom, towardAt, branchFault, branchPart}
 use Rattle.topology.specs.declared.Reading.{Reading}
 use Rattle.topology.specs.declared.Reading.the-variants.{Tree, Refused}
 use Rattle.topology.specs.declared.Found.the-variants.{Node, Missing}
 use Rattle.topology.specs.declared.Toward.the-variants.{Child, Nowhere}
-
-pub clash : _≡_ {A = ℕ} 0 1 → ⊥
-clash e = omega arith
-
-pub off : false ≡ true → ⊥
-off e = clash (cc)
 
 pub child-zero : (bytes : List ℕ) (n i : ℕ) → i ≡ 0 → Missing ≡ childAt bytes n i
 unfolding childAt
@@ -61,7 +57,7 @@ unfolding branchEnd
 start-after bytes n zero = omega arith
 start-after bytes n (suc i) = omega (arith, start-after bytes n i)
 
--- The scan over the children of node n for the one toward y: it stands at child i + 1, of k in all, which starts no later than y.
+-- The scan over the children of node n for the one toward y: it is at child i + 1 of k, which starts no later than y.
 module _ (bytes : List ℕ) (n y : ℕ) where
   pub toward-out : length bytes ≤ n → Nowhere ≡ towardAt bytes n y
   unfolding towardAt
@@ -82,7 +78,7 @@ module _ (bytes : List ℕ) (n y : ℕ) where
       rw e
 
   module _ (i k at end : ℕ) (h : i < k) (s : at ≡ start bytes n i) (l : at ≤ y) (f : end ≡ branchEnd bytes at) where
-    toward-test : towardFrom bytes n y i (k - i) ≡ pick (ltb y end) (Child (i + 1) at) (towardFrom bytes n y (i + 1) (k - (i + 1)))
+    toward-test : towardFrom bytes n y i (k - i) ≡ cond (ltb y end) (Child (i + 1) at) (towardFrom bytes n y (i + 1) (k - (i + 1)))
     toward-test =
         let e : k - i ≡ suc (k - (i + 1)) = omega arith in
         rw (e, ← s, ← above-test bytes at y end l f, add-one i)
@@ -112,7 +108,7 @@ between-from bytes n y i zero j c e = absurd (clash (cc))
 between-from bytes n y i (suc k) j c e = by-test (isAbove bytes (start bytes n i) y) refl e (between-from bytes n y (suc i) k j c)
   where
     by-test : (b : Bool) → isAbove bytes (start bytes n i) y ≡ b
-        → pick b (Child (suc i) (start bytes n i)) (towardFrom bytes n y (suc i) k) ≡ Child j c
+        → cond b (Child (suc i) (start bytes n i)) (towardFrom bytes n y (suc i) k) ≡ Child j c
         → (towardFrom bytes n y (suc i) k ≡ Child j c → (n < c) × (c ≤ y)) → (n < c) × (c ≤ y)
     by-test true q z rest =
         let is : start bytes n i ≡ c = cc in
@@ -139,28 +135,20 @@ module _ (f : ℕ) (r : Reading) (e : r ≡ reading f) where
       by-fault zero q = absurd (clash (cc))
       by-fault (suc f) q = (cc, omega arith)
 
-orElse-fault : (f rest : ℕ) → f ≢ 0 → orElse f rest ≡ f
-orElse-fault zero rest n = absurd (n refl)
-orElse-fault (suc f) rest n = refl
-
-unless-fault : (f : ℕ) (l : List ℕ) → f ≢ 0 → unless f l ≡ []
-unless-fault zero l n = absurd (n refl)
-unless-fault (suc f) l n = refl
-
 -- a refusal has a number from 1 on
 pub refused-by : (limit : ℕ) (bytes : List ℕ) (r : Reading) → r ≡ reading (fault limit bytes) → (number : ℕ) → r ≡ Refused number → number ≢ 0
 refused-by limit bytes r e number t none =
     let found = read-refused (fault limit bytes) r e number t in
     found .1 (sym (found .0) ∙ none)
 
--- The branch's three answers: the reader's refusal, 19, and a stretch of the bytes.
+-- The three answers of the branch: the reader's refusal, 19, and a part of the bytes.
 module _ (bytes : List ℕ) (n : ℕ) (r : Reading) (e : r ≡ reading (fault 64 bytes)) where
   pub branch-refused : (number : ℕ) → r ≡ Refused number → (number ≡ branchFault bytes n) × ([] ≡ branchPart bytes n)
   unfolding branchFault branchPart
   branch-refused number t =
       let q = read-refused (fault 64 bytes) r e number t in
-      rw (orElse-fault (fault 64 bytes) (pick (ltb n (length bytes)) 0 19) (q .1))
-      (q .0, sym (unless-fault (fault 64 bytes) (take (branchEnd bytes n - n) (drop n bytes)) (q .1)))
+      rw (← orElse-first (fault 64 bytes) (cond (ltb n (length bytes)) 0 19) (q .1))
+      (q .0, refused-other (fault 64 bytes) (take (branchEnd bytes n - n) (drop n bytes)) [] (q .1))
 
   pub branch-missing : r ≡ Tree → length bytes ≤ n → (19 ≡ branchFault bytes n) × ([] ≡ branchPart bytes n)
   unfolding branchFault branchPart

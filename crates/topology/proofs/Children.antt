@@ -1,5 +1,5 @@
--- The children of a node, by number: the first comes right after the node, the next one where its elder's branch ends. Each node but
--- the root is the child of one node, and what lies above it lies above that one or is it.
+-- The children of a node, by number: the first comes right after the node, and each next one where the branch of the child before it ends. Each node
+-- except the root is the child of one node, its parent; the nodes strictly above it are its parent and the nodes above the parent.
 use mathlib.Core.Path.{_≡_, refl, sym, ap, _∙_, subst}
 use mathlib.Core.Logic.{_≢_}
 use Prim.Native.Nat.{ℕ, zero, suc, _+_, _≤_, _<_}
@@ -8,13 +8,13 @@ use native.Mathlib.Omega.{arith}
 use mathlib.Core.List.{[], _∷_, _++_, append-assoc, append-nil}
 use lib.ListN.{length, drop, length-append}
 use lib.Seq.{drop-length, drop-append-seam}
-use Rattle.lists.proofs.Last.{split-last, last-unique}
+use Rattle.base.proofs.Last.{split-last, last-unique}
 use Rattle.topology.specs.Tree.{Topo, Forest, node, fnil, fcons, count, kids, width, size}
 use Rattle.topology.specs.Address.{Addr, nth, child, In, sub, Above, addr, ahead, num, subtree, childOf, depth, route}
 use Rattle.topology.proofs.Numbering.{addr-in, num-addr, num-lt, addr-num}
 use Rattle.topology.proofs.Ancestry.{in-front, in-below, in-join, sub-append, num-append, above-from, above-to, addr-inj}
 
--- Child i of node n is there.
+-- Child i of node n exists.
 abbrev pub HasChild : Topo → ℕ → ℕ → Type 0
 HasChild t n i = (n < size t) × (0 < i) × (i ≤ width (subtree t n))
 
@@ -36,7 +36,7 @@ module _ (t : Topo) (n i : ℕ) (h : HasChild t n i) where
   pub depth-childOf : depth t (childOf t n i) ≡ suc (depth t n)
   depth-childOf = omega (arith, ap length addr-childOf, length-append (addr t n) (i ∷ []))
 
--- the number of child i + 1: the node's, one more, and the nodes of the elder children
+-- the number of child i + 1: the node's number, plus one, plus the nodes of the children before it
 pub childOf-ahead : (t : Topo) (n i : ℕ) → n < size t → childOf t n (suc i) ≡ suc (n + ahead (kids (subtree t n)) i)
 unfolding childOf
 childOf-ahead t n i h =
@@ -69,7 +69,7 @@ childOf-next t n (suc i) h =
 pub child-within : (t : Topo) (n i : ℕ) → HasChild t n i → childOf t n i < n + size (subtree t n)
 child-within t n i h = above-from t n (childOf t n i) (h .0) (childOf-lt t n i h) (i ∷ [], addr-childOf t n i h) .1
 
--- a node strictly above another has a child that is that other or lies above it
+-- a node strictly above another has a child that is the other or lies above it
 pub child-toward : (t : Topo) (x y : ℕ) → x < size t → y < size t → Above (addr t x) (addr t y) → x ≢ y
     → (j : ℕ) × HasChild t x j × Above (addr t (childOf t x j)) (addr t y)
 child-toward t x y h g ([], e) n = absurd (n (addr-inj t x y h g (sym (e ∙ append-nil (addr t x)))))
@@ -109,11 +109,11 @@ parent-unique t n i m j h g e =
     let r = last-unique (addr t n) (addr t m) i j (sym (addr-childOf t n i h) ∙ ap (addr t) e ∙ addr-childOf t m j g) in
     (addr-inj t n m (h .0) (g .0) (r .0), r .1)
 
--- a node's address is its parent's and the child number behind it
+-- a node's address is its parent's address followed by the child number
 pub addr-under : (t : Topo) (n : ℕ) (p : Parent t n) → addr t n ≡ addr t (p .node) ++ (p .index ∷ [])
 addr-under t n p = ap (addr t) (sym (p .child)) ∙ addr-childOf t (p .node) (p .index) (p .has)
 
--- what lies strictly above a node is its parent or lies above that
+-- a node strictly above another is its parent or lies above the parent
 pub above-parent : (t : Topo) (a n : ℕ) → a < n → n < size t → n < a + size (subtree t a) → (p : Parent t n)
     → (a ≤ p .node) × (p .node < a + size (subtree t a))
 above-parent t a n l h g p =
@@ -134,7 +134,7 @@ above-parent t a n l h g p =
 pub route-self : (t : Topo) (x : ℕ) → route t x x ≡ []
 route-self t x = drop-length (addr t x)
 
--- The way down goes first to the child that is its end or lies above it.
+-- The way down goes first to the child that is its end or lies above the end.
 pub route-step : (t : Topo) (x y j : ℕ) → HasChild t x j → Above (addr t (childOf t x j)) (addr t y) → route t x y ≡ j ∷ route t (childOf t x j) y
 route-step t x y j h (d, e) =
     let c = addr-childOf t x j h in

@@ -1,6 +1,6 @@
--- The running debt, as paper 02, 2.4 has it. After accepted bytes, and so after each accepted byte (proofs/Accepted), it is one plus the child counts
--- read so far, less the number of bytes read (`debt-value`), and the tree is complete, that is, the bytes are the code of a tree, exactly when it
--- is 0 (`debt-complete`).
+-- The running debt, as in paper 02, 2.4. After accepted bytes, and so after each accepted byte (proofs/Accepted), it is one plus the child counts read
+-- so far, minus the number of bytes read (`debt-value`). The tree is complete, that is, the bytes are the code of a tree, exactly when the debt is 0
+-- (`debt-complete`).
 use mathlib.Core.Path.{_≡_, refl, sym, ap, _∙_}
 use mathlib.Core.Logic.{_↔_}
 use Prim.Native.Nat.{ℕ, suc, _+_, _≤_}
@@ -9,7 +9,7 @@ use native.Mathlib.Omega.{arith}
 use mathlib.Core.List.{List, [], _∷_, _++_, append-assoc, append-nil}
 use lib.ListN.{length}
 use borrow.Author.Tests.{eq-eqb}
-use Rattle.lists.specs.Sum.{sum}
+use Rattle.base.specs.Sum.{sum}
 use Rattle.topology.specs.Tree.{Topo, Forest, node, fnil, fcons, count, code, codes}
 use Rattle.topology.specs.Reader.{owing, pending, marking, faultFrom, fault, tree}
 use Rattle.topology.specs.Debt.{debtAfter, marksAfter, Accepted}
@@ -30,7 +30,7 @@ pub debt-value : (limit : ℕ) (bytes : List ℕ) → Accepted limit bytes → d
 unfolding fault
 debt-value limit bytes h = value-from limit 0 1 [] bytes h
 
--- ---- past a tree
+-- ---- after the code of a tree
 
 -- bs read from debt d and marks ms leave the same debt and marks as cs read from e and ns
 abbrev pub LeadAlike : ℕ → List ℕ → List ℕ → ℕ → List ℕ → List ℕ → Type 0
@@ -49,7 +49,7 @@ mutual
       let b = past-forest ts m ms bs in
       rw (suc-add (count ts) m, mark-open (count ts) m ms, append-assoc (code t) (codes ts) bs) (a .0 ∙ b .0, a .1 ∙ b .1)
 
--- ---- complete
+-- ---- the tree is complete
 
 pub debt-complete : (limit : ℕ) (bytes : List ℕ) → Accepted limit bytes → ((t : Topo) × (code t ≡ bytes)) ↔ (debtAfter 1 bytes ≡ 0)
 debt-complete limit bytes h = (

@@ -6,7 +6,7 @@ use native.Mathlib.Numerals.{one-add}
 use native.Mathlib.Omega.{arith}
 use mathlib.Core.List.{List, [], _∷_, _++_, append-assoc, append-nil}
 use lib.ListN.{length, getD, length-append}
-use Rattle.lists.proofs.Part.{Part, part-append, part-behind, part-part, getD-part}
+use Rattle.base.proofs.Part.{Part, part-append, part-behind, part-part, getD-part}
 use Rattle.topology.specs.Tree.{Topo, Forest, node, fnil, fcons, count, width, code, codes, size, sizes}
 use Rattle.topology.specs.Address.{Addr, nth, In, sub, addr, ahead, num, subtree}
 use Rattle.topology.specs.Reader.{first, others, forest, head, tree}
@@ -49,7 +49,7 @@ mutual
   length-codes fnil = refl
   length-codes (fcons t ts) = omega (arith, length-append (code t) (codes ts), length-code t, length-codes ts)
 
--- the code of a subtree stands in the code of the tree at the subtree's number
+-- the code of a subtree is in the code of the tree, at the subtree's number
 codes-nth : (ts : Forest) (i : ℕ) → i < count ts → Part (codes ts) (ahead ts i) (code (nth ts i))
 codes-nth fnil i h = absurd (not-suc-le-zero h)
 codes-nth (fcons t ts) zero h = part-append (code t) (codes ts)

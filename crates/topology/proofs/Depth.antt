@@ -1,7 +1,7 @@
--- How far down the next node lies: as many steps as there are marks (`depth-next`). So refusal 5 is for a node 9 steps down.
+-- The depth of the next node: it is the number of marks (`depth-next`). So refusal 5 is for a node 9 steps down.
 --
--- Past its elder trees a forest is read as the tree at an index is (`in-forest`); the law follows by induction along the way down to a node. The
--- debt alone would not do (`depth-apart`).
+-- In a forest, behind its first trees, reading goes on as in the tree at that index (`in-forest`). The law follows by induction along the way down to
+-- a node. The debt alone does not determine the depth (`depth-apart`).
 use mathlib.Core.Path.{_≡_, refl, sym, ap, _∙_}
 use Prim.Native.Nat.{ℕ, zero, suc, _+_, _<_}
 use native.Mathlib.Nat.{add-zero, zero-add, suc-add, not-suc-le-zero, le-of-suc-le-suc}
@@ -53,7 +53,7 @@ marks-child (node ts) i k h g r m ms =
 pub depth-next : (t : Topo) (n : ℕ) → n < size t → length (marksAfter 1 [] (take n (code t))) ≡ depth t n
 depth-next t n h = node-ind MarksDown marks-root marks-child t n h 0 [] ∙ zero-add (depth t n)
 
--- After `2 2` and after `4 0` three nodes are owed, and in the trees `2 2 0 0 0` and `4 0 0 0 0` the next one lies 2 steps down and 1.
+-- After `2 2` and after `4 0` three nodes are owed. The next one lies 2 steps down in the tree `2 2 0 0 0`, and 1 step down in `4 0 0 0 0`.
 pub depth-apart : (debtAfter 1 (2 ∷ 2 ∷ []) ≡ 3) × (debtAfter 1 (4 ∷ 0 ∷ []) ≡ 3)
     × (depth (tree (2 ∷ 2 ∷ 0 ∷ 0 ∷ 0 ∷ [])) 2 ≡ 2) × (depth (tree (4 ∷ 0 ∷ 0 ∷ 0 ∷ 0 ∷ [])) 2 ≡ 1)
 unfolding tree addr

@@ -1,4 +1,4 @@
--- Bytes that draw trees, one behind the other: how a byte before them makes one tree of the first of them.
+-- Bytes that draw several trees, one after the other; a byte before them makes one tree of the first of them.
 use mathlib.Core.Path.{_≡_, refl, sym, ap, _∙_}
 use Prim.Native.Nat.{ℕ, zero, suc, _+_, _≤_}
 use native.Mathlib.Nat.{zero-add, not-suc-le-zero, le-of-suc-le-suc}
@@ -23,11 +23,11 @@ codes-split zero ts = refl
 codes-split (suc b) fnil = refl
 codes-split (suc b) (fcons t ts) = append-assoc (code t) (codes (first b ts)) (codes (others b ts)) ∙ ap (λ (l : List ℕ). code t ++ l) (codes-split b ts)
 
--- the bytes draw so many trees
+-- the bytes draw the given number of trees
 abbrev pub Draws : List ℕ → ℕ → Type 0
 Draws bs k = (count (forest bs) ≡ k) × (codes (forest bs) ≡ bs)
 
--- a byte more, of a node that takes the first b of the trees behind it as its children
+-- one more byte, for a node that takes the first b of the trees behind it as its children
 pub draws-node : (b m : ℕ) (bs : List ℕ) → Draws bs (b + m) → Draws (b ∷ bs) (suc m)
 draws-node b m bs d =
     let l : b ≤ count (forest bs) = omega (arith, d .0) in (

@@ -1,46 +1,47 @@
--- The reader as it was before request 2.4, which kept the nodes still owed level by level; and that every topology and every fault reads as
--- before (`reads-as-before`). The levels stand for a debt, all their nodes together, and for marks, the nodes owed behind each level but the last;
--- to pass over levels that are complete is to pass over the marks that the debt has reached.
+-- The reader as it was before request 2.4, which counted the owed nodes level by level, and the proof that every topology and every fault is read as
+-- before (`reads-as-before`). The levels correspond to a debt, the sum over all levels, and to marks, for each level except the last the nodes owed
+-- behind it. To skip complete levels is to skip the marks that the debt has reached.
 use mathlib.Core.Path.{_≡_, refl, sym, ap, ap₂, _∙_}
 use Prim.Native.Nat.{ℕ, zero, suc, pred, _+_, _<_}
 use native.Mathlib.Decide.{decLt}
 use native.Mathlib.Omega.{arith}
 use mathlib.Core.List.{List, [], _∷_}
-use mathlib.Core.Bool.{Bool}
+use mathlib.Core.Bool.{Bool, cond}
 use lib.ListN.{length}
 use lib.Dec.{leb, ltb, eqb}
 use borrow.Author.Tests.{lt-ltb, le-ltb, ne-eqb}
-use Rattle.lists.specs.Sum.{sum}
-use Rattle.topology.specs.Reader.{pick, orElse, owing, pending, marking, faultAt, faultFrom, fault}
+use Rattle.base.specs.Sum.{sum}
+use Rattle.base.specs.Refusals.{orElse}
+use Rattle.topology.specs.Reader.{owing, pending, marking, faultAt, faultFrom, fault}
 
--- ---- as it was
+-- ---- the reader before request 2.4
 
--- The nodes still owed are counted level by level, the deepest first, the root alone at first. So the next node belongs to the first level and
--- lies as many steps down as there are levels behind that one. No level that is complete stands first.
+-- The owed nodes are counted level by level, the deepest first; at the start only the root is owed. So the next node belongs to the first level, and
+-- its depth is the number of levels behind that one. The first level is never complete.
 abbrev settle : List ℕ → List ℕ
 settle [] = []
 settle (zero ∷ ks) = settle ks
 settle (suc k ∷ ks) = suc k ∷ ks
 
--- what is owed once the next node has come, with b children
+-- what is owed after the next node, which has b children
 abbrev after : ℕ → List ℕ → List ℕ
 after b [] = []
 after b (k ∷ ks) = settle (b ∷ pred k ∷ ks)
 
--- the fault of byte b where n nodes came before it and nodes are owed at so many levels, in the order of the tests; 0: none
+-- the fault of byte b, the first in the order of the tests, where n nodes came before it and nodes are owed at so many levels; 0: none
 abbrev faultByLevelsAt : ℕ → ℕ → ℕ → ℕ → ℕ
-faultByLevelsAt limit n levels b = pick (eqb levels 0) 2 (pick (leb limit n) 3 (pick (ltb 8 b) 4 (pick (ltb 9 levels) 5 0)))
+faultByLevelsAt limit n levels b = cond (eqb levels 0) 2 (cond (leb limit n) 3 (cond (ltb 8 b) 4 (cond (ltb 9 levels) 5 0)))
 
 -- the first fault of the bytes that are left
 abbrev faultByLevelsFrom : ℕ → ℕ → List ℕ → List ℕ → ℕ
-faultByLevelsFrom limit n owed [] = pick (eqb (length owed) 0) 0 1
+faultByLevelsFrom limit n owed [] = cond (eqb (length owed) 0) 0 1
 faultByLevelsFrom limit n owed (b ∷ bs) =
     let rest = faultByLevelsFrom limit (suc n) (after b owed) bs in orElse (faultByLevelsAt limit n (length owed) b) rest
 
 pub faultByLevels : ℕ → List ℕ → ℕ
 faultByLevels limit bytes = faultByLevelsFrom limit 0 (1 ∷ []) bytes
 
--- ---- as it is
+-- ---- the reader now
 
 -- the first level is not complete
 abbrev Settled : List ℕ → Type 0
@@ -53,7 +54,7 @@ settled [] = tt
 settled (zero ∷ ks) = settled ks
 settled (suc k ∷ ks) = tt
 
--- the marks for nodes owed level by level
+-- the marks that correspond to nodes owed level by level
 abbrev marksOf : List ℕ → List ℕ
 marksOf [] = []
 marksOf (k ∷ []) = []
@@ -63,7 +64,7 @@ marks-length : (k : ℕ) (ks : List ℕ) → length (marksOf (k ∷ ks)) ≡ len
 marks-length k [] = refl
 marks-length k (j ∷ ks) = ap suc (marks-length j ks)
 
--- the marks do not depend on what the first level owes
+-- the marks do not depend on the number of nodes owed at the first level
 marks-first : (k j : ℕ) (ks : List ℕ) → marksOf (k ∷ ks) ≡ marksOf (j ∷ ks)
 marks-first k j [] = refl
 marks-first k j (i ∷ ks) = refl
@@ -86,7 +87,7 @@ same-fault : (limit n b k : ℕ) (ks : List ℕ)
     → faultAt limit n (sum (suc k ∷ ks)) (length (marksOf (suc k ∷ ks))) b ≡ faultByLevelsAt limit n (suc (length ks)) b
 same-fault limit n b k ks =
     rw (ne-eqb (suc k + sum ks) 0 (omega arith), ne-eqb (suc (length ks)) 0 (omega arith), marks-length (suc k) ks)
-    (ap (λ (t : Bool). pick (leb limit n) 3 (pick (ltb 8 b) 4 (pick {A = ℕ} t 5 0))) (deeper (decLt 8 (length ks))))
+    (ap (λ (t : Bool). cond (leb limit n) 3 (cond (ltb 8 b) 4 (cond {A = ℕ} t 5 0))) (deeper (decLt 8 (length ks))))
   where
     deeper : Dec (8 < length ks) → ltb 8 (length ks) ≡ ltb 9 (suc (length ks))
     deeper (yes l) = lt-ltb 8 (length ks) l ∙ sym (lt-ltb 9 (suc (length ks)) (omega arith))

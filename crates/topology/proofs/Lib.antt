@@ -1,6 +1,6 @@
 pub mod Numbering
 pub mod Ancestry
-pub mod Order
+pub mod AncestryOrder
 pub mod Children
 pub mod Decoding
 pub mod Reader
@@ -11,8 +11,8 @@ pub mod Debt
 pub mod Depth
 pub mod Levels
 pub mod Progress
-pub mod Scan
+pub mod BranchEnd
 pub mod Cases
 pub mod Lookup
-pub mod Refusals
-pub mod Prefix
+pub mod FaultMost
+pub mod PrefixFault

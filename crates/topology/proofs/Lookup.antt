@@ -1,4 +1,4 @@
--- What the definitions over bytes are where the bytes are the code of a tree: the branch's end, the branch, the children, ancestry and the
+-- The meaning of the definitions over bytes where the bytes are the code of a tree: the end of a branch, the branch, the children, ancestry and the
 -- child toward a node.
 use mathlib.Core.Path.{_≡_, refl, sym, ap, _∙_, subst}
 use mathlib.Core.Logic.{_≢_}
@@ -7,14 +7,15 @@ use native.Mathlib.Nat.{zero-add, not-suc-le-zero}
 use native.Mathlib.Decide.{decLt, ℕ-discrete}
 use native.Mathlib.Omega.{arith}
 use mathlib.Core.List.{List, _++_, append-assoc}
-use mathlib.Core.Bool.{Bool, true, false, _&&_}
+use mathlib.Core.Bool.{Bool, true, false, _&&_, cond}
 use lib.ListN.{length, take, drop, getD, List·getD-eq-default}
 use lib.Dec.{leb, ltb}
 use borrow.Author.Tests.{leb-true, ltb-true, le-leb, lt-ltb}
-use Rattle.lists.proofs.Part.{drop-part, take-part}
+use Rattle.base.proofs.Part.{drop-part, take-part}
+use Rattle.base.proofs.Tests.{clash}
 use Rattle.topology.specs.Tree.{Topo, Forest, node, fnil, fcons, count, width, code, codes, size, sizes}
 use Rattle.topology.specs.Address.{Above, addr, subtree, childOf}
-use Rattle.topology.specs.Reader.{pick, fault, tree, reading}
+use Rattle.topology.specs.Reader.{fault, tree, reading}
 use Rattle.topology.specs.Branch.{span, branchEnd, start, childAt, isAbove, towardFrom, towardAt, branchPart}
 use Rattle.topology.specs.declared.Found.the-variants.{Node, Missing}
 use Rattle.topology.specs.declared.Toward.{Toward}
@@ -24,8 +25,8 @@ use Rattle.topology.proofs.Numbering.{addr-in}
 use Rattle.topology.proofs.Ancestry.{above-from, above-to, in-breadth}
 use Rattle.topology.proofs.Children.{HasChild, childOf-lt, childOf-first, childOf-next, subtree-childOf, child-toward}
 use Rattle.topology.proofs.Decoding.{code-at, length-code, byte-width}
-use Rattle.topology.proofs.Scan.{span-zero}
-use Rattle.topology.proofs.Cases.{clash, child-found, branch-there}
+use Rattle.topology.proofs.BranchEnd.{span-zero}
+use Rattle.topology.proofs.Cases.{child-found, branch-there}
 use Rattle.topology.proofs.Reader.{drawn, within}
 
 mutual
@@ -79,13 +80,13 @@ child-code t n (suc i) h =
     sym (child-found (code t) n (suc i) (suc i) (start (code t) n i) (ap (start (code t) n) e) refl (omega arith) (omega (arith, byte-width t n (h .0), h .2)))
     ∙ ap Node (start-code t n i (h .0) (h .2))
 
--- and a node has no other
+-- and a node has no other children
 pub child-there : (t : Topo) (n i m : ℕ) → childAt (code t) n i ≡ Node m → HasChild t n i
 unfolding childAt
 child-there t n zero m e = absurd (clash (cc))
 child-there t n (suc i) m e = by-tests (ltb i (getD (code t) n 0)) refl e (decLt n (size t))
   where
-    by-tests : (b : Bool) → ltb i (getD (code t) n 0) ≡ b → pick b (Node (start (code t) n i)) Missing ≡ Node m → Dec (n < size t) → HasChild t n (suc i)
+    by-tests : (b : Bool) → ltb i (getD (code t) n 0) ≡ b → cond b (Node (start (code t) n i)) Missing ≡ Node m → Dec (n < size t) → HasChild t n (suc i)
     by-tests true q e (yes h) = (h, omega arith, omega (arith, ltb-true i (getD (code t) n 0) q, byte-width t n h))
     by-tests true q e (no g) =
         let d = List·getD-eq-default (code t) 0 {n = n} (omega (arith, length-code t)) in
@@ -119,7 +120,7 @@ abbrev pub Leads : Topo → ℕ → ℕ → Toward → Type 0
 Leads t x y (Child i n) = IsToward t x y i n
 Leads t x y Nowhere = ⊥
 
--- The children are looked at in turn, and child `last` is y or lies above it, so that one is found there at the latest.
+-- The children are tried in order, and child `last` is y or lies above it. So one is found there at the latest.
 module _ (t : Topo) (x y last : ℕ) (has : HasChild t x last) (below : y < size t) (above : Above (addr t (childOf t x last)) (addr t y)) where
   module _ (i : ℕ) (l : i < last) where
     here : HasChild t x (suc i)
@@ -140,7 +141,7 @@ module _ (t : Topo) (x y last : ℕ) (has : HasChild t x last) (below : y < size
 
     toward-by : (k : ℕ) (b : Bool) → isAbove (code t) (start (code t) x i) y ≡ b
         → (suc i < last → Leads t x y (towardFrom (code t) x y (suc i) k))
-        → Leads t x y (pick b (Child (suc i) (start (code t) x i)) (towardFrom (code t) x y (suc i) k))
+        → Leads t x y (cond b (Child (suc i) (start (code t) x i)) (towardFrom (code t) x y (suc i) k))
     toward-by k true e rest =
         let lt : start (code t) x i < size t = omega (arith, at, childOf-lt t x (suc i) here) in
         record { has = here; node = at; above = code-above t (start (code t) x i) y lt e }
@@ -157,7 +158,7 @@ toward-code t x y h g a n =
     let c = child-toward t x y h g a n in
     toward-from t x y (c .0) (c .1) g (c .2) 0 (getD (code t) x 0) (omega (arith, byte-width t x h)) (c .1 .1)
 
--- ---- valid bytes: the same, for whoever has the bytes and no tree
+-- ---- the same for valid bytes
 
 module _ (limit : ℕ) (bytes : List ℕ) (e : fault limit bytes ≡ 0) where
   pub valid-size : size (tree bytes) ≡ length bytes
@@ -191,7 +192,7 @@ module _ (limit : ℕ) (bytes : List ℕ) (e : fault limit bytes ≡ 0) where
     pub start-lt : start bytes n i < length bytes
     start-lt = omega (arith, valid-start, childOf-lt (tree bytes) n (suc i) valid-has, valid-size)
 
-  -- a child that the bytes show, and one that they do not
+  -- a child that the bytes have, and one that they do not have
   pub valid-child : (n c next : ℕ) → childAt bytes n c ≡ Node next → HasChild (tree bytes) n c × (next ≡ childOf (tree bytes) n c)
   valid-child n c next f =
       let g : childAt (code (tree bytes)) n c ≡ Node next = ap (λ (bs : List ℕ). childAt bs n c) (drawn limit bytes e) ∙ f in

@@ -1,16 +1,16 @@
--- The marks of the branches that are not complete, kept in an array from an index on; and how large a debt can be.
+-- The marks of the branches that are not complete, kept in an array from an index on; and a bound on the debt.
 use mathlib.Core.Path.{_≡_, refl}
 use Prim.Native.Nat.{ℕ, suc, pred, _+_, _*_, _≤_, _<_}
 use native.Mathlib.Omega.{arith}
 use mathlib.Core.List.{List, [], _∷_}
-use mathlib.Core.Bool.{Bool, true, false}
+use mathlib.Core.Bool.{Bool, true, false, cond}
 use lib.ListN.{length, getD, drop, drop-of-length-le}
 use lib.Seq.{drop-cons}
 use lib.Dec.{ltb}
 use borrow.Author.Tests.{lt-ltb, le-ltb, ltb-false}
-use Rattle.topology.specs.Reader.{pick, pending, owing, marking}
+use Rattle.topology.specs.Reader.{pending, owing, marking}
 
--- the branch whose mark is m: complete at the debt m, and not where more is owed
+-- the branch with mark m is complete when the debt is m, and not complete when the debt is greater
 pub mark-met : (m : ℕ) (ms : List ℕ) → pending m (m ∷ ms) ≡ pending m ms
 mark-met m ms = rw (le-ltb m m (omega arith))
 
@@ -20,7 +20,7 @@ mark-open k m ms = rw (lt-ltb m (suc (k + m)) (omega arith))
 -- ---- in an array
 
 module _ (debt : ℕ) (l : List ℕ) (i : ℕ) where
-  -- a mark less than the debt is the first of a branch that is not complete; any other is passed over
+  -- a mark less than the debt is the first of a branch that is not complete; any other is skipped
   pub mark-pending : i < length l → getD l i 0 < debt → drop i l ≡ pending debt (drop i l)
   mark-pending h g = rw (drop-cons l i 0 h, lt-ltb (getD l i 0) debt g)
 
@@ -30,7 +30,7 @@ module _ (debt : ℕ) (l : List ℕ) (i : ℕ) where
   pub mark-none : length l ≤ i → drop i l ≡ pending debt (drop i l)
   mark-none h = rw (drop-of-length-le l h)
 
--- ---- how large a debt can be
+-- ---- a bound on the debt
 
 -- A node has at most 8 children: the debt is at most 8 above the first mark, and each mark at most 8 above the next.
 abbrev pub Bounded : ℕ → List ℕ → Type 0
@@ -49,7 +49,7 @@ bounded-pending : (debt : ℕ) (marks : List ℕ) → Bounded debt marks → Bou
 bounded-pending debt [] b = b
 bounded-pending debt (m ∷ ms) b = by-test (ltb m debt) refl (λ l. bounded-pending debt ms (bounded-less debt m ms l (b .1)))
   where
-    by-test : (t : Bool) → ltb m debt ≡ t → (debt ≤ m → Bounded debt (pending debt ms)) → Bounded debt (pick t (m ∷ ms) (pending debt ms))
+    by-test : (t : Bool) → ltb m debt ≡ t → (debt ≤ m → Bounded debt (pending debt ms)) → Bounded debt (cond t (m ∷ ms) (pending debt ms))
     by-test true e r = b
     by-test false e r = r (ltb-false m debt e)
 

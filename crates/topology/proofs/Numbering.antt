@@ -1,7 +1,7 @@
--- Node numbers and addresses, both ways.
+-- Node numbers and addresses, in both directions.
 --
--- Each node but the root is node m of the branch of some child, and its number is m, the nodes of the elder children, and one more.
--- `node-ind` is induction along that; with it and its match on the side of the addresses, `addr-child`, every law here is short.
+-- Each node except the root is node m of the branch of some child, and its number is m, plus the nodes of the children before that one, plus one.
+-- `node-ind` is the induction that follows this. With it and its counterpart for addresses, `addr-child`, every law here is short.
 use mathlib.Core.Path.{_≡_, refl, sym, ap, _∙_, subst}
 use Prim.Native.Nat.{ℕ, zero, suc, _+_, _-_, _<_, suc-le-suc}
 use native.Mathlib.Nat.{zero-add, add-zero, not-suc-le-zero, le-of-suc-le-suc, zero-lt-suc}
@@ -11,7 +11,7 @@ use native.Mathlib.Omega.{arith}
 use mathlib.Core.List.{[], _∷_, map}
 use lib.ListN.{length, getD, length-append, List·getD-append}
 use lib.Seq.{getD-append-add}
-use Rattle.lists.proofs.Map.{length-map, getD-map}
+use Rattle.base.proofs.Map.{length-map, getD-map}
 use Rattle.topology.specs.Tree.{Topo, Forest, node, fnil, fcons, count, kids, width, size, sizes}
 use Rattle.topology.specs.Address.{Addr, nth, In, addrs, addrsFrom, addr, ahead, num}
 
@@ -33,7 +33,7 @@ ahead-lt fnil i m h g = absurd (not-suc-le-zero h)
 ahead-lt (fcons t ts) zero m h g = omega arith
 ahead-lt (fcons t ts) (suc i) m h g = omega (arith, ahead-lt ts i m (le-of-suc-le-suc h) g)
 
--- where a node of a forest lies: in which tree, and which node of that
+-- the position of a node in a forest: in which tree, and which node of that tree
 pub record Place (ts : Forest) (n : ℕ) : Type 0 where
   pub index : ℕ
   pub inner : ℕ
@@ -57,7 +57,7 @@ place (fcons t ts) n h = here-or-later (decLt n (size t)) (place ts (n - size t)
           sum = omega (arith, p .sum);
         }
 
--- Induction over the nodes of a tree: what holds of the root, and of a node where it holds of that node in the branch of a child.
+-- Induction over the nodes of a tree: P holds of the root, and it holds of a node if it holds of that node in the branch of a child.
 pub node-ind : (P : Topo → ℕ → Type 0) → ((t : Topo) → P t 0)
     → ((t : Topo) (i m : ℕ) → i < width t → m < size (nth (kids t) i) → P (nth (kids t) i) m → P t (suc (ahead (kids t) i + m)))
     → (t : Topo) (n : ℕ) → n < size t → P t n
@@ -71,7 +71,7 @@ node-ind P root step t n h = upTo (suc n) t n (omega arith) h
         let deeper = upTo fuel (nth ts (p .index)) (p .inner) (omega (arith, p .sum)) (p .below) in
         subst (λ (k : ℕ). P (node ts) (suc k)) (sym (p .sum)) (step (node ts) (p .index) (p .inner) (p .there) (p .below) deeper)
 
--- node m of child i's branch has that child's number before its address there
+-- node m of child i's branch: its address is the child number followed by its address in the branch
 getD-addrsFrom : (ts : Forest) (k i m : ℕ) → i < count ts → m < size (nth ts i)
     → getD (addrsFrom ts k) (ahead ts i + m) [] ≡ (k + i) ∷ getD (addrs (nth ts i)) m []
 getD-addrsFrom fnil k i m h g = absurd (not-suc-le-zero h)
@@ -101,7 +101,7 @@ pub addr-root : (t : Topo) → addr t 0 ≡ []
 unfolding addr
 addr-root (node ts) = refl
 
--- Each number below the size has an address of the tree, and that address has the number.
+-- Each number below the size has an address in the tree, and that address has the number.
 pub addr-in : (t : Topo) (n : ℕ) → n < size t → In t (addr t n)
 addr-in = node-ind (λ t n. In t (addr t n)) (λ t. rw addr-root tt) (λ t i m h g r. rw (addr-child t i m h g) (zero-lt-suc i, h, r))
 
@@ -109,7 +109,7 @@ pub num-addr : (t : Topo) (n : ℕ) → n < size t → num t (addr t n) ≡ n
 num-addr =
     node-ind (λ t n. num t (addr t n) ≡ n) (λ t. rw addr-root) (λ t i m h g r. rw (addr-child t i m h g, r))
 
--- Each address of the tree has a number below the size, whose address it is.
+-- Each address in the tree has a number below the size, and that number has the address.
 pub num-lt : (t : Topo) (a : Addr) → In t a → num t a < size t
 num-lt (node ts) [] a = omega arith
 num-lt t (zero ∷ a) i = absurd (not-suc-le-zero (i .0))

@@ -1,23 +1,25 @@
--- The reader at work: what is known when it has read i bytes without fault, and what follows at each of its steps.
+-- The reader's loop: what is known when i bytes are read without fault, and what follows at each step.
 use mathlib.Core.Path.{_≡_, refl, sym, ap, ap₂, _∙_}
 use mathlib.Core.Logic.{_≢_}
 use Prim.Native.Nat.{ℕ, zero, suc, pred, _+_, _-_, _≤_, _<_}
 use native.Mathlib.Numerals.{add-one}
 use native.Mathlib.Omega.{arith}
 use mathlib.Core.List.{List, _∷_}
+use mathlib.Core.Bool.{cond}
 use lib.ListN.{length, take, drop, getD, set, replicate, length-drop, length-set, length-replicate, drop-of-length-le}
 use lib.Seq.{drop-cons}
 use lib.Dec.{eqb}
 use borrow.Author.Tests.{eq-eqb, ne-eqb}
-use Rattle.lists.specs.Sum.{sum}
-use Rattle.lists.proofs.Set.{drop-set}
-use Rattle.lists.proofs.Sum.{sum-take}
-use Rattle.topology.specs.Reader.{pick, orElse, owing, pending, marking, faultAt, faultFrom, fault, reading}
+use Rattle.base.specs.Sum.{sum}
+use Rattle.base.proofs.Set.{drop-set}
+use Rattle.base.proofs.Sum.{sum-take}
+use Rattle.base.specs.Refusals.{orElse}
+use Rattle.topology.specs.Reader.{owing, pending, marking, faultAt, faultFrom, fault, reading}
 use Rattle.topology.specs.declared.Reading.the-variants.{Tree, Refused}
 use Rattle.topology.proofs.Reader.{sound}
 use Rattle.topology.proofs.Marks.{Bounded, bounded-most, bounded-marking}
 
--- `value` is paper 02, 2.4's sentence about the running value of the code.
+-- `value` is what paper 02, 2.4 says of the running value of the code.
 pub record Progress (limit : ℕ) (bytes : List ℕ) (debt : ℕ) (marks : List ℕ) (top i : ℕ) : Type 0 where
   pub read : i ≤ length bytes
   pub places : length marks ≡ 9
@@ -26,7 +28,7 @@ pub record Progress (limit : ℕ) (bytes : List ℕ) (debt : ℕ) (marks : List 
   pub bounded : Bounded debt (drop top marks)
   pub same : faultFrom limit i debt (drop top marks) (drop i bytes) ≡ fault limit bytes
 
--- the byte can be paid, there is a place for its mark, and its children can be added
+-- the byte's node is owed, there is a place for its mark, and its children can be added to the debt
 pub record Payable (debt top children : ℕ) : Type 0 where
   pub owed : 0 < debt
   pub place : 0 < top
@@ -50,7 +52,7 @@ module _ (limit : ℕ) (bytes : List ℕ) (debt : ℕ) (marks : List ℕ) (top i
   depth-is = length-drop top marks ∙ ap (λ (n : ℕ). n - top) (p .places)
 
   -- at the end the tree is complete, or bytes are missing
-  ends : length bytes ≤ i → fault limit bytes ≡ pick (eqb debt 0) 0 1
+  ends : length bytes ≤ i → fault limit bytes ≡ cond (eqb debt 0) 0 1
   ends h = sym (p .same) ∙ ap (faultFrom limit i debt (drop top marks)) (drop-of-length-le bytes h)
 
   pub complete : length bytes ≤ i → debt ≡ 0 → Tree ≡ reading (fault limit bytes)

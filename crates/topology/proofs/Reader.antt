@@ -1,21 +1,21 @@
 -- The reader accepts exactly the codes of the trees within the limits.
 --
--- One way (`accepts`), by induction over trees: to read the code of a tree that fits takes one from the debt and leaves the marks of the branches
--- that are then not complete. Other way: bytes without fault owe nothing, so they draw one tree as they are (`drawn`); and the same induction over
--- that tree gives back the limits (`within`).
+-- It accepts them (`accepts`), by induction over trees: reading the code of a tree that fits reduces the debt by one and leaves the marks of the
+-- branches that are then not complete. Conversely, bytes without fault owe nothing, so they draw one tree (`drawn`), and by the same induction over
+-- that tree it is within the limits (`within`).
 use mathlib.Core.Path.{_≡_, refl, sym, ap, _∙_}
 use mathlib.Core.Logic.{_≢_}
 use Prim.Native.Nat.{ℕ, suc, _+_, _≤_, _<_}
 use native.Mathlib.Nat.{zero-add, suc-add}
 use native.Mathlib.Omega.{arith}
 use mathlib.Core.List.{List, [], _∷_, _++_, append-assoc, append-nil}
-use mathlib.Core.Bool.{Bool, true, false}
+use mathlib.Core.Bool.{Bool, true, false, cond}
 use lib.ListN.{length}
 use lib.Dec.{eqb, leb, ltb}
 use borrow.Author.Tests.{eqb-false, leb-false, ltb-false, ne-eqb, lt-leb, le-ltb}
+use Rattle.base.proofs.Refusals.{orElse-none}
 use Rattle.topology.specs.Tree.{Topo, Forest, node, fnil, fcons, count, code, codes, size, sizes, height, heights, breadth, breadths}
-use Rattle.topology.specs.Reader.{Within, pick, pending, faultAt, faultFrom, fault, tree}
-use Rattle.topology.proofs.Refusals.{orElse-none}
+use Rattle.topology.specs.Reader.{Within, pending, faultAt, faultFrom, fault, tree}
 use Rattle.topology.specs.Debt.{Accepted}
 use Rattle.topology.proofs.Marks.{mark-met, mark-open}
 use Rattle.topology.proofs.Forests.{draws-tree}
@@ -36,7 +36,7 @@ pub sound : (limit n debt depth b : ℕ) → faultAt limit n debt depth b ≡ 0 
 sound limit n debt depth b e = by-tests (eqb debt 0) (leb limit n) (ltb 8 b) (ltb 8 depth) refl refl refl refl e
   where
     by-tests : (w x y z : Bool) → eqb debt 0 ≡ w → leb limit n ≡ x → ltb 8 b ≡ y → ltb 8 depth ≡ z
-        → _≡_ {A = ℕ} (pick w 2 (pick x 3 (pick y 4 (pick z 5 0)))) 0 → Sound limit n debt depth b
+        → _≡_ {A = ℕ} (cond w 2 (cond x 3 (cond y 4 (cond z 5 0)))) 0 → Sound limit n debt depth b
     by-tests true x y z ew ex ey ez e = absurd (omega arith)
     by-tests false true y z ew ex ey ez e = absurd (omega arith)
     by-tests false false true z ew ex ey ez e = absurd (omega arith)
@@ -45,7 +45,7 @@ sound limit n debt depth b e = by-tests (eqb debt 0) (leb limit n) (ltb 8 b) (lt
         let owed : debt ≢ 0 = eqb-false debt 0 ew in
         omega (arith, leb-false limit n ex, ltb-false 8 b ey, ltb-false 8 depth ez)
 
--- What s nodes with at most b children each need, on h levels below a node `depth` steps down, where n nodes came before them.
+-- What s nodes with at most b children each require, on h levels below a node at the given depth, where n nodes came before them.
 record Room (limit n depth s b h : ℕ) : Type 0 where
   nodes : n + s ≤ limit
   children : b ≤ 8
@@ -61,11 +61,11 @@ RoomsFor limit n marks ts = Room limit n (length marks) (sizes ts) (breadths ts)
 abbrev onward : ℕ → ℕ → ℕ → List ℕ → List ℕ → ℕ
 onward limit n debt marks bs = faultFrom limit n debt (pending debt marks) bs
 
--- the same by another way of writing n
+-- the same for an equal n
 onward-at : (limit debt : ℕ) (marks bs : List ℕ) {n m : ℕ} → n ≡ m → onward limit n debt marks bs ≡ onward limit m debt marks bs
 onward-at limit debt marks bs e = ap (λ (m : ℕ). onward limit m debt marks bs) e
 
--- a branch before its first child and behind its last one
+-- a branch before one of its children, and behind its last one
 onward-open : (limit n k m : ℕ) (marks bs : List ℕ) → onward limit n (suc k + m) (m ∷ marks) bs ≡ faultFrom limit n (suc (k + m)) (m ∷ marks) bs
 onward-open limit n k m marks bs = rw (suc-add k m, mark-open k m marks)
 
@@ -130,7 +130,7 @@ within limit bytes e =
     let r = fits-tree (tree bytes) limit 0 0 [] [] f in
     omega (arith, r .0)
 
--- What has no fault under one limit has none under a wider one.
+-- Bytes without fault under one limit have none under a wider limit.
 pub fault-wider : (limit wider : ℕ) (bytes : List ℕ) → limit ≤ wider → fault limit bytes ≡ 0 → fault wider bytes ≡ 0
 fault-wider limit wider bytes h e =
     let w = within limit bytes e in

@@ -1,11 +1,11 @@
--- Addresses of nodes, as Definition 5.1 of document 001 has them, and node numbers: the places of the addresses in preorder, from 0.
+-- Addresses of nodes (Definition 5.1 of document 001), and node numbers: the positions of the addresses in preorder, from 0.
 use mathlib.Core.Path.{_≡_}
 use Prim.Native.Nat.{ℕ, zero, suc, _+_, _≤_, _<_}
 use mathlib.Core.List.{List, [], _∷_, _++_, map}
 use lib.ListN.{length, drop, getD}
 use Rattle.topology.specs.Tree.{Topo, Forest, node, fnil, fcons, leaf, kids, width, size}
 
--- the child numbers on the way down from the root
+-- an address: the child numbers from the root down to a node
 abbrev pub Addr : Type 0
 Addr = List ℕ
 
@@ -30,11 +30,11 @@ abbrev pub sub : Topo → Addr → Topo
 sub t [] = t
 sub t (i ∷ a) = sub (child t i) a
 
--- The node of the first address is that of the second or lies above it (Definition 5.2): the first is a prefix.
+-- The node at the first address is the node at the second or lies above it (Definition 5.2): the first address is a prefix of the second.
 abbrev pub Above : Addr → Addr → Type 0
 Above a b = (d : Addr) × (b ≡ a ++ d)
 
--- All addresses in preorder; those of a forest whose first tree is child k.
+-- All addresses of a tree in preorder; and those of a forest whose first tree is child k.
 abbrev mutual
   pub addrs : Topo → List Addr
   addrs (node ts) = [] ∷ addrsFrom ts 1
@@ -71,6 +71,6 @@ childOf t n i = num t (addr t n ++ (i ∷ []))
 abbrev pub depth : Topo → ℕ → ℕ
 depth t n = length (addr t n)
 
--- the child numbers on the way down from one node to another
+-- the child numbers from node x down to node y, if x is y or lies above it
 abbrev pub route : Topo → ℕ → ℕ → Addr
 route t x y = drop (depth t x) (addr t y)

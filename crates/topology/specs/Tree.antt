@@ -1,5 +1,5 @@
--- Trees of nodes, as Definition 3.1 of document 001 has them, and their preorder bytes.
--- A leaf is a node with no children: document 001's `*` and its Node of the empty list are one tree here.
+-- Trees of nodes (Definition 3.1 of document 001), and their bytes in preorder. A leaf is a node without children: document 001's `*` and its Node
+-- of the empty list are the same tree here.
 use Prim.Native.Nat.{ℕ, suc, _+_, max}
 use mathlib.Core.List.{List, [], _∷_, _++_}
 
@@ -26,7 +26,7 @@ kids (node ts) = ts
 abbrev pub width : Topo → ℕ
 width t = count (kids t)
 
--- One byte a node, its number of children, in preorder.
+-- The bytes of a tree (paper 01, "Drawing a tree"): each node's number of children, in preorder.
 abbrev mutual
   pub code : Topo → List ℕ
   code (node ts) = count ts ∷ codes ts
@@ -35,7 +35,7 @@ abbrev mutual
   codes fnil = []
   codes (fcons t ts) = code t ++ codes ts
 
--- how many nodes
+-- how many nodes a tree has
 abbrev mutual
   pub size : Topo → ℕ
   size (node ts) = suc (sizes ts)
@@ -44,7 +44,7 @@ abbrev mutual
   sizes fnil = 0
   sizes (fcons t ts) = size t + sizes ts
 
--- how many steps the deepest node lies below the root; of a forest, below the node whose children its trees are
+-- how many steps the deepest node lies below the root; for a forest, below the parent of its trees
 abbrev mutual
   pub height : Topo → ℕ
   height (node ts) = heights ts

@@ -1,14 +1,14 @@
-// Topologies: trees drawn as one byte a node, its number of children, in preorder.
+// Topologies: trees as bytes, each node's number of children in preorder.
 //
-// `read` is the call of paper 01; `wide` serves the crates above.
+// `read` is the topology reader of paper 01; `wide` is a helper for other crates.
 ghost use mathlib.Core.Path.{_≡_};
 ghost use Prim.Native.Nat.{_≤_, _<_};
 ghost use lib.ListN.{length, drop};
 ghost use Rattle.topology.specs.Reader.{fault, faultAt, reading, pending};
 
-// The most nodes that a source has.
+// The largest number of nodes of a source.
 pub const SOURCE_NODES: usize = 32;
-// The most nodes that a target has, and a topology that is given by itself.
+// The largest number of nodes of a target, and of a topology that is given by itself.
 pub const TARGET_NODES: usize = 64;
 
 // The reader's answer: the bytes are a tree, or they are refused by a number from 1 to 5.
@@ -17,19 +17,19 @@ pub enum Reading {
     Refused(u8),
 }
 
-// A child of a node, by its number, or the answer that the node has no such child.
+// A child of a node, by its node number; or the node has no such child.
 pub enum Found {
     Node(usize),
     Missing,
 }
 
-// The child of a node that is another node or lies above it: which child, from 1, and its node; or the answer that there is none.
+// The child of a node that is a second node or lies above it, by its child number, from 1, and its node number; or there is no such child.
 pub enum Toward {
     Child(u8, usize),
     Nowhere,
 }
 
-// The first place from `top` on whose mark is less than the debt, so that its branch is not complete; 9 where there is none.
+// The first index from `top` on whose mark is less than the debt, so that its branch is not complete; or 9.
 fn first_pending(marks: &[usize; 9], top: usize, debt: usize) -> usize
     requires { ⌜ (length (now marks) ≡ 9) × (top ≤ 9) ⌝ }
     ensures { λ r. ⌜ (r ≤ 9) × (drop r (now (marks .entry)) ≡ pending debt (drop top (now (marks .entry)))) ⌝ }
@@ -44,7 +44,8 @@ fn first_pending(marks: &[usize; 9], top: usize, debt: usize) -> usize
     i
 }
 
-// The refusal of one byte, in the order of the tests, where `nodes` nodes came before it and it lies `depth` steps down; or 0.
+// The refusal of one byte, in the order of the tests, or 0: `nodes` nodes came before it, `debt` nodes are still owed (the running debt of paper
+// 02, 2.4), and its own node lies `depth` steps down.
 fn fault_at(limit: usize, nodes: usize, debt: usize, depth: usize, children: u8) -> u8
     ensures { λ r. ⌜ r ≡ faultAt limit nodes debt depth children ⌝ }
 {
@@ -63,11 +64,11 @@ fn fault_at(limit: usize, nodes: usize, debt: usize, depth: usize, children: u8)
     0
 }
 
-// Reads a topology of at most `limit` nodes: bytes in turn, and the first byte at fault decides.
+// Reads a topology of at most `limit` nodes. The bytes are tested in order, and the first byte at fault decides.
 //
-// `debt` is how many nodes are still owed: after each byte one plus the child counts read so far, less the number of bytes read. Beside it stand
-// the marks, marks[top..], the deepest first: for each branch that has begun and is not complete, what was left of the debt when its top node was
-// paid for, which it will be again when the branch is complete. Nine are enough, since a node is refused once nine lie above it.
+// `debt` is how many nodes are still owed (paper 02, 2.4): after each byte, one plus the child counts read so far, less the number of bytes read.
+// marks[top..] has a mark for each branch that has begun and is not complete, the deepest first: the debt that is left when the branch is complete.
+// Nine marks are enough, since a node with nine nodes above it is refused.
 pub fn read(bytes: &[u8], limit: usize) -> Reading
     ensures { λ r. ⌜ r ≡ reading (fault limit (now (bytes .entry))) ⌝ }
 {

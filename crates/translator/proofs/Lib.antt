@@ -1,6 +1,6 @@
-pub mod Faults
-pub mod Ways
+pub mod PathFault
+pub mod DescendLoop
 pub mod Standing
-pub mod Walking
-pub mod Outcome
-pub mod Pushing
+pub mod WalkLoop
+pub mod Carries
+pub mod PushesLand

@@ -1,4 +1,4 @@
--- The walk down the source along a path: after i steps without fault it stands at a node, and the steps left decide the path's fault.
+-- The walk down the source along a path: after i steps without fault it is at a node, and the remaining steps determine the path's fault.
 use mathlib.Core.Path.{_≡_, sym, ap, _∙_}
 use mathlib.Core.Logic.{_≢_}
 use Prim.Native.Nat.{ℕ, suc, _+_, _≤_, _<_}
@@ -17,12 +17,12 @@ use Rattle.topology.proofs.Ancestry.{size-pos, in-height}
 use Rattle.topology.proofs.Children.{HasChild, childOf-lt, subtree-childOf, depth-childOf}
 use Rattle.topology.proofs.Lookup.{valid-size, valid-width, valid-child, valid-missing}
 use Rattle.topology.proofs.Reader.{within}
-use Rattle.pifo.specs.Tree.{Step, pathFault}
-use Rattle.pifo.proofs.Paths.{end-fault, fault-above, fault-on, fault-off}
+use Rattle.pifo_model.specs.Tree.{Step, pathFault}
+use Rattle.pifo_model.proofs.PathFault.{end-fault, fault-above, fault-on, fault-off}
 use Rattle.queue_push.specs.Calls.{stepOf, stepsOf, noStep}
 use Rattle.queue_push.specs.declared.Step.{Step as CodeStep}
 use Rattle.queue_push.specs.declared.Path.{Path}
-use Rattle.queue_push.proofs.Paths.{step-at, steps-end}
+use Rattle.queue_push.proofs.PathSteps.{step-at, steps-end}
 
 pub record Standing (source : List ℕ) (path : Path) (node i : ℕ) : Type 0 where
   pub there : node < size (tree source)
@@ -51,7 +51,7 @@ module _ (source : List ℕ) (valid : fault 32 source ≡ 0) (path : Path) where
     pub standing-in : node < length source
     standing-in = omega (arith, w .there, valid-size 32 source valid)
 
-    -- ---- one step more
+    -- ---- one more step
 
     module _ (h : i < path .count) (g : length (path .steps) ≡ 9) where
       abbrev s : CodeStep

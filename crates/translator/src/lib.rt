@@ -1,27 +1,27 @@
-// The translator: a path in a source's tree carried over to a target's tree along a map.
+// The translator: a path in a source's tree carried over to a target's tree by a map.
 //
-// A step of the source goes from a node to one of its children. In the target it becomes one step at each node from the image of the one
-// down to, but without, the image of the other, toward the latter and with the step's rank. For a node that is passed over, the image of the
-// next kept node below it stands: so the step into it goes to that image, and its own step gives none. Above the image of a lone leaf the
-// target's nodes get a step of rank 0 toward it.
+// A step of the source goes from a node to one of its children. In the target it becomes one step at each node from the image of the node down to,
+// but without, the image of the child; each leads toward the child's image and has the step's rank. A node that is passed over has the image of the
+// next kept node below it: so a step into it leads to that image, and a step out of it gives no target step. The target nodes above the image of a
+// lone leaf get a step of rank 0 toward it.
 ghost use mathlib.Core.Path.{_≡_};
 ghost use mathlib.Core.List.{_++_};
 ghost use Rattle.topology.specs.Reader.{fault, tree};
 ghost use Rattle.topology.specs.Address.{depth, route};
-ghost use Rattle.pifo.specs.Tree.{pathFault};
-ghost use Rattle.embedding_laws.specs.Check.{mapFault};
-ghost use Rattle.simulation.specs.Carrying.{steps, carry as Carrying·carry};
+ghost use Rattle.pifo_model.specs.Tree.{pathFault};
+ghost use Rattle.embedding_model.specs.Check.{mapFault};
+ghost use Rattle.pair_model.specs.Carrying.{steps, carry as Carrying·carry};
 ghost use Rattle.queue_push.specs.Calls.{stepsOf, pathOf, Plain};
 ghost use Rattle.translator.specs.Carry.{Carries};
-ghost use Rattle.translator.specs.Ways.{Over};
-use embedding::Checked;
+ghost use Rattle.translator.specs.InnerWays.{Over};
+use embedding_check::Checked;
 use queue_push::Path;
 use queue_push::Step;
 use queue_state::Rank;
 use topology::Found;
 use topology::Toward;
 
-// The carried path and 0, or the path as it came and the refusal's number.
+// The carried path and 0; or the path as given and the refusal's number.
 #[repr(C)]
 pub struct Carried {
     pub path: Path,
@@ -36,7 +36,7 @@ fn descend(bytes: &[u8], path: Path, from: usize, to: usize, rank: Rank) -> Path
     let mut extending = path;
     let mut node = from;
     while node != to {
-        let Toward::Child(index, next) = branches::toward(bytes, node, to) else {
+        let Toward::Child(index, next) = topology_branches::toward(bytes, node, to) else {
             return extending;
         };
         extending = queue_push::extended(extending, index, rank);
@@ -45,7 +45,7 @@ fn descend(bytes: &[u8], path: Path, from: usize, to: usize, rank: Rank) -> Path
     extending
 }
 
-// The number by which the path is refused in the source's tree, whatever the map: 13, 14, or 0 for none.
+// The refusal of the path in the source's tree, whatever the map: 13, 14, or 0.
 fn path_fault(source: &[u8], path: Path) -> u8
     requires { ⌜ fault 32 (now source) ≡ 0 ⌝ }
     ensures { λ r. ⌜ r ≡ pathFault (tree (now (source .entry))) (stepsOf path) ⌝ }
@@ -55,7 +55,7 @@ fn path_fault(source: &[u8], path: Path) -> u8
     let mut i = 0;
     while i < count {
         let step = path.steps[i];
-        let Found::Node(child) = branches::child(source, node, step.child as usize) else {
+        let Found::Node(child) = topology_branches::child(source, node, step.child as usize) else {
             return 13;
         };
         node = child;
@@ -67,7 +67,7 @@ fn path_fault(source: &[u8], path: Path) -> u8
     0
 }
 
-// Walks down the source along the path, and down the target from image to image: first to the image of the first kept node, with rank 0.
+// Walks down the source along the path, and down the target from image to image: first, with rank 0, to the image of the top kept node.
 fn walk(source: &[u8], target: &[u8], map: &[u8], path: Path) -> Path
     requires { ⌜ (mapFault (now source) (now target) (now map) ≡ 0) × (pathFault (tree (now source)) (stepsOf path) ≡ 0) ⌝ }
     ensures { λ r. ⌜ r ≡ pathOf (Carrying·carry (tree (now (source .entry))) (tree (now (target .entry))) (now (map .entry)) (stepsOf path)) (path .«leaf_rank») ⌝ }
@@ -78,16 +78,16 @@ fn walk(source: &[u8], target: &[u8], map: &[u8], path: Path) -> Path
         count: 0,
         leaf_rank: path.leaf_rank,
     };
-    let mut from = map[reduction::next_kept(source, 0)] as usize;
+    let mut from = map[topology_reduction::next_kept(source, 0)] as usize;
     let mut carried = descend(target, empty, 0, from, 0);
     let mut node = 0;
     let mut i = 0;
     while i < count {
         let step = path.steps[i];
-        let Found::Node(child) = branches::child(source, node, step.child as usize) else {
+        let Found::Node(child) = topology_branches::child(source, node, step.child as usize) else {
             return carried;
         };
-        let to = map[reduction::next_kept(source, child)] as usize;
+        let to = map[topology_reduction::next_kept(source, child)] as usize;
         carried = descend(target, carried, from, to, step.rank);
         from = to;
         node = child;
@@ -100,7 +100,7 @@ fn walk(source: &[u8], target: &[u8], map: &[u8], path: Path) -> Path
 pub fn carry(source: &[u8], target: &[u8], map: &[u8], path: Path) -> Carried
     ensures { λ r. ⌜ Carries (now (source .entry)) (now (target .entry)) (now (map .entry)) path r ⌝ }
 {
-    if let Checked::Refused(refusal) = embedding::check(source, target, map) {
+    if let Checked::Refused(refusal) = embedding_check::check(source, target, map) {
         return Carried { path, refusal };
     }
     let refusal = path_fault(source, path);

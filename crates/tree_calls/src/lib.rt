@@ -1,9 +1,9 @@
-// The calls on a queue tree with disciplines, by itself. A call takes the tree by value and answers it by value.
+// The calls on a queue tree with disciplines, by itself. A call takes the tree by value and returns the tree after it by value.
 use discipline_check::is_leaf;
 use discipline_clock::after_pop;
 use discipline_clock::own_images;
+use discipline_model::Disciplines;
 use discipline_path::plan_to;
-use disciplines::Disciplines;
 use queue_counts::refused;
 use queue_push::Path;
 use queue_state::Answer;
@@ -11,13 +11,13 @@ use queue_state::Packet;
 use tree_counts::are_sound;
 use tree_state::Tree;
 use tree_state::TreeServed;
-ghost use Rattle.pifo.specs.Machine.{pushing, popping};
+ghost use Rattle.pifo_model.specs.Machine.{pushing, popping};
 ghost use Rattle.queue_state.specs.Calls.{answerOf};
 ghost use Rattle.queue_push.specs.Calls.{stepsOf};
-ghost use Rattle.disciplines.specs.Scheduler.{calling, pushingTo};
+ghost use Rattle.discipline_model.specs.Scheduler.{calling, pushingTo};
 ghost use Rattle.tree_state.specs.Calls.{OwnServes};
 
-// Pushes a packet along a path, which enters its ranks as given and alters no finish: 18, 13, 14, 15 are tested in this order.
+// Pushes a packet along a path, with its ranks as given, and alters no finish. 18, 13, 14, 15 are tested in this order.
 pub fn push(tree: Tree, path: Path, packet: Packet) -> TreeServed
     ensures { λ r. ⌜ OwnServes tree (calling (pushing (stepsOf path) (path .«leaf_rank») packet)) (answerOf (r .answer)) (r .tree) ⌝ }
 {
@@ -44,7 +44,7 @@ pub fn push(tree: Tree, path: Path, packet: Packet) -> TreeServed
     }
 }
 
-// Pushes a packet to a leaf, with its class and its length, by the ranks that the disciplines give: 18, 25, 15, 23 are tested in this order.
+// Pushes a packet of a class and a length to a leaf, with the ranks that the disciplines give. 18, 25, 15, 23 are tested in this order.
 pub fn push_to_leaf(tree: Tree, leaf: usize, class: u8, length: u16, packet: Packet) -> TreeServed
     ensures { λ r. ⌜ OwnServes tree (pushingTo leaf class length packet) (answerOf (r .answer)) (r .tree) ⌝ }
 {
@@ -104,8 +104,8 @@ pub fn push_to_leaf(tree: Tree, leaf: usize, class: u8, length: u16, packet: Pac
     }
 }
 
-// Pops the packet at the head; virtual times become the ranks that it took on its way: 18 and 16 are tested in this order. The refusal by 18 stands
-// last, as in `push`, so that the compiler copies the tree as it came only there.
+// Pops the packet at the head; the virtual times on its way become the ranks that it took. 18 and 16 are tested in this order. The refusal by 18 is
+// at the end, as in `push`, so that the compiler copies the unchanged tree only there.
 pub fn pop(tree: Tree) -> TreeServed
     ensures { λ r. ⌜ OwnServes tree (calling popping) (answerOf (r .answer)) (r .tree) ⌝ }
 {

@@ -1,1 +1,1 @@
-pub mod Testing
+pub mod AreSound

@@ -1,16 +1,17 @@
-// A queue tree with disciplines asked for its counts, and the test of its rules that every call on it makes.
+// The counts of a queue tree with disciplines, and the test of its rules that every call on it makes.
 use discipline_check::fault;
-use disciplines::Rule;
+use discipline_model::Rule;
 use queue_counts::Amount;
 use tree_state::Tree;
 ghost use mathlib.Core.Path.{_≡_};
-ghost use Rattle.pifo.specs.Tree.{held};
+ghost use Rattle.pifo_model.specs.Tree.{held};
 ghost use Rattle.queue_state.specs.State.{treeOf};
 ghost use Rattle.queue_counts.specs.Amounts.{amount};
-ghost use Rattle.tree_state.specs.Calls.{drawing, wellKept};
+ghost use Rattle.tree_state.specs.Calls.{drawing, wellFormedBy};
 ghost use Rattle.tree_counts.specs.Sound.{SoundIn};
 
-// Whether the rules have no fault 24 in a state's own drawing. For a state that is not well formed the answer is free: it is refused by 18 anyhow.
+// Whether the rules have no fault 24 in a state's own drawing. Unspecified: the answer if that drawing has a fault; a call is then refused by 18 in
+// any case.
 pub fn are_sound(topology: [u8; 64], nodes: usize, rules: [Rule; 64]) -> bool
     ensures { λ r. ⌜ SoundIn topology nodes rules r ⌝ }
 {
@@ -22,7 +23,7 @@ pub fn are_sound(topology: [u8; 64], nodes: usize, rules: [Rule; 64]) -> bool
 
 // How many packets a tree holds.
 pub fn held(tree: Tree) -> Amount
-    ensures { λ r. ⌜ r ≡ amount (wellKept (drawing tree) tree) (held (treeOf (tree .state))) ⌝ }
+    ensures { λ r. ⌜ r ≡ amount (wellFormedBy (drawing tree) tree) (held (treeOf (tree .state))) ⌝ }
 {
     let state = tree.state;
     let disciplines = tree.disciplines;
@@ -37,7 +38,7 @@ pub fn held(tree: Tree) -> Amount
 
 // How many pushes a tree has refused because it was full.
 pub fn refusals(tree: Tree) -> Amount
-    ensures { λ r. ⌜ r ≡ amount (wellKept (drawing tree) tree) (tree .state .refused) ⌝ }
+    ensures { λ r. ⌜ r ≡ amount (wellFormedBy (drawing tree) tree) (tree .state .refused) ⌝ }
 {
     let state = tree.state;
     let disciplines = tree.disciplines;

@@ -1,16 +1,16 @@
 // The opening of a queue tree with disciplines.
 use discipline_check::fault;
-use disciplines::ARRIVAL;
-use disciplines::Disciplines;
-use disciplines::Rule;
+use discipline_model::ARRIVAL;
+use discipline_model::Disciplines;
+use discipline_model::Rule;
 use queue_state::State;
 use tree_state::Tree;
 use tree_state::TreeOpened;
 ghost use mathlib.Core.Path.{_≡_};
-ghost use Rattle.disciplines.specs.Figure.{fresh as Figure·fresh};
+ghost use Rattle.discipline_model.specs.Figure.{fresh as Figure·fresh};
 ghost use Rattle.tree_state.specs.Opening.{treeFault, openedBy, openedTree};
 
-// Nothing was popped yet, and nothing finished.
+// The disciplines of a newly opened tree: nothing was popped, and nothing has a finish.
 fn fresh(rules: [Rule; 64]) -> Disciplines
     ensures { λ r. ⌜ r ≡ Figure·fresh rules ⌝ }
 {
@@ -48,7 +48,7 @@ pub fn opened(refusal: u8, state: State, rules: [Rule; 64]) -> TreeOpened
     }
 }
 
-// The number by which an opening is refused, or 0: 1 to 5, 17, then 24.
+// The refusal of an opening: 1 to 5, 17, then 24; or 0.
 fn refusal(bytes: &[u8], limit: usize, rules: [Rule; 64]) -> u8
     ensures { λ r. ⌜ r ≡ treeFault (now (bytes .entry)) limit rules ⌝ }
 {
@@ -59,7 +59,7 @@ fn refusal(bytes: &[u8], limit: usize, rules: [Rule; 64]) -> u8
     fault(bytes, rules)
 }
 
-// Opens an empty tree with a packet limit and a rule for each of its nodes: 1 to 5 are tested, 17, then 24.
+// Opens an empty tree with a packet limit and a rule for each of its nodes. Tested in this order: 1 to 5, 17, 24.
 pub fn open(bytes: &[u8], limit: usize, rules: [Rule; 64]) -> TreeOpened
     ensures { λ r. ⌜ r ≡ openedTree (now (bytes .entry)) limit rules ⌝ }
 {

@@ -1,4 +1,4 @@
--- The length of the array that has a tree's topology: what a function knows of a tree that it is given.
+-- The length of the array of a tree's topology, which every tree that a function gets has.
 use mathlib.Core.Path.{_≡_}
 use mathlib.Core.List.{List}
 use lib.ListN.{length}

@@ -1,5 +1,5 @@
-pub mod Scheduled
+pub mod Schedules
 pub mod Below
 pub mod Own
-pub mod Existing
+pub mod Satisfiable
 pub mod Arrays

@@ -1,8 +1,8 @@
--- What `put_table` wrote lies within the buffer.
+-- `walk` is safe: the text that `put_table` wrote lies within the buffer.
 use mathlib.Core.Path.{sym}
 use native.Mathlib.Omega.{arith}
 use lib.Seq.{length-take-le}
-use Rattle.text.proofs.Writing.{puts-length}
+use Rattle.text.proofs.Written.{puts-length}
 use borrow.Author.Needs.{needs}
 use Rattle.buychip.proofs.walk.Statement.{statement}
 use Rattle.buychip.proofs.walk.Tie as tie

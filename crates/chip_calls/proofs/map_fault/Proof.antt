@@ -1,6 +1,6 @@
 -- `map_fault` meets its contract.
 use borrow.Author.Needs.{needs}
-use Rattle.chip_calls.proofs.Maps.{mapped, unmapped}
+use Rattle.chip_calls.proofs.MapFault.{mapped, unmapped}
 use Rattle.chip_calls.proofs.map_fault.Statement.{statement}
 use Rattle.chip_calls.proofs.map_fault.Tie as tie
 

@@ -1,13 +1,13 @@
--- `pop` meets its contract, a law for each answer (proofs/Serving).
+-- `pop` meets its contract: one law for each answer (proofs/ChipServes).
 use borrow.Author.Needs.{needs}
 use native.Mathlib.Omega.{arith}
 use mathlib.Core.Path.{sym, _∙_}
 use lib.Seq.{length-take-le}
 use Rattle.queue_state.specs.State.{bytes}
 use Rattle.tree_state.proofs.Arrays.{the-topology}
-use Rattle.chip_counts.proofs.First.{few-nodes}
-use Rattle.chip_calls.proofs.Maps.{nothing-after}
-use Rattle.chip_calls.proofs.Serving.{first-refused, map-refused, by-pop}
+use Rattle.chip_counts.proofs.FirstFault.{few-nodes}
+use Rattle.chip_calls.proofs.MapFault.{nothing-after}
+use Rattle.chip_calls.proofs.ChipServes.{first-refused, map-refused, by-pop}
 use Rattle.chip_calls.proofs.pop.Statement.{statement}
 use Rattle.chip_calls.proofs.pop.Tie as tie
 

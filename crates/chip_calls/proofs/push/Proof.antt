@@ -1,12 +1,12 @@
--- `push` meets its contract, a law for each answer (proofs/Serving).
+-- `push` meets its contract: one law for each answer (proofs/ChipServes).
 use borrow.Author.Needs.{needs}
 use native.Mathlib.Omega.{arith}
 use mathlib.Core.Path.{sym}
 use lib.Seq.{length-take-le}
 use Rattle.queue_state.specs.State.{bytes}
 use Rattle.tree_state.proofs.Arrays.{the-topology}
-use Rattle.chip_counts.proofs.First.{few-nodes}
-use Rattle.chip_calls.proofs.Serving.{first-refused, path-refused, path-carried}
+use Rattle.chip_counts.proofs.FirstFault.{few-nodes}
+use Rattle.chip_calls.proofs.ChipServes.{first-refused, path-refused, path-carried}
 use Rattle.chip_calls.proofs.push.Statement.{statement}
 use Rattle.chip_calls.proofs.push.Tie as tie
 

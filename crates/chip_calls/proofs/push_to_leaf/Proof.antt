@@ -1,4 +1,4 @@
--- `push_to_leaf` meets its contract, a law for each answer (proofs/Serving).
+-- `push_to_leaf` meets its contract: one law for each answer (proofs/ChipServes).
 use borrow.Author.Needs.{needs}
 use native.Mathlib.Omega.{arith}
 use mathlib.Core.Path.{refl, sym, ap}
@@ -8,8 +8,8 @@ use Rattle.queue_state.specs.State.{bytes}
 use Rattle.queue_state.specs.Calls.{answerOf}
 use Rattle.tree_state.proofs.Below.{others-apart}
 use Rattle.tree_state.proofs.Arrays.{the-topology}
-use Rattle.chip_counts.proofs.First.{few-nodes}
-use Rattle.chip_calls.proofs.Serving.{first-refused, not-a-leaf, leaf-refused, leaf-late, leaf-taken, leaf-rest}
+use Rattle.chip_counts.proofs.FirstFault.{few-nodes}
+use Rattle.chip_calls.proofs.ChipServes.{first-refused, not-a-leaf, leaf-refused, leaf-late, leaf-taken, leaf-rest}
 use Rattle.chip_calls.proofs.push_to_leaf.Statement.{statement}
 use Rattle.chip_calls.proofs.push_to_leaf.Tie as tie
 

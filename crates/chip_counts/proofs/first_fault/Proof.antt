@@ -1,6 +1,6 @@
 -- `first_fault` meets its contract.
 use borrow.Author.Needs.{needs}
-use Rattle.chip_counts.proofs.First.{drawing-fault, too-many, rules-fault, no-fault}
+use Rattle.chip_counts.proofs.FirstFault.{drawing-fault, too-many, rules-fault, no-fault}
 use Rattle.chip_counts.proofs.first_fault.Statement.{statement}
 use Rattle.chip_counts.proofs.first_fault.Tie as tie
 

@@ -1,6 +1,6 @@
 -- `held` meets its contract.
 use borrow.Author.Needs.{needs}
-use Rattle.chip_counts.proofs.Counting.{unanswered, answered}
+use Rattle.chip_counts.proofs.Amounts.{unanswered, answered}
 use Rattle.chip_counts.proofs.held.Statement.{statement}
 use Rattle.chip_counts.proofs.held.Tie as tie
 

@@ -1,6 +1,6 @@
 -- `refusals` meets its contract.
 use borrow.Author.Needs.{needs}
-use Rattle.chip_counts.proofs.Counting.{unanswered, answered}
+use Rattle.chip_counts.proofs.Amounts.{unanswered, answered}
 use Rattle.chip_counts.proofs.refusals.Statement.{statement}
 use Rattle.chip_counts.proofs.refusals.Tie as tie
 

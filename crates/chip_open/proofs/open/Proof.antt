@@ -1,6 +1,6 @@
 -- `open` meets its contract.
 use borrow.Author.Needs.{needs}
-use Rattle.chip_open.proofs.Openings.{chip-opened}
+use Rattle.chip_open.proofs.OpenedBoth.{chip-opened}
 use Rattle.chip_open.proofs.open.Statement.{statement}
 use Rattle.chip_open.proofs.open.Tie as tie
 

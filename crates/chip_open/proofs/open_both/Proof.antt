@@ -1,6 +1,6 @@
 -- `open_both` meets its contract.
 use borrow.Author.Needs.{needs}
-use Rattle.chip_open.proofs.Openings.{both-opened}
+use Rattle.chip_open.proofs.OpenedBoth.{both-opened}
 use Rattle.chip_open.proofs.open_both.Statement.{statement}
 use Rattle.chip_open.proofs.open_both.Tie as tie
 

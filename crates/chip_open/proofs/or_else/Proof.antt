@@ -1,6 +1,6 @@
 -- `or_else` meets its contract.
 use borrow.Author.Needs.{needs}
-use Rattle.topology.proofs.Refusals.{orElse-first}
+use Rattle.base.proofs.Refusals.{orElse-first}
 use Rattle.chip_open.proofs.or_else.Statement.{statement}
 use Rattle.chip_open.proofs.or_else.Tie as tie
 

@@ -1,6 +1,6 @@
 -- `refusal` meets its contract.
 use borrow.Author.Needs.{needs}
-use Rattle.chip_open.proofs.Numbers.{source-refused, target-refused, rules-judged}
+use Rattle.chip_open.proofs.ChipFault.{source-refused, target-refused, rules-judged}
 use Rattle.chip_open.proofs.refusal.Statement.{statement}
 use Rattle.chip_open.proofs.refusal.Tie as tie
 

@@ -6,8 +6,8 @@ use mathlib.Core.Bool.{true}
 use Prim.Native.Nat.{_≤_, _-_}
 use Rattle.topology.specs.Reader.{fault, tree}
 use Rattle.topology.specs.Branch.{branchEnd, start}
-use Rattle.disciplines.specs.Figure.{weighs}
-use Rattle.discipline_check.proofs.Tests.{share-none, share-not-out, share-next, share-not, share-all}
+use Rattle.discipline_model.specs.Figure.{weighs}
+use Rattle.discipline_check.proofs.RuleFault.{share-none, share-not-out, share-next, share-not, share-all}
 use Rattle.discipline_check.proofs.can_share.Statement.{statement}
 use Rattle.discipline_check.proofs.can_share.Tie as tie
 

@@ -1,4 +1,4 @@
--- `fault` meets its contract. The rules of the nodes before `node` are sound.
+-- `fault` meets its contract. The rules of the nodes before `node` have no fault.
 use borrow.Author.Needs.{needs}
 use mathlib.Core.Path.{_≡_, refl, sym, _∙_}
 use mathlib.Core.Logic.{⊎-elim}
@@ -9,8 +9,8 @@ use denote.Ref.{now}
 use borrow.Author.Tests.{not-true, not-false}
 use Rattle.topology.specs.Reader.{tree}
 use Rattle.topology.specs.Reader.{fault as Reader·fault}
-use Rattle.disciplines.specs.Figure.{allSound}
-use Rattle.discipline_check.proofs.Tests.{not-longer, sound-not, sound-plain, rules-next, rules-refused, rules-pass}
+use Rattle.discipline_model.specs.Figure.{allSound}
+use Rattle.discipline_check.proofs.RuleFault.{not-longer, sound-not, sound-plain, rules-next, rules-refused, rules-pass}
 use Rattle.discipline_check.proofs.fault.Statement.{statement}
 use Rattle.discipline_check.proofs.fault.Tie as tie
 

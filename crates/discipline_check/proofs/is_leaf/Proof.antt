@@ -1,6 +1,6 @@
 -- `is_leaf` meets its contract: one law for each return.
 use borrow.Author.Needs.{needs}
-use Rattle.discipline_check.proofs.Tests.{leaf-byte, leaf-out}
+use Rattle.discipline_check.proofs.RuleFault.{leaf-byte, leaf-out}
 use Rattle.discipline_check.proofs.is_leaf.Statement.{statement}
 use Rattle.discipline_check.proofs.is_leaf.Tie as tie
 

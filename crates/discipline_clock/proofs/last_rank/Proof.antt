@@ -1,12 +1,12 @@
--- `last_rank` meets its contract. The rank is that of the places from i on.
+-- `last_rank` meets its contract. The answer depends only on the places from i on.
 use borrow.Author.Needs.{needs}
 use mathlib.Core.Path.{_≡_, refl, sym, _∙_}
 use Prim.Native.Nat.{_≤_, _<_, _-_}
 use native.Mathlib.Omega.{arith}
 use lib.ListN.{length, take, drop}
-use Rattle.disciplines.specs.Figure.{lastOf}
+use Rattle.discipline_model.specs.Figure.{lastOf}
 use Rattle.discipline_clock.specs.Clock.{rankAmong}
-use Rattle.discipline_clock.proofs.Passing.{rank-none, rank-here, rank-later}
+use Rattle.discipline_clock.proofs.Loops.{rank-none, rank-here, rank-later}
 use Rattle.discipline_clock.proofs.last_rank.Statement.{statement}
 use Rattle.discipline_clock.proofs.last_rank.Tie as tie
 

@@ -1,11 +1,11 @@
--- `own_images` meets its contract. The first n places hold the numbers below n.
+-- `own_images` meets its contract. The first n places have the numbers below n.
 use borrow.Author.Needs.{needs}
 use native.Mathlib.Omega.{arith}
 use mathlib.Core.Path.{_≡_, refl, _∙_}
 use Prim.Native.Nat.{_≤_, _<_, _-_}
 use lib.ListN.{length, take, length-set}
 use Rattle.discipline_clock.specs.Clock.{numbersFrom}
-use Rattle.discipline_clock.proofs.Passing.{numbers-next, numbers-all}
+use Rattle.discipline_clock.proofs.Loops.{numbers-next, numbers-all}
 use Rattle.discipline_clock.proofs.own_images.Statement.{statement}
 use Rattle.discipline_clock.proofs.own_images.Tie as tie
 

@@ -1,4 +1,4 @@
--- `times_after` meets its contract. The virtual times of the nodes before n are the new ones.
+-- `times_after` meets its contract. The virtual times of the nodes before n are updated.
 use borrow.Author.Needs.{needs}
 use native.Mathlib.Omega.{arith}
 use mathlib.Core.Path.{_≡_, refl, _∙_}
@@ -7,7 +7,7 @@ use Prim.Native.Nat.{_<_, _-_}
 use lib.ListN.{length, take}
 use denote.Ref.{now}
 use Rattle.discipline_clock.specs.Clock.{rankAmong, rankIn, timesBy}
-use Rattle.discipline_clock.proofs.Passing.{times-weighted, times-plain, times-all}
+use Rattle.discipline_clock.proofs.Loops.{times-weighted, times-plain, times-all}
 use Rattle.discipline_clock.proofs.times_after.Statement.{statement}
 use Rattle.discipline_clock.proofs.times_after.Tie as tie
 

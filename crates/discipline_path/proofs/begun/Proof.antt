@@ -3,7 +3,7 @@ use borrow.Author.Needs.{needs}
 use mathlib.Core.Path.{ap}
 use mathlib.Core.List.{[]}
 use mathlib.Core.Bool.{true}
-use Rattle.pifo.specs.Queue.{Rank}
+use Rattle.pifo_model.specs.Queue.{Rank}
 use Rattle.queue_push.specs.Calls.{pathOf}
 use Rattle.discipline_path.proofs.begun.Statement.{statement}
 use Rattle.discipline_path.proofs.begun.Tie as tie

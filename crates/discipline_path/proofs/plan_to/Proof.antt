@@ -1,8 +1,8 @@
--- `plan_to` meets its contract. The loop has come down to `node`, and the plan has the way to there (`Walking` in proofs/Planning).
+-- `plan_to` meets its contract. The loop has reached `node`, and the plan has the way to that node (`Walking` in proofs/PlanTo).
 use borrow.Author.Needs.{needs}
 use native.Mathlib.Omega.{arith}
 use Prim.Native.Nat.{_-_}
-use Rattle.discipline_path.proofs.Planning.{too-far, Walking, walking-start, walking-end, walking-lost, walking-down, walking-inside, walking-next}
+use Rattle.discipline_path.proofs.PlanTo.{too-far, Walking, walking-start, walking-end, walking-lost, walking-down, walking-inside, walking-next}
 use Rattle.discipline_path.proofs.plan_to.Statement.{statement}
 use Rattle.discipline_path.proofs.plan_to.Tie as tie
 

@@ -1,6 +1,6 @@
 -- `step_down` meets its contract.
 use borrow.Author.Needs.{needs}
-use Rattle.discipline_path.proofs.Sharing.{stepped}
+use Rattle.discipline_path.proofs.ShareOf.{stepped}
 use Rattle.discipline_path.proofs.step_down.Statement.{statement}
 use Rattle.discipline_path.proofs.step_down.Tie as tie
 

@@ -1,8 +1,8 @@
--- What `draw_script` wrote lies within the buffer.
+-- `walk` is safe: the text that `draw_script` wrote lies within the buffer.
 use mathlib.Core.Path.{sym}
 use native.Mathlib.Omega.{arith}
 use lib.Seq.{length-take-le}
-use Rattle.text.proofs.Writing.{puts-length}
+use Rattle.text.proofs.Written.{puts-length}
 use borrow.Author.Needs.{needs}
 use Rattle.drawtrees.proofs.walk.Statement.{statement}
 use Rattle.drawtrees.proofs.walk.Tie as tie

@@ -2,8 +2,8 @@
 use mathlib.Core.Path.{sym, _∙_}
 use Prim.Native.Nat.{_-_}
 use native.Mathlib.Omega.{arith}
-use Rattle.embedding_laws.specs.Tables.{RowCopied}
-use Rattle.embedding_laws.proofs.Cells.{copy-start, copy-next, copy-end}
+use Rattle.embedding_program.specs.InnerTables.{RowCopied}
+use Rattle.embedding_program.proofs.Cells.{copy-start, copy-next, copy-end}
 use Rattle.embedding_search.proofs.copy_row.Statement.{statement}
 use Rattle.embedding_search.proofs.copy_row.Tie as tie
 

@@ -3,7 +3,7 @@ use mathlib.Core.Path.{_≡_, sym, _∙_}
 use mathlib.Core.Logic.{⊎-elim}
 use native.Mathlib.Omega.{arith}
 use denote.Ref.{now}
-use Rattle.embedding_laws.proofs.Nodes.{entry-shut, entry-leaf, entry-placed}
+use Rattle.embedding_program.proofs.Nodes.{entry-shut, entry-leaf, entry-placed}
 use Rattle.embedding_search.proofs.entry.Statement.{statement}
 use Rattle.embedding_search.proofs.entry.Tie as tie
 

@@ -4,7 +4,7 @@ use Prim.Native.Nat.{_<_, _-_}
 use lib.ListN.{length}
 use native.Mathlib.Omega.{arith}
 use denote.Ref.{now}
-use Rattle.embedding_laws.proofs.Nodes.{Filled, node-start, node-frame, node-next, node-end}
+use Rattle.embedding_program.proofs.Nodes.{Filled, node-start, node-frame, node-next, node-end}
 use Rattle.embedding_search.proofs.fill_node.Statement.{statement}
 use Rattle.embedding_search.proofs.fill_node.Tie as tie
 

@@ -3,7 +3,7 @@ use mathlib.Core.Path.{sym, _∙_}
 use Prim.Native.Nat.{_-_, _<_}
 use native.Mathlib.Omega.{arith}
 use denote.Ref.{now}
-use Rattle.embedding_laws.proofs.Cells.{power-128, power-256, turns-of, weight-small, Trying, try-start, try-next, try-end}
+use Rattle.embedding_program.proofs.Cells.{power-128, power-256, turns-of, weight-small, Trying, try-start, try-next, try-end}
 use Rattle.embedding_search.proofs.fill_row.Statement.{statement}
 use Rattle.embedding_search.proofs.fill_row.Tie as tie
 

@@ -1,4 +1,4 @@
--- `fill_table` meets its contract. The table is right from source node s on.
+-- `fill_table` meets its contract. The table is correct from source node s on.
 use borrow.Author.Needs.{needs}
 use mathlib.Core.Path.{_≡_, sym, _∙_}
 use Prim.Native.Nat.{_≤_, _-_}
@@ -6,9 +6,9 @@ use lib.ListN.{length}
 use native.Mathlib.Omega.{arith}
 use denote.Ref.{now}
 use Rattle.topology.specs.Reader.{tree}
-use Rattle.embedding_laws.specs.Tables.{bestBy, Room}
-use Rattle.embedding_laws.specs.Meaning.{Truth}
-use Rattle.embedding_laws.proofs.Nodes.{frame-of, reach-within, table-start, table-back, table-end}
+use Rattle.embedding_program.specs.InnerTables.{bestBy, Room}
+use Rattle.embedding_program.specs.InnerMeaning.{Truth}
+use Rattle.embedding_program.proofs.Nodes.{frame-of, reach-within, table-start, table-back, table-end}
 use Rattle.embedding_search.proofs.fill_table.Statement.{statement}
 use Rattle.embedding_search.proofs.fill_table.Tie as tie
 

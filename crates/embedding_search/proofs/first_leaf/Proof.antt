@@ -3,7 +3,7 @@ use borrow.Author.Needs.{needs}
 use Prim.Native.Nat.{_-_}
 use lib.ListN.{length}
 use denote.Ref.{now}
-use Rattle.embedding_search.proofs.Leaf.{From, leaf-start, leaf-here, leaf-later, leaf-nowhere}
+use Rattle.embedding_search.proofs.FirstLeaf.{From, leaf-start, leaf-here, leaf-later, leaf-nowhere}
 use Rattle.embedding_search.proofs.first_leaf.Statement.{statement}
 use Rattle.embedding_search.proofs.first_leaf.Tie as tie
 

@@ -4,8 +4,8 @@ use mathlib.Core.Path.{refl}
 use native.Mathlib.Omega.{arith}
 use denote.Ref.{now}
 use Rattle.topology.specs.Reader.{tree}
-use Rattle.embedding_laws.proofs.Nodes.{width-byte}
-use Rattle.embedding_laws.proofs.Images.{Listing, listing-start, listing-node, listing-next, listing-end}
+use Rattle.embedding_program.proofs.Nodes.{width-byte}
+use Rattle.embedding_program.proofs.Images.{Listing, listing-start, listing-node, listing-next, listing-end}
 use Rattle.embedding_search.proofs.kids_of.Statement.{statement}
 use Rattle.embedding_search.proofs.kids_of.Tie as tie
 

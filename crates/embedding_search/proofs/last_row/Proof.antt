@@ -4,7 +4,7 @@ use mathlib.Core.Path.{sym, _∙_}
 use Prim.Native.Nat.{_-_}
 use native.Mathlib.Omega.{arith}
 use denote.Ref.{now}
-use Rattle.embedding_laws.proofs.Cells.{Ending, ending-start, ending-next, ending-end}
+use Rattle.embedding_program.proofs.Cells.{Ending, ending-start, ending-next, ending-end}
 use Rattle.embedding_search.proofs.last_row.Statement.{statement}
 use Rattle.embedding_search.proofs.last_row.Tie as tie
 

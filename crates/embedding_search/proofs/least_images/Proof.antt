@@ -4,8 +4,8 @@ use mathlib.Core.Path.{subst}
 use Prim.Native.Nat.{ℕ}
 use mathlib.Core.List.{List}
 use denote.Ref.{now}
-use Rattle.embedding_search.specs.Images.{FindsLeast}
-use Rattle.embedding_search.proofs.Answers.{lone}
+use Rattle.embedding_search.specs.InnerImages.{FindsLeast}
+use Rattle.embedding_search.proofs.Searches.{lone}
 use Rattle.embedding_search.proofs.least_images.Statement.{statement}
 use Rattle.embedding_search.proofs.least_images.Tie as tie
 

@@ -1,4 +1,4 @@
--- `lesser` meets its contract: either return is the lesser by its test.
+-- `lesser` meets its contract: one case for each return.
 use borrow.Author.Needs.{needs}
 use Rattle.embedding_search.proofs.lesser.Statement.{statement}
 use Rattle.embedding_search.proofs.lesser.Tie as tie

@@ -2,7 +2,7 @@
 use mathlib.Core.Path.{refl, sym, _∙_}
 use native.Mathlib.Omega.{arith}
 use denote.Ref.{now}
-use Rattle.embedding_laws.proofs.Cells.{power-some, power-256, Filling, filling-begin, filling-frame, filling-next, filling-end}
+use Rattle.embedding_program.proofs.Cells.{power-some, power-256, Filling, filling-begin, filling-frame, filling-next, filling-end}
 use Rattle.embedding_search.proofs.place.Statement.{statement}
 use Rattle.embedding_search.proofs.place.Tie as tie
 

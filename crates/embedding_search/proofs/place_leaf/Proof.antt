@@ -5,8 +5,8 @@ use native.Mathlib.Omega.{arith}
 use Prim.Native.Nat.{ℕ}
 use mathlib.Core.List.{[], _∷_}
 use denote.Ref.{now}
-use Rattle.reduction.specs.Reduced.{in32}
-use Rattle.embedding_search.proofs.Answers.{leaf-small, leaf-placed}
+use Rattle.topology_reduction.specs.Reduced.{in32}
+use Rattle.embedding_search.proofs.Searches.{leaf-small, leaf-placed}
 use Rattle.embedding_search.proofs.place_leaf.Statement.{statement}
 use Rattle.embedding_search.proofs.place_leaf.Tie as tie
 

@@ -1,6 +1,6 @@
 -- `reach` meets its contract.
 use borrow.Author.Needs.{needs}
-use Rattle.embedding_laws.proofs.Nodes.{reach-other}
+use Rattle.embedding_program.proofs.Nodes.{reach-other}
 use Rattle.embedding_search.proofs.reach.Statement.{statement}
 use Rattle.embedding_search.proofs.reach.Tie as tie
 

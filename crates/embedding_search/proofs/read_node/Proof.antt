@@ -1,9 +1,9 @@
--- `read_node` meets its contract: the node's own image is read, so its children's are the digits of the table's entry.
+-- `read_node` meets its contract: the node's own image is known, so its children's images are the digits of the table's entry.
 use native.Mathlib.Omega.{arith}
 use denote.Ref.{now}
-use Rattle.embedding_laws.specs.Tables.{bestBy}
-use Rattle.embedding_laws.proofs.Nodes.{different}
-use Rattle.embedding_laws.proofs.Images.{read-small, read-next}
+use Rattle.embedding_program.specs.InnerTables.{bestBy}
+use Rattle.embedding_program.proofs.Nodes.{different}
+use Rattle.embedding_program.proofs.Images.{read-small, read-next}
 use Rattle.embedding_search.proofs.read_node.Statement.{statement}
 use Rattle.embedding_search.proofs.read_node.Tie as tie
 

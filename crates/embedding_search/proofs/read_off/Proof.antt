@@ -4,9 +4,9 @@ use lib.ListN.{length}
 use native.Mathlib.Omega.{arith}
 use denote.Ref.{now}
 use Rattle.topology.specs.Reader.{tree}
-use Rattle.embedding_laws.specs.Tables.{bestBy}
-use Rattle.embedding_laws.specs.Meaning.{ReadTo}
-use Rattle.embedding_laws.proofs.Images.{read-start, read-end}
+use Rattle.embedding_program.specs.InnerTables.{bestBy}
+use Rattle.embedding_program.specs.InnerMeaning.{ReadTo}
+use Rattle.embedding_program.proofs.Images.{read-start, read-end}
 use Rattle.embedding_search.proofs.read_off.Statement.{statement}
 use Rattle.embedding_search.proofs.read_off.Tie as tie
 

@@ -3,7 +3,7 @@ use borrow.Author.Needs.{needs}
 use Prim.Native.Nat.{_-_}
 use native.Mathlib.Omega.{arith}
 use denote.Ref.{now}
-use Rattle.embedding_laws.proofs.Images.{Putting, putting-start, putting-next, putting-end}
+use Rattle.embedding_program.proofs.Images.{Putting, putting-start, putting-next, putting-end}
 use Rattle.embedding_search.proofs.set_images.Statement.{statement}
 use Rattle.embedding_search.proofs.set_images.Tie as tie
 

@@ -2,7 +2,7 @@
 use borrow.Author.Needs.{needs}
 use Prim.Native.Nat.{_-_}
 use native.Mathlib.Omega.{arith}
-use Rattle.embedding_search.proofs.Steps.{Doubling, doubling-start, doubling-fits, doubling-next, doubling-end}
+use Rattle.embedding_search.proofs.TryAt.{Doubling, doubling-start, doubling-fits, doubling-next, doubling-end}
 use Rattle.embedding_search.proofs.sets_of.Statement.{statement}
 use Rattle.embedding_search.proofs.sets_of.Tie as tie
 

@@ -3,9 +3,9 @@ use borrow.Author.Needs.{needs}
 use mathlib.Core.Path.{refl}
 use native.Mathlib.Omega.{arith}
 use denote.Ref.{now}
-use Rattle.embedding_laws.proofs.Cells.{room-zeros}
-use Rattle.two_trees.proofs.EndTable.{is-table}
-use Rattle.embedding_search.proofs.Answers.{solve-none, solve-found}
+use Rattle.embedding_program.proofs.Cells.{room-zeros}
+use Rattle.embedding_trees.proofs.BranchEnds.{is-table}
+use Rattle.embedding_search.proofs.Searches.{solve-none, solve-found}
 use Rattle.embedding_search.proofs.solve.Statement.{statement}
 use Rattle.embedding_search.proofs.solve.Tie as tie
 

@@ -1,9 +1,9 @@
--- `try_at` meets its contract: the child may not go to p and the row stays, or it is tried there.
+-- `try_at` meets its contract: the child may not go to p and the row stays as it is, or the child is tried there.
 use borrow.Author.Needs.{needs}
 use mathlib.Core.Path.{sym, _∙_}
 use native.Mathlib.Omega.{arith}
 use denote.Ref.{now}
-use Rattle.embedding_search.proofs.Steps.{here-fits, shut-stays, open-tried}
+use Rattle.embedding_search.proofs.TryAt.{here-fits, shut-stays, open-tried}
 use Rattle.embedding_search.proofs.try_at.Statement.{statement}
 use Rattle.embedding_search.proofs.try_at.Tie as tie
 

@@ -1,10 +1,10 @@
--- `try_child` meets its contract. The child is tried in the first n of the sets that hold it.
+-- `try_child` meets its contract. The child is tried in the first n of the sets that contain it.
 use mathlib.Core.Path.{sym, _∙_}
 use Prim.Native.Nat.{_-_}
 use native.Mathlib.Nat.{mod-le}
 use native.Mathlib.Omega.{arith}
-use Rattle.embedding_laws.specs.Sets.{holding}
-use Rattle.embedding_laws.proofs.Cells.{holding-in, Trial, tried-start, tried-next, tried-end}
+use Rattle.embedding_program.specs.InnerSets.{holding}
+use Rattle.embedding_program.proofs.Cells.{holding-in, Trial, tried-start, tried-next, tried-end}
 use Rattle.embedding_search.proofs.try_child.Statement.{statement}
 use Rattle.embedding_search.proofs.try_child.Tie as tie
 

@@ -1,11 +1,11 @@
--- The chip's promise, of plain numbers.
+-- `linduvar_chip_held` meets its contract: the chip's contract, for plain numbers.
 use borrow.Author.Needs.{needs}
 use mathlib.Core.Path.{ap, _∙_}
-use Rattle.pifo.specs.Tree.{held}
+use Rattle.pifo_model.specs.Tree.{held}
 use Rattle.queue_state.specs.State.{treeOf}
 use Rattle.tree_state.specs.declared.Tree.{Tree}
-use Rattle.chip_counts.specs.Counts.{chipAmount}
-use Rattle.plain_answers.specs.Answers.{plainAmount}
+use Rattle.chip_counts.specs.Amounts.{chipAmount}
+use Rattle.exports_plain_answers.specs.Answers.{plainAmount}
 use denote.Ref.{now}
 use Rattle.exports_chip_state.proofs.linduvar_chip_held.Statement.{statement}
 use Rattle.exports_chip_state.proofs.linduvar_chip_held.Tie as tie

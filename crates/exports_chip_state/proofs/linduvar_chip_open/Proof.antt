@@ -1,7 +1,7 @@
--- The chip's promise, of plain numbers.
+-- `linduvar_chip_open` meets its contract: the chip's contract, for plain numbers.
 use borrow.Author.Needs.{needs}
 use mathlib.Core.Path.{ap, _∙_}
-use Rattle.plain_tree.specs.Answers.{plainOpened}
+use Rattle.exports_plain_tree.specs.Answers.{plainOpened}
 use Rattle.exports_chip_state.proofs.linduvar_chip_open.Statement.{statement}
 use Rattle.exports_chip_state.proofs.linduvar_chip_open.Tie as tie
 

@@ -1,9 +1,9 @@
--- The chip's promise, of plain numbers.
+-- `linduvar_chip_refusals` meets its contract: the chip's contract, for plain numbers.
 use borrow.Author.Needs.{needs}
 use mathlib.Core.Path.{ap, _∙_}
 use Rattle.tree_state.specs.declared.Tree.{Tree}
-use Rattle.chip_counts.specs.Counts.{chipAmount}
-use Rattle.plain_answers.specs.Answers.{plainAmount}
+use Rattle.chip_counts.specs.Amounts.{chipAmount}
+use Rattle.exports_plain_answers.specs.Answers.{plainAmount}
 use denote.Ref.{now}
 use Rattle.exports_chip_state.proofs.linduvar_chip_refusals.Statement.{statement}
 use Rattle.exports_chip_state.proofs.linduvar_chip_refusals.Tie as tie

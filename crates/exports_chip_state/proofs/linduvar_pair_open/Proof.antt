@@ -1,4 +1,4 @@
--- The opening of both, as plain numbers.
+-- `linduvar_pair_open` meets its contract: the opening of both trees, as plain numbers.
 use borrow.Author.Needs.{needs}
 use mathlib.Core.Path.{ap, _∙_}
 use Rattle.exports_chip_state.specs.Answers.{plainBoth}

@@ -1,7 +1,7 @@
--- The amount as plain numbers.
+-- `linduvar_held` meets its contract: the amount as plain numbers.
 use mathlib.Core.Path.{_∙_}
 use borrow.Author.Needs.{needs}
-use Rattle.exports_queue_state.proofs.Answering.{held-plain}
+use Rattle.exports_queue_state.proofs.Questions.{held-plain}
 use Rattle.exports_queue_state.proofs.linduvar_held.Statement.{statement}
 use Rattle.exports_queue_state.proofs.linduvar_held.Tie as tie
 

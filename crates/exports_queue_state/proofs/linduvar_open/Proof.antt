@@ -1,7 +1,7 @@
--- The opened state as plain numbers.
+-- `linduvar_open` meets its contract: the opened state as plain numbers.
 use borrow.Author.Needs.{needs}
 use mathlib.Core.Path.{ap, _∙_}
-use Rattle.plain_state.specs.declared.PlainState.{PlainState}
+use Rattle.exports_plain_state.specs.declared.PlainState.{PlainState}
 use Rattle.exports_queue_state.specs.Answers.{plainOpened}
 use Rattle.exports_queue_state.proofs.linduvar_open.Statement.{statement}
 use Rattle.exports_queue_state.proofs.linduvar_open.Tie as tie

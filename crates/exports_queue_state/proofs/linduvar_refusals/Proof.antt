@@ -1,7 +1,7 @@
--- The amount as plain numbers.
+-- `linduvar_refusals` meets its contract: the amount as plain numbers.
 use mathlib.Core.Path.{_∙_}
 use borrow.Author.Needs.{needs}
-use Rattle.exports_queue_state.proofs.Answering.{refusals-plain}
+use Rattle.exports_queue_state.proofs.Questions.{refusals-plain}
 use Rattle.exports_queue_state.proofs.linduvar_refusals.Statement.{statement}
 use Rattle.exports_queue_state.proofs.linduvar_refusals.Tie as tie
 

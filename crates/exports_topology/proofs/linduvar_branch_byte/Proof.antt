@@ -1,9 +1,9 @@
--- `linduvar_branch_byte` meets its contract: an index within the part reads it, one past its end gives 255.
+-- `linduvar_branch_byte` meets its contract: an index within the part gives its byte, one past its end gives 255.
 use mathlib.Core.Path.{sym, ap, _∙_}
 use Prim.Native.Nat.{ℕ}
 use mathlib.Core.List.{List}
 use lib.ListN.{getD, List·getD-eq-default}
-use Rattle.lists.proofs.Map.{getD-in}
+use Rattle.base.proofs.Map.{getD-in}
 use borrow.Author.Needs.{needs}
 use Rattle.exports_topology.proofs.linduvar_branch_byte.Statement.{statement}
 use Rattle.exports_topology.proofs.linduvar_branch_byte.Tie as tie

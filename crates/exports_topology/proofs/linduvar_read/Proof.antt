@@ -1,4 +1,4 @@
--- `linduvar_read` meets its contract: the answer's number is the fault's.
+-- `linduvar_read` meets its contract: the answer is the number of the refusal.
 use mathlib.Core.Path.{sym}
 use Rattle.topology.proofs.Cases.{read-tree, read-refused}
 use borrow.Author.Needs.{needs}

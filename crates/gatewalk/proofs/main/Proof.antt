@@ -1,4 +1,4 @@
--- `main` lends both buffers whole.
+-- `main` is safe: it lends both buffers whole.
 use mathlib.Core.Path.{sym}
 use Prim.Native.Nat.{ℕ}
 use lib.ListN.{length-replicate}

@@ -1,7 +1,7 @@
--- Refused by the search, refused for the limit, and opened.
+-- `open` meets its contract: the opening is refused by the search, refused for the limit, or not refused.
 use mathlib.Core.Path.{sym, _∙_}
 use borrow.Author.Needs.{needs}
-use Rattle.pair_state.proofs.Start.{number-is, search-refused, limit-refused, both-opened}
+use Rattle.pair_state.proofs.OpensBoth.{number-is, search-refused, limit-refused, both-opened}
 use Rattle.pair_state.proofs.open.Statement.{statement}
 use Rattle.pair_state.proofs.open.Tie as tie
 

@@ -1,6 +1,6 @@
--- An opening of no bytes gives no tree.
+-- `refused` meets its contract: an opening without bytes gives no tree.
 use borrow.Author.Needs.{needs}
-use Rattle.pair_state.proofs.Start.{none-opened}
+use Rattle.pair_state.proofs.OpensBoth.{none-opened}
 use Rattle.pair_state.proofs.refused.Statement.{statement}
 use Rattle.pair_state.proofs.refused.Tie as tie
 

@@ -1,12 +1,13 @@
--- The tests in turn; each that fails says what the state lacks. The pass over the queues has the last word.
+-- `examine` meets its contract: the tests in their order. A test that fails shows why the state is not well formed; the pass over the queues comes
+-- last.
 use borrow.Author.Needs.{needs}
 use native.Mathlib.Omega.{arith}
 use mathlib.Core.Path.{sym, _∙_}
 use lib.Seq.{length-take-le}
 use Rattle.queue_state.specs.State.{bytes}
-use Rattle.queue_state.proofs.Fresh.{refused-none, none-refused}
+use Rattle.queue_state.proofs.OpenedState.{refused-none, none-refused}
 use Rattle.queue_state.proofs.Arrays.{the-arrays}
-use Rattle.queue_check.proofs.Verdict.{says-no, tally-tests}
+use Rattle.queue_check.proofs.ExamineCases.{says-no, tally-tests}
 use Rattle.queue_check.proofs.examine.Statement.{statement}
 use Rattle.queue_check.proofs.examine.Tie as tie
 

@@ -1,10 +1,10 @@
--- The two answers of the state's test; a well-formed state holds at most 256 packets.
+-- `held` meets its contract: the two answers of the state's test. A well-formed state holds at most 256 packets.
 use borrow.Author.Needs.{needs}
 use native.Mathlib.Omega.{arith}
 use mathlib.Core.Path.{sym, ap, _∙_}
 use Rattle.queue_counts.specs.declared.Amount.the-variants.{Count}
-use Rattle.queue_state.proofs.Formed.{formed}
-use Rattle.queue_counts.proofs.Counts.{counted-amount, ill-amount}
+use Rattle.queue_state.proofs.WellFormed.{formed}
+use Rattle.queue_counts.proofs.Amounts.{counted-amount, ill-amount}
 use Rattle.queue_counts.proofs.held.Statement.{statement}
 use Rattle.queue_counts.proofs.held.Tie as tie
 

@@ -1,5 +1,5 @@
--- The two answers of the state's test.
-use Rattle.queue_counts.proofs.Counts.{counted-amount, ill-amount}
+-- `refusals` meets its contract: the two answers of the state's test.
+use Rattle.queue_counts.proofs.Amounts.{counted-amount, ill-amount}
 use borrow.Author.Needs.{needs}
 use borrow.Author.Tests.{not-true, not-false}
 use Rattle.queue_counts.proofs.refusals.Statement.{statement}

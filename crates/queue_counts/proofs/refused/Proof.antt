@@ -1,6 +1,6 @@
--- The two answers of the state's test.
+-- `refused` meets its contract: the two answers of the state's test.
 use borrow.Author.Needs.{needs}
-use Rattle.queue_counts.proofs.Counts.{refused-after, refused-ill}
+use Rattle.queue_counts.proofs.Amounts.{refused-after, refused-ill}
 use Rattle.queue_counts.proofs.refused.Statement.{statement}
 use Rattle.queue_counts.proofs.refused.Tie as tie
 

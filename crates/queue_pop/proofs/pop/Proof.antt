@@ -1,5 +1,5 @@
--- The cases of a pop in the order of the tests: 18, 16, and the packet that leaves. Between two queues `Between` holds of the entries, within
--- one `Moving`, and the state's other parts stay (`Beside`).
+-- `pop` meets its contract: the cases in the order of the tests, 18, 16, and a packet that leaves. `Between` holds of the entries between two queues,
+-- and `Moving` within one; the state's other parts stay as they are (`Beside`).
 use borrow.Author.Needs.{needs}
 use native.Mathlib.Omega.{arith}
 use native.Mathlib.Numerals.{add-one}
@@ -10,18 +10,18 @@ use borrow.Author.Tests.{not-true, not-false}
 use Rattle.topology.specs.Reader.{tree}
 use Rattle.topology.proofs.Lookup.{valid-size}
 use Rattle.topology.proofs.Ancestry.{size-pos}
-use Rattle.pifo.specs.Tree.{held}
-use Rattle.pifo.specs.Machine.{popping}
+use Rattle.pifo_model.specs.Tree.{held}
+use Rattle.pifo_model.specs.Machine.{popping}
 use Rattle.queue_state.specs.State.{bytes, treeOf}
 use Rattle.queue_state.specs.Calls.{withQueues, Serves}
 use Rattle.queue_state.specs.declared.State.{State}
-use Rattle.queue_state.proofs.Formed.{formed}
+use Rattle.queue_state.proofs.WellFormed.{formed}
 use Rattle.queue_state.proofs.Arrays.{the-arrays}
-use Rattle.queue_state.proofs.Parts.{start-next, start-order}
-use Rattle.queue_state.proofs.Serving.{ill-served}
+use Rattle.queue_state.proofs.Stretch.{start-next, start-order}
+use Rattle.queue_state.proofs.Serves.{ill-served}
 use Rattle.queue_state.proofs.InPlace.{Beside, beside}
-use Rattle.queue_pop.proofs.Closing.{Between, Moving, begin, enter, move, leave, closed-all}
-use Rattle.queue_pop.proofs.Popping.{ill-way, none-served, none-way-of, down, shorter, departed-served, departed-way}
+use Rattle.queue_pop.proofs.Gaps.{Between, Moving, begin, enter, move, leave, closed-all}
+use Rattle.queue_pop.proofs.PopCases.{ill-way, none-served, none-way-of, down, shorter, departed-served, departed-way}
 use Rattle.queue_pop.proofs.pop.Statement.{statement}
 use Rattle.queue_pop.proofs.pop.Tie as tie
 

@@ -1,6 +1,6 @@
--- `extended` meets its contract: the new step goes to the first place that is free, if there is one.
+-- `extended` meets its contract: the new step is written to the first free place, if there is one.
 use borrow.Author.Needs.{needs}
-use Rattle.queue_push.proofs.Paths.{extended-room, extended-full}
+use Rattle.queue_push.proofs.PathSteps.{extended-room, extended-full}
 use Rattle.queue_push.proofs.extended.Statement.{statement}
 use Rattle.queue_push.proofs.extended.Tie as tie
 

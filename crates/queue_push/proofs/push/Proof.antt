@@ -1,22 +1,22 @@
--- The cases of a push in the order of the tests: 18, 13 and 14, 15, and the packet that enters. The loop makes room from the last entry to
--- the first (`Making` in proofs/Opening), and the state's other parts stay (`Beside`).
+-- `push` meets its contract: the cases in the order of the tests, 18, 13 and 14, 15, and a packet that is accepted. The loop makes room from the last
+-- entry to the first (`Making` in proofs/Insertion), and the state's other parts stay as they are (`Beside`).
 use borrow.Author.Needs.{needs}
 use native.Mathlib.Omega.{arith}
 use mathlib.Core.Path.{refl, sym, ap, _∙_, subst}
 use Prim.Native.Nat.{_+_, _-_}
 use lib.Seq.{length-take-le}
 use borrow.Author.Tests.{not-true, not-false}
-use Rattle.pifo.specs.Machine.{pushing}
+use Rattle.pifo_model.specs.Machine.{pushing}
 use Rattle.queue_state.specs.State.{bytes}
 use Rattle.queue_state.specs.Calls.{withQueues, Serves}
 use Rattle.queue_state.specs.declared.State.{State}
-use Rattle.queue_state.proofs.Formed.{formed}
+use Rattle.queue_state.proofs.WellFormed.{formed}
 use Rattle.queue_state.proofs.Arrays.{the-arrays}
-use Rattle.queue_state.proofs.Serving.{ill-served}
+use Rattle.queue_state.proofs.Serves.{ill-served}
 use Rattle.queue_state.proofs.InPlace.{Beside, beside}
 use Rattle.queue_push.specs.Calls.{stepsOf}
-use Rattle.queue_push.proofs.Opening.{Making, last-fits, begin, node-low, place-low, behind, move, first, node-pos, next-fits, next, opened-all}
-use Rattle.queue_push.proofs.Pushing.{fault-served, full-served, ready, accepted-served}
+use Rattle.queue_push.proofs.Insertion.{Making, last-fits, begin, node-low, place-low, behind, move, first, node-pos, next-fits, next, opened-all}
+use Rattle.queue_push.proofs.PushCases.{fault-served, full-served, ready, accepted-served}
 use Rattle.queue_push.proofs.push.Statement.{statement}
 use Rattle.queue_push.proofs.push.Tie as tie
 

@@ -1,6 +1,6 @@
--- Full and not full.
+-- `room` meets its contract: the tree is full, or it is not.
 use mathlib.Core.Path.{sym}
-use Rattle.pifo.proofs.Answers.{room-none, room-some}
+use Rattle.pifo_model.proofs.Answers.{room-none, room-some}
 use Rattle.queue_push.proofs.room.Statement.{statement}
 use Rattle.queue_push.proofs.room.Tie as tie
 

@@ -1,7 +1,7 @@
--- By recursion on the number: a number of one digit, and one of more.
+-- `put_decimal` meets its contract, by recursion on the number: it has one digit, or more.
 use mathlib.Core.Path.{sym}
 use borrow.Author.Needs.{needs}
-use Rattle.text.proofs.Writing.{puts-as}
+use Rattle.text.proofs.Written.{puts-as}
 use Rattle.text.proofs.Digits.{decimal-digit, puts-last}
 use Prim.Native.Nat.{ℕ, _<_}
 use borrow.Fn.Kinds.{In}

@@ -1,4 +1,4 @@
--- `hex8` meets its contract. The digits from i on stand in their places, and the first i are those of the rest.
+-- `hex8` meets its contract. The digits from i on are in their places, and the first i are those of the rest.
 use mathlib.Core.Path.{refl}
 use native.Mathlib.Omega.{arith}
 use borrow.Author.Needs.{needs}

@@ -1,4 +1,4 @@
--- `hex_digit` meets its contract: a digit below ten, and one from ten on.
+-- `hex_digit` meets its contract: a digit below ten, or one from ten on.
 use Rattle.text.proofs.Digits.{hex-digit-low, hex-digit-high}
 use borrow.Author.Needs.{needs}
 use Rattle.text.proofs.hex_digit.Statement.{statement}

@@ -1,5 +1,5 @@
--- `put` meets its contract: a byte inside the buffer, and one past its end.
-use Rattle.text.proofs.Writing.{byte-in, byte-out}
+-- `put` meets its contract: a byte inside the buffer, or one past its end.
+use Rattle.text.proofs.Written.{byte-in, byte-out}
 use borrow.Author.Needs.{needs}
 use Rattle.text.proofs.put.Statement.{statement}
 use Rattle.text.proofs.put.Tie as tie

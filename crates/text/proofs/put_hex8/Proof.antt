@@ -1,5 +1,5 @@
--- `put_hex8` meets its contract: the word is the number's digits.
-use Rattle.text.proofs.Writing.{puts-as}
+-- `put_hex8` meets its contract: the word has the number's digits.
+use Rattle.text.proofs.Written.{puts-as}
 use borrow.Author.Needs.{needs}
 use Rattle.text.proofs.put_hex8.Statement.{statement}
 use Rattle.text.proofs.put_hex8.Tie as tie

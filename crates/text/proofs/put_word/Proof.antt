@@ -5,7 +5,7 @@ use lib.Seq.{take-all}
 use native.Mathlib.Omega.{arith}
 use borrow.Author.Needs.{needs}
 use Rattle.text.specs.Text.{Puts}
-use Rattle.text.proofs.Writing.{puts-none, puts-length, puts-as, puts-next}
+use Rattle.text.proofs.Written.{puts-none, puts-length, puts-as, puts-next}
 use Rattle.text.proofs.put_word.Statement.{statement}
 use Rattle.text.proofs.put_word.Tie as tie
 

@@ -1,4 +1,4 @@
--- `first_pending` meets its contract. The loop has passed only marks of branches that are complete.
+-- `first_pending` meets its contract. The loop has skipped only marks of complete branches.
 use borrow.Author.Needs.{needs}
 use native.Mathlib.Numerals.{add-one}
 use mathlib.Core.Path.{_≡_, refl, _∙_}

@@ -1,8 +1,8 @@
--- `carry` meets its contract: a list that the check refuses; for one that passes, a path that is refused as drawn, and the walk for any other.
+-- `carry` meets its contract: the map is refused; or it meets the rules, and the path is refused in the drawing; or the walk carries the path.
 use borrow.Author.Needs.{needs}
 use mathlib.Core.Path.{sym, _∙_}
-use Rattle.translator.proofs.Walking.{valid-source}
-use Rattle.translator.proofs.Outcome.{map-passes, map-refused, path-refused, path-carried}
+use Rattle.translator.proofs.WalkLoop.{valid-source}
+use Rattle.translator.proofs.Carries.{map-passes, map-refused, path-refused, path-carried}
 use Rattle.translator.proofs.carry.Statement.{statement}
 use Rattle.translator.proofs.carry.Tie as tie
 

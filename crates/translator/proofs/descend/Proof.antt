@@ -1,4 +1,4 @@
--- `descend` meets its contract. The loop has come down to `node`, and the path has the steps down to there.
+-- `descend` meets its contract. The loop has reached `node`, and the path has the steps to that node.
 use borrow.Author.Needs.{needs}
 use native.Mathlib.Omega.{arith}
 use mathlib.Core.Path.{refl}
@@ -6,9 +6,9 @@ use mathlib.Core.List.{_++_}
 use Prim.Native.Nat.{_-_}
 use Rattle.topology.specs.Reader.{tree}
 use Rattle.topology.specs.Address.{route}
-use Rattle.simulation.specs.Carrying.{steps}
+use Rattle.pair_model.specs.Carrying.{steps}
 use Rattle.queue_push.specs.Calls.{stepsOf}
-use Rattle.translator.proofs.Ways.{Descending, descending-lost, descending-down, descending-next, descending-end}
+use Rattle.translator.proofs.DescendLoop.{Descending, descending-lost, descending-down, descending-next, descending-end}
 use Rattle.translator.proofs.descend.Statement.{statement}
 use Rattle.translator.proofs.descend.Tie as tie
 

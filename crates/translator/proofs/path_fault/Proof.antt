@@ -4,7 +4,7 @@ use native.Mathlib.Omega.{arith}
 use mathlib.Core.Path.{_≡_, sym, _∙_}
 use Prim.Native.Nat.{_-_}
 use lib.ListN.{length}
-use Rattle.lists.proofs.Map.{length-map}
+use Rattle.base.proofs.Map.{length-map}
 use Rattle.translator.proofs.Standing.{Standing, standing-start, standing-few, standing-in, standing-lost, standing-next, standing-above, standing-leaf}
 use Rattle.translator.proofs.path_fault.Statement.{statement}
 use Rattle.translator.proofs.path_fault.Tie as tie

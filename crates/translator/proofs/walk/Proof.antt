@@ -1,11 +1,11 @@
--- `walk` meets its contract. The loop has walked the first i steps of the path and carried them (`Walking` in proofs/Walking.antt).
+-- `walk` meets its contract. The loop has walked the first i steps of the path and carried them (`Walking` in proofs/WalkLoop.antt).
 use borrow.Author.Needs.{needs}
 use native.Mathlib.Omega.{arith}
 use mathlib.Core.Path.{_≡_, refl, sym, _∙_}
 use Prim.Native.Nat.{_-_}
 use lib.ListN.{length}
-use Rattle.lists.proofs.Map.{length-map}
-use Rattle.translator.proofs.Walking.{Walking, walking-listed, walking-first, walking-none, walking-start, walking-few, walking-lost, walking-child, walking-over, walking-next, walking-end}
+use Rattle.base.proofs.Map.{length-map}
+use Rattle.translator.proofs.WalkLoop.{Walking, walking-listed, walking-first, walking-none, walking-start, walking-few, walking-lost, walking-child, walking-over, walking-next, walking-end}
 use Rattle.translator.proofs.walk.Statement.{statement}
 use Rattle.translator.proofs.walk.Tie as tie
 
@@ -18,7 +18,7 @@ abbrev μ-loop : tie.MeasureT-loop
 places : (c : tie.Start Inv-loop μ-loop) → length (c .args .t4 .steps) ≡ 9
 places c = sym (length-map _ (c .args .t4 .steps)) ∙ c .good .1 .1 .1 .0 .1 .1 .0 .1 .0 .1
 
--- the function's start, seen from the loop
+-- the state at the function's start, from that in the loop
 abbrev start : tie.At-loop Inv-loop μ-loop → tie.Start Inv-loop μ-loop
 start at = at .before .before .before .before .before .before .before
 

@@ -4,7 +4,7 @@ use native.Mathlib.Omega.{arith}
 use lib.ListN.{length-take}
 use Rattle.queue_state.specs.State.{bytes}
 use Rattle.tree_state.proofs.Arrays.{the-topology}
-use Rattle.tree_calls.proofs.Serving.{unsound, by-pop}
+use Rattle.tree_calls.proofs.OwnServes.{unsound, by-pop}
 use Rattle.tree_calls.proofs.pop.Statement.{statement}
 use Rattle.tree_calls.proofs.pop.Tie as tie
 

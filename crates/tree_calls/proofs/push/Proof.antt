@@ -1,6 +1,6 @@
 -- `push` meets its contract.
 use borrow.Author.Needs.{needs}
-use Rattle.tree_calls.proofs.Serving.{unsound, by-path}
+use Rattle.tree_calls.proofs.OwnServes.{unsound, by-path}
 use Rattle.tree_calls.proofs.push.Statement.{statement}
 use Rattle.tree_calls.proofs.push.Tie as tie
 

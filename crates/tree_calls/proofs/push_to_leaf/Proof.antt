@@ -1,4 +1,4 @@
--- `push_to_leaf` meets its contract, a law for each answer (proofs/Serving).
+-- `push_to_leaf` meets its contract: one law for each answer (proofs/OwnServes).
 use borrow.Author.Needs.{needs}
 use native.Mathlib.Omega.{arith}
 use mathlib.Core.Path.{refl, sym, ap}
@@ -9,7 +9,7 @@ use Rattle.queue_state.specs.State.{bytes}
 use Rattle.queue_state.specs.Calls.{answerOf}
 use Rattle.tree_state.proofs.Below.{others-apart}
 use Rattle.tree_state.proofs.Arrays.{the-topology}
-use Rattle.tree_calls.proofs.Serving.{unsound, not-a-leaf, leaf-late, leaf-taken, leaf-rest}
+use Rattle.tree_calls.proofs.OwnServes.{unsound, not-a-leaf, leaf-late, leaf-taken, leaf-rest}
 use Rattle.tree_calls.proofs.push_to_leaf.Statement.{statement}
 use Rattle.tree_calls.proofs.push_to_leaf.Tie as tie
 

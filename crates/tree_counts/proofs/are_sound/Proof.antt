@@ -2,7 +2,7 @@
 use borrow.Author.Needs.{needs}
 use mathlib.Core.Path.{sym}
 use lib.Seq.{length-take-le}
-use Rattle.tree_counts.proofs.Testing.{too-many, judged}
+use Rattle.tree_counts.proofs.AreSound.{too-many, judged}
 use Rattle.tree_counts.proofs.are_sound.Statement.{statement}
 use Rattle.tree_counts.proofs.are_sound.Tie as tie
 

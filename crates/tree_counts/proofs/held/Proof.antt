@@ -1,7 +1,7 @@
 -- `held` meets its contract.
 use borrow.Author.Needs.{needs}
 use borrow.Author.Tests.{not-true, not-false}
-use Rattle.tree_counts.proofs.Testing.{unanswered, answered}
+use Rattle.tree_counts.proofs.AreSound.{unanswered, answered}
 use Rattle.tree_counts.proofs.held.Statement.{statement}
 use Rattle.tree_counts.proofs.held.Tie as tie
 

@@ -1,6 +1,6 @@
 -- `refusals` meets its contract.
 use borrow.Author.Needs.{needs}
-use Rattle.tree_counts.proofs.Testing.{unanswered, answered}
+use Rattle.tree_counts.proofs.AreSound.{unanswered, answered}
 use Rattle.tree_counts.proofs.refusals.Statement.{statement}
 use Rattle.tree_counts.proofs.refusals.Tie as tie
 

@@ -1,6 +1,6 @@
 -- `open` meets its contract.
 use borrow.Author.Needs.{needs}
-use Rattle.tree_open.proofs.Openings.{tree-opened}
+use Rattle.tree_open.proofs.OpenedTree.{tree-opened}
 use Rattle.tree_open.proofs.open.Statement.{statement}
 use Rattle.tree_open.proofs.open.Tie as tie
 

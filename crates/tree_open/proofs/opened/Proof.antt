@@ -1,6 +1,6 @@
--- `opened` meets its contract: an opening of no bytes gives no tree.
+-- `opened` meets its contract: an opening without bytes gives no tree.
 use borrow.Author.Needs.{needs}
-use Rattle.tree_open.proofs.Openings.{none-opened, some-opened}
+use Rattle.tree_open.proofs.OpenedTree.{none-opened, some-opened}
 use Rattle.tree_open.proofs.opened.Statement.{statement}
 use Rattle.tree_open.proofs.opened.Tie as tie
 

@@ -1,6 +1,6 @@
 -- `refusal` meets its contract.
 use borrow.Author.Needs.{needs}
-use Rattle.tree_open.proofs.Openings.{state-refused, rules-judged}
+use Rattle.tree_open.proofs.OpenedTree.{state-refused, rules-judged}
 use Rattle.tree_open.proofs.refusal.Statement.{statement}
 use Rattle.tree_open.proofs.refusal.Tie as tie
 

@@ -27,7 +27,7 @@ pub fn run() {
 }
 
 /// A pop and a push of the queue tree alone, or with disciplines and to a leaf
-/// or by path, in a process that runs `churn` alone.
+/// or by path, in a process that runs `run_rounds` alone.
 fn rounds(library: &Path) {
     for push in ["push", "push to a leaf", "push by path"] {
         for (depth, packets) in [(1, 1), (8, MOST_PACKETS)] {
@@ -43,17 +43,17 @@ fn rounds(library: &Path) {
     }
 }
 
-/// The churn that the arguments of such a process ask for.
-pub fn churn(arguments: &[String]) {
+/// The rounds that the arguments of such a process ask for.
+pub fn run_rounds(arguments: &[String]) {
     let [push, depth, packets, rounds] = arguments else {
         panic!("a push, a depth, the packets held and the rounds, or nothing at all");
     };
     let number = |text: &String| -> usize { text.parse().expect("a number") };
     let (depth, packets, rounds) = (number(depth), number(packets), number(rounds) as u32);
     match push.as_str() {
-        "push" => _ = Filled::new(depth, packets, &mut Random::new(1)).churn(rounds),
-        "push to a leaf" => _ = Weighted::new(depth, packets).churn(rounds),
-        "push by path" => _ = Weighted::new(depth, packets).path_churn(rounds),
+        "push" => _ = Filled::new(depth, packets, &mut Random::new(1)).rounds(rounds),
+        "push to a leaf" => _ = Weighted::new(depth, packets).rounds(rounds),
+        "push by path" => _ = Weighted::new(depth, packets).path_rounds(rounds),
         _ => panic!("no such push: {push}"),
     }
 }

@@ -17,7 +17,7 @@ use std::time::Instant;
 fn main() {
     let arguments: Vec<String> = env::args().skip(1).collect();
     if !arguments.is_empty() {
-        return copies::churn(&arguments);
+        return copies::run_rounds(&arguments);
     }
     let seed = random::seed();
     let mut random = Random::new(seed);

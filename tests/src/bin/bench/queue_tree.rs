@@ -28,18 +28,18 @@ pub fn run(random: &mut Random) {
             let in_rust = |calls: u32| {
                 let mut tree = black_box(&filled.tree).clone();
                 let [first, second] = &filled.paths;
-                queue_tree::churn(&mut tree, [(first, 1), (second, 2)], calls);
+                queue_tree::rounds(&mut tree, [(first, 1), (second, 2)], calls);
                 tree
             };
-            assert_eq!(filled.churn(CALLS).read(), Some(in_rust(CALLS).state()));
-            let rattle = time(|calls| _ = black_box(filled.churn(calls)));
+            assert_eq!(filled.rounds(CALLS).read(), Some(in_rust(CALLS).state()));
+            let rattle = time(|calls| _ = black_box(filled.rounds(calls)));
             let rust = time(|calls| _ = black_box(in_rust(calls)));
             println!(
                 "depth {depth}, {packets:3} held        Rattle {rattle:11.1}   Rust {rust:11.1} ({:.2})",
                 rattle / rust
             );
             // One call each, less the crossing.
-            let crossing = single(|| _ = black_box(filled.churn(0)));
+            let crossing = single(|| _ = black_box(filled.rounds(0)));
             let pop = single(|| _ = black_box(filled.pop()));
             let push = single(|| _ = black_box(filled.push()));
             println!(
@@ -96,9 +96,9 @@ impl Filled {
         }
     }
 
-    pub fn churn(&self, rounds: u32) -> PlainState {
+    pub fn rounds(&self, rounds: u32) -> PlainState {
         let [first, second] = &self.plain;
-        rattle_queue_tree::churn(black_box(&self.state), first, second, rounds)
+        rattle_queue_tree::rounds(black_box(&self.state), first, second, rounds)
     }
 
     /// A pop that departs.

@@ -25,12 +25,17 @@ pub fn run() {
         for packets in [1, 32, MOST_PACKETS] {
             let weighted = Weighted::new(depth, packets);
             println!("depth {depth}, {packets:3} held");
-            let to_leaf = rounds("to a leaf", &weighted, Weighted::churn, |tree, calls| {
-                scheduler::churn(tree, weighted.leaf, 0, LENGTH, calls);
+            let to_leaf = rounds("to a leaf", &weighted, Weighted::rounds, |tree, calls| {
+                scheduler::rounds(tree, weighted.leaf, 0, LENGTH, calls);
             });
-            let by_path = rounds("by path", &weighted, Weighted::path_churn, |tree, calls| {
-                scheduler::path_churn(tree, &weighted.path, calls);
-            });
+            let by_path = rounds(
+                "by path",
+                &weighted,
+                Weighted::path_rounds,
+                |tree, calls| {
+                    scheduler::path_rounds(tree, &weighted.path, calls);
+                },
+            );
             println!("  to a leaf over by path    {:.2}", to_leaf / by_path);
             singles(&weighted);
         }
@@ -50,9 +55,9 @@ fn rounds(
         rust(&mut tree, calls);
         tree
     };
-    let (churned, expected) = (rattle(weighted, CALLS), in_rust(CALLS));
-    assert_eq!(churned.state.read(), Some(expected.state()));
-    assert_eq!(churned.disciplines, expected.disciplines());
+    let (after_rounds, expected) = (rattle(weighted, CALLS), in_rust(CALLS));
+    assert_eq!(after_rounds.state.read(), Some(expected.state()));
+    assert_eq!(after_rounds.disciplines, expected.disciplines());
     let by_rattle = time(|calls| _ = black_box(rattle(weighted, calls)));
     let by_rust = time(|calls| _ = black_box(in_rust(calls)));
     println!(
@@ -64,7 +69,7 @@ fn rounds(
 
 /// One push of each kind in Rattle, less the crossing.
 fn singles(weighted: &Weighted) {
-    let crossing = single(|| _ = black_box(weighted.churn(0)));
+    let crossing = single(|| _ = black_box(weighted.rounds(0)));
     let to_leaf = single(|| _ = black_box(weighted.push_to_leaf())) - crossing;
     let by_path = single(|| _ = black_box(weighted.push())) - crossing;
     println!(
@@ -127,12 +132,12 @@ impl Weighted {
         }
     }
 
-    pub fn churn(&self, rounds: u32) -> PlainTree {
-        rattle_tree::churn(black_box(&self.plain), self.leaf, 0, LENGTH, rounds)
+    pub fn rounds(&self, rounds: u32) -> PlainTree {
+        rattle_tree::rounds(black_box(&self.plain), self.leaf, 0, LENGTH, rounds)
     }
 
-    pub fn path_churn(&self, rounds: u32) -> PlainTree {
-        rattle_tree::path_churn(black_box(&self.plain), &self.plain_path, rounds)
+    pub fn path_rounds(&self, rounds: u32) -> PlainTree {
+        rattle_tree::path_rounds(black_box(&self.plain), &self.plain_path, rounds)
     }
 
     /// A push to a leaf that is accepted.

@@ -46,7 +46,7 @@ pub fn run(random: &mut Random) {
     report("refusals", &|| rattle_queue_tree::refusals(&filled.state));
     report("push", &|| filled.push());
     report("pop", &|| filled.pop());
-    report("churn", &|| filled.churn(2));
+    report("rounds", &|| filled.rounds(2));
     trees();
     chips(&source, &target, map);
 }
@@ -77,7 +77,7 @@ fn chips(source: &[u8], target: &[u8], map: &[u8]) {
     let behind = Behind { source, map };
     let leaf = source.len() - 1;
     let pushed = behind.push_to_leaf(&chip, leaf, 1, 1, 1);
-    assert_eq!((pushed.number, pushed.value), (0, 1));
+    assert_eq!((pushed.refusal, pushed.value), (0, 1));
     let path = PlainPath::write(&[Step { child: 1, rank: 1 }; 2], 1);
     report("pair_open", &|| {
         rattle_chip::open(source, target, MOST_PACKETS, rules)

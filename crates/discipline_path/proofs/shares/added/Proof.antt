@@ -1,6 +1,6 @@
 -- `added` meets its contract.
 use borrow.Author.Needs.{needs}
-use Rattle.discipline_path.proofs.Sharing.{none-added}
+use Rattle.discipline_path.proofs.ShareOf.{none-added}
 use Rattle.discipline_path.proofs.shares.added.Statement.{statement}
 use Rattle.discipline_path.proofs.shares.added.Tie as tie
 

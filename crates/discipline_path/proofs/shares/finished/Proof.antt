@@ -1,6 +1,6 @@
 -- `finished` meets its contract.
 use borrow.Author.Needs.{needs}
-use Rattle.discipline_path.proofs.Sharing.{finish-written, finish-stays}
+use Rattle.discipline_path.proofs.ShareOf.{finish-written, finish-stays}
 use Rattle.discipline_path.proofs.shares.finished.Statement.{statement}
 use Rattle.discipline_path.proofs.shares.finished.Tie as tie
 

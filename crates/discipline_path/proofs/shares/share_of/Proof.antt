@@ -1,6 +1,6 @@
--- `share_of` meets its contract, a law for each discipline.
+-- `share_of` meets its contract: one law for each discipline.
 use borrow.Author.Needs.{needs}
-use Rattle.discipline_path.proofs.Sharing.{weighted-late, weighted-fits, by-class, by-arrival}
+use Rattle.discipline_path.proofs.ShareOf.{weighted-late, weighted-fits, by-class, by-arrival}
 use Rattle.discipline_path.proofs.shares.share_of.Statement.{statement}
 use Rattle.discipline_path.proofs.shares.share_of.Tie as tie
 

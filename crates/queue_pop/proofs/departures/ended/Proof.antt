@@ -1,4 +1,4 @@
--- Nothing is taken on a way that is made new.
+-- `ended` meets its contract: a new way has nothing taken.
 use mathlib.Core.Path.{ap}
 use Rattle.queue_pop.specs.declared.Way.{Way}
 use mathlib.Core.Bool.{true}

@@ -1,0 +1,12 @@
+pub mod Tests
+pub mod Refusals
+pub mod Map
+pub mod Last
+pub mod Part
+pub mod Permutation
+pub mod Prefix
+pub mod Slice
+pub mod Replicate
+pub mod Tabulate
+pub mod Set
+pub mod Sum

@@ -1,0 +1,9 @@
+pub mod Route
+pub mod RuleFault
+pub mod ActsAt
+pub mod StepsDown
+pub mod FinishesDown
+pub mod AfterPop
+pub mod Requests
+pub mod OneCall
+pub mod Examples

@@ -1,9 +1,0 @@
-pub mod Ways
-pub mod Rules
-pub mod Passed
-pub mod Steps
-pub mod Finishes
-pub mod Times
-pub mod Requests
-pub mod Below
-pub mod Examples

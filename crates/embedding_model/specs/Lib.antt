@@ -1,0 +1,4 @@
+pub mod Rules
+pub mod Check
+pub mod Least
+pub mod InnerLeast

@@ -1,0 +1,4 @@
+pub mod InnerSets
+pub mod InnerPlacing
+pub mod InnerTables
+pub mod InnerMeaning

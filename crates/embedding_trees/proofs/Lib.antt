@@ -1,0 +1,2 @@
+pub mod TreesFault
+pub mod BranchEnds

@@ -1,1 +1,0 @@
-// No function: this crate holds the laws on lists, in proofs/, that the kit's library lacks.

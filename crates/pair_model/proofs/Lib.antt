@@ -1,0 +1,12 @@
+pub mod Toward
+pub mod Images
+pub mod Lift
+pub mod Owns
+pub mod Carry
+pub mod Mirrors
+pub mod ServeCarried
+pub mod Keeps
+pub mod MachinesAlike
+pub mod ReducedAlike
+pub mod CarryNodes
+pub mod Examples

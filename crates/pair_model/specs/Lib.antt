@@ -1,0 +1,5 @@
+pub mod Embedding
+pub mod Carrying
+pub mod Mirror
+pub mod Simulation
+pub mod Reduced

@@ -1,0 +1,17 @@
+pub mod Insert
+pub mod Well
+pub mod PathFault
+pub mod Push
+pub mod Pop
+pub mod Runs
+pub mod Times
+pub mod Examples
+pub mod Queues
+pub mod Chains
+pub mod Answers
+pub mod Drained
+pub mod Append
+pub mod Numbered
+pub mod Way
+pub mod Local
+pub mod Total

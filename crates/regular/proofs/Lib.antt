@@ -1,4 +1,0 @@
-pub mod Powers
-pub mod Stack
-pub mod Depths
-pub mod Answers

@@ -1,0 +1,4 @@
+pub mod Powers
+pub mod LeavesNeeded
+pub mod LeastDepth
+pub mod Answers

@@ -1,0 +1,13 @@
+pub mod Enough
+pub mod Complete
+pub mod Sizes
+pub mod Room
+pub mod Kraft
+pub mod Placement
+pub mod Fits
+pub mod Depth
+pub mod ReducedNeed
+pub mod Bounds
+pub mod Limits
+pub mod SearchRegular
+pub mod Examples

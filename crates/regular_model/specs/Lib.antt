@@ -1,0 +1,3 @@
+pub mod Regular
+pub mod Depth
+pub mod InnerNeed

@@ -1,0 +1,7 @@
+pub mod Sizes
+pub mod PutChips
+pub mod Endings
+pub mod TableOnce
+pub mod Lengths
+pub mod Unlimited
+pub mod Examples

@@ -1,0 +1,6 @@
+pub mod Walks
+pub mod OperandBytes
+pub mod ReadAt
+pub mod ReadsFrom
+pub mod Batches
+pub mod Lent

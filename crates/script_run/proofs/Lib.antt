@@ -1,0 +1,10 @@
+pub mod Examples
+pub mod Stops
+pub mod CompileCases
+pub mod BeforeCompile
+pub mod ServeCases
+pub mod CallOf
+pub mod BatchLoop
+pub mod RunLoop
+pub mod LentAgain
+pub mod Lengths

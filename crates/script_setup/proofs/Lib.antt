@@ -1,0 +1,5 @@
+pub mod AddingBytes
+pub mod GatherLoop
+pub mod Take
+pub mod WithLimit
+pub mod Endings

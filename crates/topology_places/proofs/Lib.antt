@@ -1,0 +1,6 @@
+pub mod Counted
+pub mod RoleOf
+pub mod Passes
+pub mod Addresses
+pub mod RoleExactly
+pub mod Examples
