@@ -2,18 +2,21 @@
 //! scripts and compares all that they print. The first difference ends the run.
 
 use linduvar_tests::commands::{opening, push, step, POP};
-use linduvar_tests::gatewalk::{end, walk, walk_slowly};
+use linduvar_tests::gatewalk::{end, program, walk, walk_slowly};
+use linduvar_tests::paper::text;
 use linduvar_tests::random::{seeded, Random};
 use linduvar_tests::reached::Reached;
 use linduvar_tests::script::{run, SCRIPT_BYTES};
 use linduvar_tests::scripts::{self, LONG_KINDS};
 use linduvar_tests::{laborious, paper, samples};
+use std::fs::File;
 use std::os::unix::process::ExitStatusExt;
 use std::panic::resume_unwind;
 use std::path::Path;
-use std::process::Command;
+use std::process::{self, Command, Output};
 use std::thread;
 use std::time::{Duration, Instant};
+use std::{env, fs};
 
 const RANDOM_SCRIPTS: u64 = 6_000;
 const LONG_SCRIPTS: u64 = 60;
@@ -55,18 +58,55 @@ fn compare(what: &str, script: &[u8]) {
     }
 }
 
-/// `samples/run` gives the bytes of each sample.
+/// `samples/bytes` gives the bytes of each sample, also of one whose lines end with CR LF, and of a long one within a second; of one with a fault it
+/// gives nothing, and names the line. `samples/offsets` shows before each line that promises a refusal its command's offset.
 fn samples_in_the_shell() {
     for path in samples::all() {
-        assert_eq!(shell(&path), samples::read(&path).script);
+        let sample = samples::read(&path);
+        assert_eq!(shell("bytes", &[&path]).stdout, sample.script);
+        let lines = fs::read_to_string(&path).expect("a sample");
+        assert_eq!(bytes_of(&lines.replace('\n', "\r\n")).stdout, sample.script);
+
+        let view = shell("offsets", &[&path]).stdout;
+        for line in String::from_utf8_lossy(&view).lines() {
+            if let Some((_, refusal)) = line.split_once("=> no ") {
+                let offset = refusal.split(' ').nth(1).expect("an offset");
+                let offsets = line.split("  ").next().unwrap_or("").split(' ');
+                assert_eq!(offsets.last(), Some(offset), "{line}");
+            }
+        }
     }
+    let start = Instant::now();
+    assert_eq!(
+        bytes_of(&"0A FF\n".repeat(32_768)).stdout,
+        [10, 255].repeat(32_768)
+    );
+    assert!(start.elapsed() < Duration::from_secs(1));
+
+    let faulty = bytes_of("01 00\n02 0G # not a byte\n");
+    assert!(faulty.stdout.is_empty() && faulty.status.code() == Some(1));
+    assert!(text(faulty.stderr).ends_with(":2: 0G is no byte in hex\n"));
+    let missing = shell("run", &[Path::new("gatewalk"), Path::new("none.hex")]);
+    assert!(missing.stdout.is_empty() && missing.status.code() == Some(1));
+    let unbuilt = shell("run", &[Path::new("none"), &samples::all()[0]]);
+    assert!(text(unbuilt.stderr).starts_with("none is not built"));
+    println!("samples in the shell: as read here");
 }
 
-/// The bytes that the shell script makes of a sample.
-fn shell(sample: &Path) -> Vec<u8> {
-    let program = samples::folder().join("run");
-    let output = Command::new(program).arg(sample).output();
-    output.expect("samples/run starts").stdout
+/// What `samples/bytes` makes of a sample with this text.
+fn bytes_of(sample: &str) -> Output {
+    let path = env::temp_dir().join(format!("linduvar-{}.hex", process::id()));
+    fs::write(&path, sample).expect("a file for a sample");
+    let output = shell("bytes", &[&path]);
+    fs::remove_file(&path).expect("the file of a sample");
+    output
+}
+
+/// What a shell script of the samples does.
+fn shell(script: &str, arguments: &[&Path]) -> Output {
+    let script = samples::folder().join(script);
+    let output = Command::new(script).args(arguments).output();
+    output.expect("a script that starts")
 }
 
 /// A pipe that gives one byte at a time.
@@ -104,13 +144,15 @@ fn ten_megabytes() {
 fn lost_streams() {
     const GONE: i32 = 13;
     const LOST: &str = "cannot write all of the output\n";
+    const UNREAD: &str = "cannot read all of the input\n";
     let long = [opening(&[0], &[0], 1).concat(), vec![POP; 60_000]].concat();
     for script in [&paper::EXAMPLE[..], &long] {
         assert_eq!(end(script, "", 0).0.signal(), Some(GONE));
         for (streams, says) in [
-            ("<&-", ""),
+            ("<&-", UNREAD),
+            ("</", UNREAD),
             (">&-", LOST),
-            ("<&- >&-", ""),
+            ("<&- >&-", UNREAD),
             (">/dev/full", LOST),
         ] {
             let (status, said) = end(script, streams, 0);
@@ -120,7 +162,17 @@ fn lost_streams() {
     }
     assert_eq!(end(&long, "", 1_000).0.signal(), Some(GONE));
     assert!(end(&[], "", 0).0.success());
-    println!("streams that are closed, full or without a reader: it ends");
+    for name in ["gatewalk", "drawtrees", "buychip", "readtree"] {
+        let program = program().with_file_name(name);
+        let folder = File::open("/").expect("the root folder");
+        let output = Command::new(program).stdin(folder).output().expect(name);
+        assert!(
+            output.status.success() && output.stdout.is_empty(),
+            "{name}"
+        );
+        assert_eq!(text(output.stderr), UNREAD, "{name}");
+    }
+    println!("streams that are closed, full, a folder or without a reader: it ends, and says so");
 }
 
 fn crowded_drawings() {

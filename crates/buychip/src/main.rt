@@ -2,6 +2,9 @@
 // most, and writes the table.
 fn walk(input: &mut [u8], text: &mut [u8]) {
     let n = io::read_full(0, input);
+    if text_stream::input_failed(n, input.len()) {
+        return;
+    }
     let end = regular_table::put_table(&input[..n], text);
     text_stream::print(&text[..end]);
 }

@@ -2,6 +2,9 @@
 // the first 65,536 bytes at most.
 fn walk(input: &mut [u8], text: &mut [u8]) {
     let n = io::read_full(0, input);
+    if text_stream::input_failed(n, input.len()) {
+        return;
+    }
     let end = drawing_svg::draw_script(&input[..n], text);
     text_stream::print(&text[..end]);
 }

@@ -2,6 +2,9 @@
 // script prints.
 fn walk(input: &mut [u8], text: &mut [u8]) {
     let n = io::read_full(0, input);
+    if text_stream::input_failed(n, input.len()) {
+        return;
+    }
     let end = script_run::run(&input[..n], text);
     text_stream::print(&text[..end]);
 }

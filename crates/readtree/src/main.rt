@@ -1,5 +1,5 @@
-// Reads a topology from standard input, its bytes as they are, and writes a line for each node: its number, its number of children, and one past the
-// last node of its branch; or `no` and the refusal's number.
+// Reads a topology from standard input, its bytes as they are, and writes a heading and a line for each node: its number, its number of children, and
+// one past the last node of its branch; or `no` and the refusal's number.
 use topology::Reading;
 use topology::TARGET_NODES;
 use topology::wide;
@@ -31,9 +31,15 @@ fn print_tree(bytes: &[u8]) {
 fn main() {
     let mut buffer = [0u8; 256];
     let n = io::read_full(0, &mut buffer);
+    if text_stream::input_failed(n, 256) {
+        return;
+    }
     let bytes = &buffer[..n];
     match topology::read(bytes, TARGET_NODES) {
-        Reading::Tree => print_tree(bytes),
+        Reading::Tree => {
+            io::write_all(OUT, b"node children end\n");
+            print_tree(bytes);
+        }
         Reading::Refused(number) => {
             io::write_all(OUT, b"no ");
             print(wide(number), b'\n');

@@ -10,6 +10,15 @@ use Rattle.gatewalk.proofs.walk.Tie as tie
 read-full-requires : tie.Need-read-full-requires
 read-full-requires c κs = search needs
 
+input-failed-requires : tie.Need-input-failed-requires
+input-failed-requires c κs = search needs
+
+same-length : tie.Need-same-length
+same-length c = search needs
+
+returns : tie.Need-returns
+returns c = search needs
+
 slice-reshare-prefix-run : tie.Need-slice-reshare-prefix-run
 slice-reshare-prefix-run c = search needs
 
@@ -30,26 +39,29 @@ slice-aggregate-print c =
 print-requires : tie.Need-print-requires
 print-requires c κs = search needs
 
-same-length : tie.Need-same-length
-same-length c = search needs
-
 same-length-2 : tie.Need-same-length-2
 same-length-2 c = search needs
 
-returns : tie.Need-returns
-returns c = search needs
+same-length-3 : tie.Need-same-length-3
+same-length-3 c = search needs
+
+returns-2 : tie.Need-returns-2
+returns-2 c = search needs
 
 pub walk-spec : {M : Type 1} → statement M
 walk-spec =
     tie.close
     (tie.spec
     read-full-requires
+    input-failed-requires
+    same-length
+    returns
     slice-reshare-prefix-run
     slice-aggregate-run
     run-requires
     slice-reshare-prefix-print
     slice-aggregate-print
     print-requires
-    same-length
     same-length-2
-    returns)
+    same-length-3
+    returns-2)
