@@ -13,13 +13,14 @@ use Rattle.topology.specs.Address.{sub, num, subtree}
 use Rattle.topology.proofs.Decoding.{length-code, byte-width}
 use Rattle.topology.proofs.Numbering.{addr-root}
 use Rattle.topology_reduction.specs.Kept.{Kept, descent, descentIn, ifAlone, top}
-use Rattle.topology_reduction.specs.Reduced.{joined, reduced, reducedAll, passedOver, keptBytes, place, spread, restricted}
+use Rattle.topology_reduction.specs.Reduced.{joined, reduced, reducedAll, passedOver, keptBytes, spread, restricted}
 use Rattle.topology_reduction.proofs.Kept.{top-in, top-kept}
 use Rattle.topology_reduction.proofs.Reduced.{place-lt, place-subtree, place-less, place-order, size-reduced, reduced-again}
 use Rattle.topology_reduction.proofs.Spread.{spread-length, spread-kept, spread-passed, kept-of, spread-restricted}
 use Rattle.embedding_model.specs.Rules.{image, Passes, Embeds, Before}
 use Rattle.embedding_model.specs.Least.{LeastPassing}
 use Rattle.embedding_model.specs.InnerLeast.{LeastEmbedding}
+use Rattle.topology_reduction.specs.InnerNodes.{place}
 
 -- ---- the top node of the reduced drawing
 

@@ -11,7 +11,8 @@ use Rattle.queue_state.specs.Calls.{Serves}
 use Rattle.queue_push.specs.Calls.{stepsOf}
 use Rattle.queue_push.specs.declared.Path.{Path}
 use Rattle.queue_state.specs.declared.State.{State}
-use Rattle.exports_bench_queue.specs.Rounds.{pathIn, roundOf, afterRounds, Rounded, AfterRounds}
+use Rattle.exports_bench_queue.specs.Rounds.{pathIn, roundOf, afterRounds, AfterRounds}
+use Rattle.exports_bench_queue.specs.InnerRounds.{Rounded}
 
 pub round-served : (s t u : State) (path : Path) (k : ℕ) (a b : Answer Packet) → Serves s popping a t
     → Serves t (pushing (stepsOf path) (path .«leaf_rank») k) b u → Rounded s path k u

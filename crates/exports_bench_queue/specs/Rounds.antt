@@ -23,12 +23,6 @@ unfoldable pub afterRounds : Path → Path → Machine Packet → ℕ → Machin
 afterRounds even odd m zero = m
 afterRounds even odd m (suc k) = after (afterRounds even odd m k) (roundOf (pathIn even odd k) k)
 
--- one round on a state: its machine makes the round; a state that is not well formed stays as it was
-pub record Rounded (s : State) (path : Path) (k : ℕ) (r : State) : Type 0 where
-  pub machine : wellFormed s ≡ true → machine r ≡ after (machine s) (roundOf path k)
-  pub formed : wellFormed s ≡ true → wellFormed r ≡ true
-  pub ill : wellFormed s ≡ false → r ≡ s
-
 -- all rounds on a state
 pub record AfterRounds (s : State) (even odd : Path) (n : ℕ) (r : State) : Type 0 where
   pub machine : wellFormed s ≡ true → machine r ≡ afterRounds even odd (machine s) n

@@ -4,7 +4,8 @@ use queue_push::Path;
 use queue_state::State;
 ghost use mathlib.Core.Path.{_≡_};
 ghost use Rattle.exports_plain_state.specs.Plain.{stateOf, Written};
-ghost use Rattle.exports_bench_queue.specs.Rounds.{pathIn, Rounded, AfterRounds};
+ghost use Rattle.exports_bench_queue.specs.Rounds.{pathIn, AfterRounds};
+ghost use Rattle.exports_bench_queue.specs.InnerRounds.{Rounded};
 
 // The path of a round: the first in even rounds, the second in odd ones.
 fn path_in(even: Path, odd: Path, number: u32) -> Path

@@ -13,7 +13,8 @@ use Rattle.exports_plain_state.proofs.PlainBack.{is-written}
 use Rattle.exports_plain_tree.specs.Trees.{treeFrom, plainTree}
 use Rattle.exports_plain_tree.specs.declared.PlainTree.{PlainTree}
 use Rattle.exports_plain_tree.proofs.SchedulesPlain.{tree-back}
-use Rattle.exports_bench_tree.specs.Rounds.{afterRound, afterRounds, Rounded, AfterRounds}
+use Rattle.exports_bench_tree.specs.Rounds.{afterRound, afterRounds, AfterRounds}
+use Rattle.exports_bench_tree.specs.InnerRounds.{Rounded}
 
 pub round-served : (t u r : Tree) (push : Request Packet) (a b : Answer Packet) → OwnServes t (calling popping) a u → OwnServes u push b r
     → Rounded t push r

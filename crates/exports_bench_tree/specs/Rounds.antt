@@ -29,10 +29,6 @@ pub record ComesTo (t : Tree) (s : Scheduler Packet) (r : Tree) : Type 0 where
   pub formed : ownRefusal t ≡ 0 → ownRefusal r ≡ 0
   pub ill : ownRefusal t ≢ 0 → r ≡ t
 
--- one round on a tree
-abbrev pub Rounded : Tree → Request Packet → Tree → Type 0
-Rounded t push r = ComesTo t (afterRound (schedulerOf t) push) r
-
 -- all rounds on a tree
 abbrev pub AfterRounds : Tree → (ℕ → Request Packet) → ℕ → Tree → Type 0
 AfterRounds t push n r = ComesTo t (afterRounds push (schedulerOf t) n) r

@@ -6,7 +6,8 @@ use tree_state::Tree;
 ghost use Rattle.discipline_model.specs.Scheduler.{pushingTo};
 ghost use Rattle.exports_plain_state.specs.Plain.{Written};
 ghost use Rattle.exports_plain_tree.specs.Trees.{treeFrom};
-ghost use Rattle.exports_bench_tree.specs.Rounds.{pushingBy, Rounded, AfterRounds};
+ghost use Rattle.exports_bench_tree.specs.Rounds.{pushingBy, AfterRounds};
+ghost use Rattle.exports_bench_tree.specs.InnerRounds.{Rounded};
 
 // One round of many: a pop, then a push to a leaf of a packet with the round's number.
 fn round_to_leaf(tree: Tree, leaf: usize, class: u8, length: u16, number: u32) -> Tree

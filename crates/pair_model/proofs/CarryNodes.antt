@@ -10,11 +10,12 @@ use Rattle.topology.proofs.Numbering.{addr-in, num-lt, addr-num, addr-root}
 use Rattle.topology.proofs.Children.{HasChild, childOf-lt, addr-childOf, subtree-childOf}
 use Rattle.pifo_model.specs.Tree.{Step, step, pathFault}
 use Rattle.pifo_model.proofs.PathFault.{fault-step}
-use Rattle.topology_reduction.specs.Kept.{keptNode}
 use Rattle.embedding_model.specs.Rules.{image, Passes}
 use Rattle.pair_model.specs.Embedding.{imageAt}
-use Rattle.pair_model.specs.Carrying.{steps, carryFrom, carry, carryNodes, carryRoot}
+use Rattle.pair_model.specs.Carrying.{steps, carryFrom, carry}
 use Rattle.pair_model.proofs.Keeps.{keeps}
+use Rattle.topology_reduction.specs.InnerNodes.{keptNode}
+use Rattle.pair_model.specs.InnerCarryNodes.{carryNodes, carryRoot}
 
 pub image-below : (S T : Topo) (m : List ℕ) → Passes S T m → (n i : ℕ) → HasChild S n i
     → Above (addr T (image m (keptNode S n))) (addr T (image m (keptNode S (childOf S n i))))

@@ -3,10 +3,8 @@ use Prim.Native.Nat.{ℕ}
 use mathlib.Core.List.{List, [], _∷_, _++_, map}
 use lib.ListN.{length, drop}
 use Rattle.topology.specs.Tree.{Topo}
-use Rattle.topology.specs.Address.{Addr, childOf, route}
+use Rattle.topology.specs.Address.{Addr}
 use Rattle.pifo_model.specs.Tree.{Step, step}
-use Rattle.topology_reduction.specs.Kept.{keptNode}
-use Rattle.embedding_model.specs.Rules.{image}
 use Rattle.pair_model.specs.Embedding.{imageAt}
 
 -- steps of one rank, along given child numbers
@@ -29,13 +27,3 @@ carryBy F ss = steps 0 (F []) ++ carryFrom F [] ss
 
 abbrev pub carry : Topo → Topo → List ℕ → List Step → List Step
 carry S T m ss = carryBy (imageAt S T m) ss
-
--- The same by node numbers, as the code computes it: for a path from source node n on, and for a whole path. `proofs/CarryNodes.antt` shows that both
--- definitions agree on paths without fault.
-abbrev pub carryNodes : Topo → Topo → List ℕ → ℕ → List Step → List Step
-carryNodes S T m n [] = []
-carryNodes S T m n (step i r ∷ ss) =
-    steps r (route T (image m (keptNode S n)) (image m (keptNode S (childOf S n i)))) ++ carryNodes S T m (childOf S n i) ss
-
-abbrev pub carryRoot : Topo → Topo → List ℕ → List Step → List Step
-carryRoot S T m ss = steps 0 (route T 0 (image m (keptNode S 0))) ++ carryNodes S T m 0 ss

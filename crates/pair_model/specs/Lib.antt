@@ -1,5 +1,6 @@
 pub mod Embedding
 pub mod Carrying
+pub mod InnerCarryNodes
 pub mod Mirror
 pub mod Simulation
 pub mod Reduced

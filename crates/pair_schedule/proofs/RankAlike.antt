@@ -11,7 +11,7 @@ use Rattle.pifo_model.specs.Tree.{PTree, pop}
 use Rattle.pifo_model.specs.Way.{takes}
 use Rattle.pifo_model.specs.Machine.{Machine}
 use Rattle.pifo_model.proofs.Way.{Named, takes-named}
-use Rattle.topology_reduction.specs.Kept.{Kept, keptNode}
+use Rattle.topology_reduction.specs.Kept.{Kept}
 use Rattle.topology_reduction.proofs.Kept.{kept-self}
 use Rattle.embedding_model.specs.Rules.{Passes}
 use Rattle.pair_model.specs.Embedding.{imageAt}
@@ -25,6 +25,7 @@ use Rattle.pair_model.proofs.Owns.{lower}
 use Rattle.pair_model.proofs.Mirrors.{mirrors-pop}
 use Rattle.discipline_model.specs.Scheduler.{rankOf, rankAt}
 use Rattle.pair_schedule.specs.Chip.{imageRank}
+use Rattle.topology_reduction.specs.InnerNodes.{keptNode}
 
 module _ {P : Type 0} where
   -- The lift of an entry at a node that owns its image has the same rank there: the image of the child that the entry names lies below.

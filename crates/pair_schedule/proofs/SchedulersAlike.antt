@@ -25,8 +25,9 @@ use Rattle.discipline_model.specs.Scheduler.{Scheduler, Request, calling, pushi
 use Rattle.discipline_model.specs.declared.Rule.{Rule}
 use Rattle.discipline_model.specs.declared.Disciplines.{Disciplines}
 use Rattle.discipline_model.proofs.AfterPop.{times-same}
-use Rattle.pair_schedule.specs.Chip.{imageRank, serveChip, PairedSchedulers, SchedulersAlike, ReducedSchedulersAlike}
+use Rattle.pair_schedule.specs.Chip.{imageRank, serveChip, SchedulersAlike, ReducedSchedulersAlike}
 use Rattle.pair_schedule.proofs.RankAlike.{rank-alike}
+use Rattle.pair_schedule.specs.InnerPaired.{PairedSchedulers}
 
 module _ (S T : Topo) (m : List ℕ) (E : Passes S T m) {P : Type 0} where
   -- answered alike, and paired after it

@@ -9,7 +9,7 @@ use Rattle.pifo_model.specs.Queue.{Rank}
 use Rattle.pifo_model.specs.Machine.{Machine, Answer, opened}
 use Rattle.topology_reduction.specs.Reduced.{reduced}
 use Rattle.embedding_model.specs.Rules.{image, Passes}
-use Rattle.pair_model.specs.Simulation.{serveCarried, Paired}
+use Rattle.pair_model.specs.Simulation.{serveCarried}
 use Rattle.pair_model.specs.Reduced.{placesOf}
 use Rattle.discipline_model.specs.Figure.{fresh}
 use Rattle.discipline_model.specs.Scheduler.{Scheduler, Request, rankAt, with, serveBy, serveOwn, observationOf, observedOver}
@@ -25,11 +25,6 @@ module _ {P : Type 0} where
   -- pushes are made along the paths carried over.
   abbrev pub serveChip : Topo → Topo → List ℕ → Scheduler P → Request P → Answer P × Scheduler P
   serveChip S T images = serveBy S (serveCarried S T images) (imageRank images)
-
-  -- What holds between the two schedulers before and after each request: their machines are paired, and both keep the same for disciplines.
-  pub record PairedSchedulers (S T : Topo) (m : List ℕ) (x y : Scheduler P) : Type 0 where
-    pub cores : Paired S T m (x .core) (y .core)
-    pub disciplines : y .disciplines ≡ x .disciplines
 
 -- Both trees are opened empty with one limit and the same rules, and a list of requests goes to both, pushes by path, pushes to a leaf and pops in
 -- any order: the same is observed of them before the first request, at every request and after it.

@@ -1,1 +1,2 @@
 pub mod Chip
+pub mod InnerPaired

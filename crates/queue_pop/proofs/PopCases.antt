@@ -29,7 +29,7 @@ use Rattle.queue_state.specs.State.{Packet, queueIn, queues, bytes, treeOf, mac
 use Rattle.queue_pop.specs.InnerDepartures.{Down}
 use Rattle.queue_pop.proofs.Gaps.{Shorter, Closed}
 use Rattle.queue_check.specs.Tests.{Heading}
-use Rattle.queue_state.specs.Calls.{Serves, withQueues}
+use Rattle.queue_state.specs.Calls.{Serves}
 use Rattle.queue_state.specs.declared.State.{State}
 use Rattle.queue_pop.specs.declared.departures.Trail.{Trail}
 use Rattle.queue_state.specs.declared.Entry.{Entry as CodeEntry}
@@ -38,6 +38,7 @@ use Rattle.queue_state.proofs.WellFormed.{Formed, formed, form}
 use Rattle.queue_state.proofs.Arrays.{Arrays}
 use Rattle.queue_state.proofs.Serves.{apart, served}
 use Rattle.pifo_model.specs.Assembled.{Queues, assemble}
+use Rattle.queue_state.specs.InnerQueues.{withQueues}
 
 rest-drop : (b : Bool) (q : List (Entry Packet)) → drop (cond b 1 0) q ≡ cond b (rest q) q
 rest-drop true [] = refl

@@ -23,7 +23,7 @@ use Rattle.pifo_model.proofs.Push.{push-well, push-held}
 use Rattle.pifo_model.proofs.Answers.{has-room, push-fault, push-full, push-accepted}
 use Rattle.queue_state.specs.State.{Packet, startOf, queueIn, queues, bytes, treeOf, machine, inBounds, wellFormed}
 use Rattle.queue_push.specs.InnerArrivals.{Walked, Raised}
-use Rattle.queue_state.specs.Calls.{Serves, counting, withQueues}
+use Rattle.queue_state.specs.Calls.{Serves, counting}
 use Rattle.queue_state.specs.declared.State.{State}
 use Rattle.queue_push.specs.declared.arrivals.Added.{Added}
 use Rattle.queue_state.specs.declared.Entry.{Entry as CodeEntry}
@@ -33,6 +33,7 @@ use Rattle.queue_state.proofs.Serves.{apart, served, full-same}
 use Rattle.queue_push.proofs.RoomCases.{fits}
 use Rattle.queue_push.proofs.Insertion.{Ready, Entered, sum-front, raised-start}
 use Rattle.topology.proofs.Ancestry.{size-pos}
+use Rattle.queue_state.specs.InnerQueues.{withQueues}
 
 shape-of : (s : State) → shape (treeOf s) ≡ tree (bytes s)
 unfolding treeOf

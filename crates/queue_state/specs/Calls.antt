@@ -1,13 +1,11 @@
 -- What a call promises: for every state and argument the answer, and the state after it.
 use mathlib.Core.Path.{_≡_}
 use Prim.Native.Nat.{ℕ}
-use mathlib.Core.List.{List}
 use mathlib.Core.Bool.{true, false}
 use Rattle.pifo_model.specs.Machine.{Call, Answer, accepted, departed, refused, full, serve}
 use Rattle.queue_state.specs.State.{Packet, machine, wellFormed}
 use Rattle.queue_state.specs.declared.Answer.{Answer as CodeAnswer}
 use Rattle.queue_state.specs.declared.Answer.the-variants.{Accepted, Departed, Refused, Full}
-use Rattle.queue_state.specs.declared.Entry.{Entry}
 use Rattle.queue_state.specs.declared.State.{State}
 
 -- The machine's answer for each case of the code's answer; `numberOf` (pifo_model/specs/Machine) gives paper 01's number for it.
@@ -20,10 +18,6 @@ answerOf (Full n c) = full n c
 -- the state with another count of refusals
 abbrev pub counting : State → ℕ → State
 counting s c = record { frame = s .frame; refused = c; lengths = s .lengths; entries = s .entries }
-
--- the state with other queues
-abbrev pub withQueues : State → List ℕ → List Entry → State
-withQueues s lengths entries = record { frame = s .frame; refused = s .refused; lengths = lengths; entries = entries }
 
 -- A call on a state: refused by 18 if the state is not well formed, else answered as the machine answers. A refusal leaves the state as it was,
 -- except for the count of refusals if there is no room. After an accepted push or a pop, the machine determines the lengths of the queues and the

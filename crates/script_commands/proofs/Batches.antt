@@ -10,8 +10,9 @@ use Rattle.script_commands.specs.declared.Read.{Read}
 use Rattle.script_commands.specs.declared.Slot.{Slot}
 use Rattle.script_commands.specs.declared.Read.the-variants.{End, Next, Refused}
 use Rattle.script_commands.specs.Reading.{readAt, nextAt}
-use Rattle.script_commands.specs.Batches.{firstReads, after, readsOf, AllCommands}
+use Rattle.script_commands.specs.Batches.{firstReads, after, readsOf}
 use Rattle.script_commands.proofs.ReadAt.{further}
+use Rattle.script_commands.specs.InnerBatches.{AllCommands}
 
 module _ (script : List ℕ) where
   finds-more : (n at : ℕ) → firstReads (suc n) script at ≡ firstReads n script at ++ (readAt script (after n script at) ∷ [])

@@ -2,7 +2,6 @@
 use Prim.Native.Nat.{ℕ, zero, suc}
 use mathlib.Core.List.{List, [], _∷_, map}
 use Rattle.script_commands.specs.declared.Read.{Read}
-use Rattle.script_commands.specs.declared.Read.the-variants.{End, Next, Refused}
 use Rattle.script_commands.specs.declared.Slot.{Slot}
 use Rattle.script_commands.specs.Reading.{readAt, nextAt}
 
@@ -17,10 +16,3 @@ after (suc n) script at = after n script (nextAt script at)
 
 abbrev pub readsOf : List Slot → List Read
 readsOf slots = map (λ (s : Slot). s .read) slots
-
--- none of them is the end or a refusal
-abbrev pub AllCommands : List Read → Type 0
-AllCommands [] = Unit
-AllCommands (End ∷ rs) = ⊥
-AllCommands (Next c at ∷ rs) = AllCommands rs
-AllCommands (Refused n at ∷ rs) = ⊥

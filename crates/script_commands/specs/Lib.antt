@@ -1,3 +1,4 @@
 pub mod Reading
 pub mod Batches
+pub mod InnerBatches
 pub mod InnerOperands

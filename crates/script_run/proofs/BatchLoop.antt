@@ -23,7 +23,7 @@ use Rattle.script_commands.specs.declared.Call.{Call as CallCommand}
 use Rattle.script_commands.specs.declared.Call.the-variants.{Step as StepTo}
 use Rattle.script_commands.specs.declared.Read.{Read}
 use Rattle.script_commands.specs.declared.Slot.{Slot}
-use Rattle.script_commands.specs.Batches.{readsOf, AllCommands}
+use Rattle.script_commands.specs.Batches.{readsOf}
 use Rattle.script_run.specs.declared.Progress.{Progress}
 use Rattle.script_run.specs.declared.turns.CallRead.the-variants.{End as AtEnd, Refused as No, Call as InTurn}
 use Rattle.script_run.specs.InnerTurns.{callRead}
@@ -31,6 +31,7 @@ use Rattle.script_run.specs.Execute.{Reply, silent, stops}
 use Rattle.script_run.specs.Output.{lineOf, printed, textOf}
 use Rattle.script_run.specs.InnerParts.{drawn, chip, stageOf, batchText, Served, Ready, Comes}
 use Rattle.script_run.proofs.ServeCases.{Turned, count, says, step-turned}
+use Rattle.script_commands.specs.InnerBatches.{AllCommands}
 
 -- the loop's invariant
 pub record Going (source target images : List ℕ) (slots : List Slot) (s₀ : State) (p₀ : Path) (before : List ℕ) (place : ℕ) (after : List ℕ)

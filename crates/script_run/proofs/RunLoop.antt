@@ -14,7 +14,7 @@ use Rattle.script_commands.specs.declared.Read.{Read}
 use Rattle.script_commands.specs.declared.Read.the-variants.{End, Next, Refused}
 use Rattle.script_commands.specs.declared.Slot.{Slot}
 use Rattle.script_commands.specs.Reading.{readAt, nextAt, readsBy, reads}
-use Rattle.script_commands.specs.Batches.{firstReads, after, readsOf, AllCommands}
+use Rattle.script_commands.specs.Batches.{firstReads, after, readsOf}
 use Rattle.script_commands.proofs.ReadsFrom.{reads-by}
 use Rattle.script_commands.proofs.Batches.{commands-further}
 use Rattle.script_setup.specs.declared.Gathered.{Gathered}
@@ -24,6 +24,7 @@ use Rattle.script_run.specs.Execute.{Stage, execute}
 use Rattle.script_run.specs.Output.{printed, textOf, output}
 use Rattle.script_run.specs.InnerParts.{startText, stageIn, batchText, Ready, Comes}
 use Rattle.script_run.proofs.BeforeCompile.{output-starts}
+use Rattle.script_commands.specs.InnerBatches.{AllCommands}
 
 module _ (script : List ℕ) where
   -- The text of all reads is that of the next n reads and of the reads after them.

@@ -20,9 +20,10 @@ ghost use mathlib.Core.Bool.{true};
 ghost use Prim.Native.Nat.{_≤_};
 ghost use lib.ListN.{length};
 ghost use Rattle.text.specs.Text.{Puts};
-ghost use Rattle.script_commands.specs.Batches.{readsOf, AllCommands};
+ghost use Rattle.script_commands.specs.Batches.{readsOf};
 ghost use Rattle.script_run.specs.Output.{output};
 ghost use Rattle.script_run.specs.InnerParts.{openingText, drawn, chip, startText, batchText, Fits, Ready, Comes, Begun, Stops};
+ghost use Rattle.script_commands.specs.InnerBatches.{AllCommands};
 
 // Where the text so far ends, and whether the script goes on.
 struct Printed {

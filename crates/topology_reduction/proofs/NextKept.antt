@@ -10,8 +10,9 @@ use Rattle.topology.specs.Address.{addr, num, subtree}
 use Rattle.topology.proofs.Decoding.{code-at}
 use Rattle.topology.proofs.Numbering.{addr-in, num-addr}
 use Rattle.topology.proofs.Ancestry.{num-append}
-use Rattle.topology_reduction.specs.Kept.{descent, descentIn, ifAlone, keptNode}
+use Rattle.topology_reduction.specs.Kept.{descent, descentIn, ifAlone}
 use Rattle.topology_reduction.specs.Reduced.{ones, nextKept}
+use Rattle.topology_reduction.specs.InnerNodes.{keptNode}
 
 last-ones : (t : Topo) (ts : Forest) (bs : List ℕ) → ones (code t ++ bs) ≡ num t (descent t)
     → ones (suc (count ts) ∷ ((code t ++ codes ts) ++ bs)) ≡ num (node (fcons t ts)) (ifAlone ts (1 ∷ descent t))

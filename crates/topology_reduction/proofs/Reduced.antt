@@ -17,7 +17,8 @@ use Rattle.topology.specs.Address.{Above, addr, subtree}
 use Rattle.topology.specs.Reader.{head, forest}
 use Rattle.topology.proofs.Decoding.{forest-code, length-code, code-at, byte-width}
 use Rattle.topology.proofs.Ancestry.{above-from, above-to, size-pos}
-use Rattle.topology_reduction.specs.Reduced.{joined, reduced, reducedAll, keptBytes, place}
+use Rattle.topology_reduction.specs.Reduced.{joined, reduced, reducedAll, keptBytes}
+use Rattle.topology_reduction.specs.InnerNodes.{place}
 
 pub kept-append : (l m : List ℕ) → keptBytes (l ++ m) ≡ keptBytes l ++ keptBytes m
 kept-append [] m = refl

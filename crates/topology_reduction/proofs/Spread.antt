@@ -9,8 +9,9 @@ use mathlib.Core.Bool.{Bool, true, false, cond}
 use lib.ListN.{length, getD}
 use lib.Dec.{eqb}
 use borrow.Author.Tests.{eqb-true, eqb-false}
-use Rattle.topology_reduction.specs.Reduced.{passedOver, keptBytes, place, spread, restricted}
+use Rattle.topology_reduction.specs.Reduced.{passedOver, keptBytes, spread, restricted}
 use Rattle.topology_reduction.proofs.RestrictLoop.{restricted-alike}
+use Rattle.topology_reduction.specs.InnerNodes.{place}
 
 pub spread-length : (bs l : List ℕ) → length l ≡ length (keptBytes bs) → length (spread bs l) ≡ length bs
 spread-length [] l e = refl

@@ -12,10 +12,11 @@ use lib.ListN.{length, take, getD, set, replicate, length-append}
 use lib.Seq.{take-all}
 use lib.Dec.{eqb}
 use borrow.Author.Tests.{eq-eqb, ne-eqb}
-use Rattle.topology_reduction.specs.Reduced.{passedOver, keptBytes, place, spread, in32}
+use Rattle.topology_reduction.specs.Reduced.{passedOver, keptBytes, spread, in32}
 use Rattle.topology_reduction.proofs.Reduced.{place-next}
 use Rattle.topology_reduction.proofs.RestrictLoop.{in32-next}
 use Rattle.topology_reduction.proofs.Spread.{spread-mark}
+use Rattle.topology_reduction.specs.InnerNodes.{place}
 
 -- The spread list, one node further, as long as there are images.
 spread-next : (bs l : List ℕ) (i : ℕ) → i < length bs → place bs i < length l

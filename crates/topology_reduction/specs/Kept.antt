@@ -3,7 +3,7 @@ use mathlib.Core.Logic.{_≢_}
 use Prim.Native.Nat.{ℕ}
 use mathlib.Core.List.{[], _∷_, _++_}
 use Rattle.topology.specs.Tree.{Topo, Forest, node, fnil, fcons, width}
-use Rattle.topology.specs.Address.{Addr, addr, num, sub, subtree}
+use Rattle.topology.specs.Address.{Addr, num, sub, subtree}
 
 abbrev pub Kept : Topo → ℕ → Type 0
 Kept t n = width (subtree t n) ≢ 1
@@ -21,12 +21,9 @@ abbrev mutual
   descentIn fnil = []
   descentIn (fcons t ts) = ifAlone ts (1 ∷ descent t)
 
--- the node at an address or, if it is passed over, the next kept node below it; and the same by number
+-- the node at an address or, if it is passed over, the next kept node below it
 abbrev pub keptAt : Topo → Addr → Addr
 keptAt t a = a ++ descent (sub t a)
-
-abbrev pub keptNode : Topo → ℕ → ℕ
-keptNode t n = num t (keptAt t (addr t n))
 
 -- the number in the drawing of its first kept node, the top node of the reduced drawing
 abbrev pub top : Topo → ℕ

@@ -3,7 +3,7 @@
 use Prim.Native.Nat.{ℕ, suc, _+_, _-_}
 use mathlib.Core.List.{List, [], _∷_, _++_}
 use mathlib.Core.Bool.{cond}
-use lib.ListN.{length, take, drop, replicate}
+use lib.ListN.{length, drop, replicate}
 use lib.Dec.{eqb}
 use Rattle.topology.specs.Tree.{Topo, Forest, node, fnil, fcons, leaf}
 
@@ -40,10 +40,6 @@ spread (b ∷ bs) (x ∷ l) = cond (eqb b 1) (passedOver ∷ spread bs (x ∷ l)
 -- the bytes of the reduced drawing: the drawing's own bytes at its kept nodes (`code-reduced` in proofs/Reduced)
 abbrev pub keptBytes : List ℕ → List ℕ
 keptBytes bytes = restricted bytes bytes
-
--- the number of a kept node in the reduced drawing
-abbrev pub place : List ℕ → ℕ → ℕ
-place bytes n = length (keptBytes (take n bytes))
 
 -- how many bytes 1 come before any other byte
 abbrev pub ones : List ℕ → ℕ

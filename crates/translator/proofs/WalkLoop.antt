@@ -18,14 +18,14 @@ use Rattle.topology.proofs.Ancestry.{size-pos}
 use Rattle.topology.proofs.Lookup.{valid-size}
 use Rattle.topology.proofs.Reader.{drawn}
 use Rattle.pifo_model.specs.Tree.{Step, step, pathFault}
-use Rattle.topology_reduction.specs.Kept.{keptAt, keptNode}
+use Rattle.topology_reduction.specs.Kept.{keptAt}
 use Rattle.topology_reduction.specs.Reduced.{nextKept}
 use Rattle.topology_reduction.proofs.Kept.{kept-in, kept-is}
 use Rattle.topology_reduction.proofs.NextKept.{next-kept}
 use Rattle.embedding_model.specs.Rules.{image, Passes}
 use Rattle.embedding_model.specs.Check.{mapFault}
 use Rattle.embedding_model.proofs.MapFault.{mapFault-none}
-use Rattle.pair_model.specs.Carrying.{steps, carry, carryNodes, carryRoot}
+use Rattle.pair_model.specs.Carrying.{steps, carry}
 use Rattle.pair_model.proofs.CarryNodes.{image-below, carry-nodes}
 use Rattle.queue_push.specs.Calls.{stepsOf, noStep, pathOf, Plain}
 use Rattle.queue_push.specs.declared.Step.{Step as CodeStep}
@@ -33,6 +33,8 @@ use Rattle.queue_push.specs.declared.Path.{Path}
 use Rattle.queue_push.proofs.PathSteps.{steps-path, path-plain}
 use Rattle.translator.specs.InnerWays.{Over}
 use Rattle.translator.proofs.Standing.{Standing, standing-start, standing-few, standing-first, standing-lost, standing-child, standing-next, standing-ended}
+use Rattle.topology_reduction.specs.InnerNodes.{keptNode}
+use Rattle.pair_model.specs.InnerCarryNodes.{carryNodes, carryRoot}
 
 -- The steps carried so far, followed by the carried rest of the path, are the carried path (`rest`).
 pub record Walking (source target m : List ℕ) (path carried : Path) (from node i : ℕ) : Type 0 where

@@ -13,7 +13,7 @@ use Rattle.topology.proofs.Ancestry.{size-pos}
 use Rattle.pifo_model.specs.Tree.{held}
 use Rattle.pifo_model.specs.Machine.{popping}
 use Rattle.queue_state.specs.State.{bytes, treeOf}
-use Rattle.queue_state.specs.Calls.{withQueues, Serves}
+use Rattle.queue_state.specs.Calls.{Serves}
 use Rattle.queue_state.specs.declared.State.{State}
 use Rattle.queue_state.proofs.WellFormed.{formed}
 use Rattle.queue_state.proofs.Arrays.{the-arrays}
@@ -23,6 +23,7 @@ use Rattle.queue_state.proofs.InPlace.{Beside, beside}
 use Rattle.queue_pop.proofs.Gaps.{Between, Moving, begin, enter, move, leave, closed-all}
 use Rattle.queue_pop.proofs.PopCases.{ill-way, none-served, none-way-of, down, shorter, departed-served, departed-way}
 use Rattle.queue_pop.proofs.pop.Statement.{statement}
+use Rattle.queue_state.specs.InnerQueues.{withQueues}
 use Rattle.queue_pop.proofs.pop.Tie as tie
 
 abbrev Inv-loop2 : tie.InvT-loop2

@@ -8,7 +8,7 @@ use lib.Seq.{length-take-le}
 use borrow.Author.Tests.{not-true, not-false}
 use Rattle.pifo_model.specs.Machine.{pushing}
 use Rattle.queue_state.specs.State.{bytes}
-use Rattle.queue_state.specs.Calls.{withQueues, Serves}
+use Rattle.queue_state.specs.Calls.{Serves}
 use Rattle.queue_state.specs.declared.State.{State}
 use Rattle.queue_state.proofs.WellFormed.{formed}
 use Rattle.queue_state.proofs.Arrays.{the-arrays}
@@ -18,6 +18,7 @@ use Rattle.queue_push.specs.Calls.{stepsOf}
 use Rattle.queue_push.proofs.Insertion.{Making, last-fits, begin, node-low, place-low, behind, move, first, node-pos, next-fits, next, opened-all}
 use Rattle.queue_push.proofs.PushCases.{fault-served, full-served, ready, accepted-served}
 use Rattle.queue_push.proofs.push.Statement.{statement}
+use Rattle.queue_state.specs.InnerQueues.{withQueues}
 use Rattle.queue_push.proofs.push.Tie as tie
 
 abbrev Inv-loop : tie.InvT-loop

@@ -50,7 +50,7 @@ use denote.Triple.Walked.{says, Stays, stay-none-slice, stay-slice, walkOf, goes
 use denote.Exit.{yes}
 use denote.Triple.Clauses.{ensured, lasts}
 use Rattle.script_commands.specs.Reading.{reads}
-use Rattle.script_commands.specs.Batches.{firstReads, after, readsOf, AllCommands}
+use Rattle.script_commands.specs.Batches.{firstReads, after, readsOf}
 use Rattle.script_commands.specs.declared.Reader.{Reader}
 use Rattle.script_commands.specs.declared.Batch.{Batch}
 use Rattle.script_commands.proofs.Reader as T
@@ -95,6 +95,7 @@ use Rattle.script_run.proofs.serve.Symbol.{name as #script-run·serve}
 use Rattle.script_run.proofs.serve.Met as serve-thm
 use Rattle.script_run.proofs.run.Key.{name as #script-run·run}
 use Rattle.script_commands.proofs.Walks.{nth-type, holds, fails}
+use Rattle.script_commands.specs.InnerBatches.{AllCommands}
 use Rattle.script_run.proofs.run as run′
 use Rattle.script_run.proofs.run.Statement as stated
 use Rattle.script_run.proofs.run.Code as code
