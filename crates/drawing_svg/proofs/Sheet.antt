@@ -52,7 +52,7 @@ module _ (source target : List ℕ) (limit number : ℕ) (e : number ≡ bothFau
   mapped-small z = small source target (both-trees source target limit (sym e ∙ z))
 
   pub sheet-mapped : (offset : ℕ) → number ≡ 0 → (m : List ℕ) → m ≡ searchMap source target
-      → pairOf source target (take (length source) m) ++ foot ≡ sheet source target limit offset
+      → pairOf source target (take (length source) m) 0 0 ++ foot ≡ sheet source target limit offset
   unfolding sheet
   sheet-mapped offset z m f = rw (eq-eqb (bothFault source target limit) 0 (sym e ∙ z), f)
 

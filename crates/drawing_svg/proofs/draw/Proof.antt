@@ -35,7 +35,7 @@ put-pair-requires c κs =
     let source = now (both .before .before .before .before .args .source) in
     let opened = opens-both _ _ _ _ (both .«open» .ensures) in
     let fits = mapped-small _ _ _ _ (opened .refusal) (c .before .before .before .before .if1 .taken) in
-    (omega (arith, fits .source-fits), fits .target-fits, omega (arith, fits .source-fits, length-take (length source) (both .«open» .result .pair .map)))
+    (omega (arith, fits .source-fits), omega (arith, fits .target-fits), omega (arith, fits .source-fits, length-take (length source) (both .«open» .result .pair .map)))
 
 slice-aggregate-put-word : tie.Need-slice-aggregate-put-word
 slice-aggregate-put-word c = search needs
@@ -72,7 +72,7 @@ put-pair-requires-2 c κs =
     let told = c .before .before in
     let both = told .before .before .before in
     let fits = unmapped-small _ _ _ (opens-both _ _ _ _ (both .«open» .ensures) .outcome) (told .enum-told2 .given .1) in
-    (omega (arith, fits .source-fits), fits .target-fits, omega arith)
+    (omega (arith, fits .source-fits), omega (arith, fits .target-fits), omega arith)
 
 put-refused-requires : tie.Need-put-refused-requires
 put-refused-requires c κs = search needs
