@@ -4,7 +4,7 @@
 use crate::embedding::{read_pair, Pair};
 use crate::reduced::PASSED_OVER;
 use crate::script::{outcomes, Done};
-use crate::topology::Topology;
+use crate::topology::{Topology, MOST_CHILDREN, MOST_STEPS_DOWN, SOURCE_NODES, TARGET_NODES};
 
 const STYLE: [&str; 6] = [
     "text{font:10px sans-serif;text-anchor:middle}path{fill:none;stroke:black}ellipse{fill:white;stroke:black}",
@@ -44,18 +44,21 @@ const CHIP: Side = Side {
 pub fn draw(script: &[u8]) -> String {
     let (mut source, mut target) = (Vec::new(), Vec::new());
     for outcome in outcomes(script) {
+        let no = |number| format!("no {number} {}", outcome.offset);
         match (outcome.command, outcome.answer) {
             (0x01, Ok(_)) => source.push(script[outcome.offset + 1]),
             (0x02, Ok(_)) => target.push(script[outcome.offset + 1]),
             (_, Ok(Done::Map(images))) => return sheet(&pair(&source, &target, &images)),
-            (_, Err((12, _))) => {
-                let trees = pair(&source, &target, &[]);
-                return sheet(&(trees + &note(&format!("no 12 {}", outcome.offset))));
+            (_, Err((12, _))) => return sheet(&(pair(&source, &target, &[]) + &note(&no(12)))),
+            (_, Err((number @ 1..=5, _))) => {
+                let (part, words) = if Topology::read(&source, SOURCE_NODES).is_err() {
+                    at_fault(SOURCE, &source, SOURCE_NODES, number)
+                } else {
+                    at_fault(CHIP, &target, TARGET_NODES, number)
+                };
+                return sheet(&(part + &note(&(no(number) + &words))));
             }
-            (_, Err((number, _))) => {
-                let note = note(&format!("no {number} {}", outcome.offset));
-                return sheet(&(head(0) + &note));
-            }
+            (_, Err((number, _))) => return sheet(&(head(0) + &note(&no(number)))),
             _ => {}
         }
     }
@@ -72,7 +75,7 @@ fn note(words: &str) -> String {
 
 /// One unit is a quarter of a millimetre.
 fn head(rows: usize) -> String {
-    let height = row(rows) + 24;
+    let height = row(rows) + 32;
     let (millimetres, style) = (height / 4, STYLE.join("\n"));
     format!(
         "<svg xmlns='http://www.w3.org/2000/svg' width='190mm' height='{millimetres}mm' viewBox='0 0 760 {height}'><style>\n\
@@ -85,8 +88,53 @@ fn legend(rows: usize) -> String {
         let right = x + 13;
         format!("<ellipse class='{class}' cx='{x}' rx='9' ry='7'/><text x='{right}' dy='4'>{word}</text>")
     });
-    let (y, entries) = (row(rows), entries.join("\n"));
+    let (y, entries) = (row(rows) + 8, entries.join("\n"));
     format!("<g class='legend' transform='translate(0,{y})'>\n{entries}</g>\n")
+}
+
+/// A tree at fault as far as it was read, with the byte at fault, and what is
+/// wrong in words.
+fn at_fault(side: Side, bytes: &[u8], limit: usize, number: u8) -> (String, String) {
+    let mut part = Topology::default();
+    if read_as_far(&mut part, bytes, limit, None, 0) && part.node_count() < bytes.len() {
+        part.add(None);
+    }
+    let (rows, last) = (part.node_count(), part.node_count().wrapping_sub(1));
+    let name = side.label;
+    let words = match number {
+        1 => format!("the {name} ends before it is complete"),
+        2 => format!("the {name} is complete before node {last}"),
+        3 => format!("node {last} of the {name} is one too many"),
+        4 => format!("node {last} of the {name} has more than 8 children"),
+        _ => format!("node {last} of the {name} lies 9 steps down"),
+    };
+    let text = tree(side, &part, |node| {
+        if number > 1 && node == last {
+            "fault"
+        } else if side.label == SOURCE.label && bytes[node] == 1 {
+            "passed"
+        } else {
+            "plain"
+        }
+    });
+    (head(rows) + &text + &legend(rows), format!(": {words}"))
+}
+
+/// Reads a branch as long as its bytes are fine; the byte at fault has its node
+/// too. Whether the branch is complete.
+fn read_as_far(
+    part: &mut Topology,
+    bytes: &[u8],
+    limit: usize,
+    parent: Option<usize>,
+    depth: usize,
+) -> bool {
+    let Some(&children) = bytes.get(part.node_count()) else {
+        return false;
+    };
+    let node = part.add(parent);
+    let fine = node < limit && usize::from(children) <= MOST_CHILDREN && depth <= MOST_STEPS_DOWN;
+    fine && (0..children).all(|_| read_as_far(part, bytes, limit, Some(node), depth + 1))
 }
 
 fn pair(source: &[u8], target: &[u8], images: &[u8]) -> String {
@@ -135,7 +183,9 @@ fn row(node: usize) -> usize {
 fn tree(side: Side, tree: &Topology, class: impl Fn(usize) -> &'static str) -> String {
     let Side { left, label } = side;
     let mut edges = Vec::new();
-    edges_below(side, tree, 0, &mut edges);
+    if tree.node_count() > 0 {
+        edges_below(side, tree, 0, &mut edges);
+    }
     edges.sort();
     let edges: String = edges.into_iter().map(|(_, edge)| edge).collect();
     let nodes: String = (0..tree.node_count())

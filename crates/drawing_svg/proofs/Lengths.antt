@@ -10,20 +10,22 @@ use native.Mathlib.Nat.{not-suc-le-zero}
 use native.Mathlib.Omega.{arith}
 use mathlib.Core.List.{List, [], _∷_, _++_}
 use mathlib.Core.Bool.{Bool, true, false, _&&_, cond}
-use lib.ListN.{length, getD, take, length-append}
+use lib.ListN.{length, getD, take, length-append, length-take}
 use lib.Dec.{eqb, leb, ltb}
 use borrow.Author.Tests.{eqb-false}
 use Rattle.text.specs.Text.{decimalLast, decimal}
 use Rattle.text_templates.specs.Template.{bytes, filled}
 use Rattle.text_templates.proofs.Lengths.{filled-most}
 use Rattle.topology.specs.Tree.{size}
-use Rattle.topology.specs.Reader.{tree}
+use Rattle.topology.specs.Reader.{fault, tree}
 use Rattle.topology.proofs.Lookup.{valid-length, valid-size}
 use Rattle.topology_reduction.specs.Reduced.{passedOver}
 use Rattle.topology_places.specs.Places.{depth, parent, childNumber, trunkFrom}
 use Rattle.topology_places.specs.declared.Role.{Role}
 use Rattle.topology_places.specs.declared.Role.the-variants.{Plain, Passed, Image, Between, Unused}
 use Rattle.topology_places.proofs.Counted.{depth-most, parent-most, number-most, trunk-most}
+use Rattle.topology_reading.specs.Accepted.{acceptedBytes}
+use Rattle.topology_reading.proofs.FirstFault.{accepted-few}
 use Rattle.embedding_model.specs.Least.{searchMap}
 use Rattle.embedding_search.specs.Outcomes.{outcome}
 use Rattle.embedding_search.specs.declared.Outcome.{Outcome}
@@ -36,16 +38,16 @@ use Rattle.script_setup.specs.Gathering.{gathered}
 use Rattle.script_setup.proofs.Endings.{Inside, ends-inside}
 use Rattle.script_setup.specs.declared.Ending.{Ending}
 use Rattle.script_setup.specs.declared.Ending.the-variants.{End, Refused, Compile}
-use Rattle.drawing_svg.specs.Elements.{row, opening, head, edge, numbered, mark, join, legend, note}
+use Rattle.drawing_svg.specs.Elements.{row, opening, head, edge, numbered, mark, join, legend, note, noteEnd, faultStart, faultLead, faultWords, faultText}
 use Rattle.drawing_svg.specs.Sheet.{column, each, edgeOf, className, leftOf, labelOf, roleIn, nodeOf, treeOf, joinOf, joinsOf, pairOf}
-use Rattle.drawing_svg.specs.Sheet.{foot, refusedEnd, refusal, refusedSheet, nothing, sheet, limitIn, sheetBy, scriptSheet}
+use Rattle.drawing_svg.specs.Sheet.{foot, refusedEnd, refusal, sideName, faultNote, faultOf, faultSheet, refusedSheet, nothing, sheet, limitIn, sheetBy, scriptSheet}
 use Rattle.drawing_svg.proofs.Sheet.{unmapped-trees, sheet-mapped, sheet-refused}
 
 -- ---- the elements at their largest numbers
 
 opening-most : (rows : ℕ) → rows ≤ 65 → length (opening rows) ≤ length (opening 65)
 unfolding opening
-opening-most rows h = filled-most _ ((18 + 4 * rows) ∷ (72 + 16 * rows) ∷ []) (278 ∷ 1112 ∷ []) (omega arith, (omega arith, tt)) 0
+opening-most rows h = filled-most _ ((20 + 4 * rows) ∷ (80 + 16 * rows) ∷ []) (280 ∷ 1120 ∷ []) (omega arith, (omega arith, tt)) 0
 
 module _ (right low last : ℕ) where
   edge-most : (x from y child : ℕ) → x ≤ right → from ≤ low → y ≤ low → child ≤ last
@@ -89,8 +91,15 @@ record Largest : Type 0 where
   source-numbered : length (numbered 984 560 32) ≡ 74
   target-numbered : length (numbered 2366 1072 64) ≡ 78
   join-is : length (join 984 560 2366 1072 32 64) ≡ 152
-  legend-is : length (filled (bytes "<g class='legend' transform='translate(0,#)'>\n") (1088 ∷ []) 0) ≡ 49
-  note-is : length (note 22 65535) ≡ 52
+  legend-is : length (filled (bytes "<g class='legend' transform='translate(0,#)'>\n") (1096 ∷ []) 0) ≡ 49
+  note-is : length (note 22 65535) ≡ 44
+  text-1 : length (filled (bytes " ends before it is complete") (64 ∷ []) 0) ≡ 27
+  text-2 : length (filled (bytes " is complete before node #") (64 ∷ []) 0) ≡ 27
+  text-3 : length (filled (bytes " is one too many") (64 ∷ []) 0) ≡ 16
+  text-4 : length (filled (bytes " has more than 8 children") (64 ∷ []) 0) ≡ 25
+  text-5 : length (filled (bytes " lies 9 steps down") (64 ∷ []) 0) ≡ 18
+  lead-tree : length (filled (bytes ": the ") (64 ∷ []) 0) ≡ 6
+  lead-node : length (filled (bytes ": node # of the ") (64 ∷ []) 0) ≡ 17
 
 largest : Largest
 unfolding opening edge numbered join note filled decimal decimalLast
@@ -104,6 +113,13 @@ largest =
       join-is = refl;
       legend-is = refl;
       note-is = refl;
+      text-1 = refl;
+      text-2 = refl;
+      text-3 = refl;
+      text-4 = refl;
+      text-5 = refl;
+      lead-tree = refl;
+      lead-node = refl;
     }
 
 legend-most : (rows : ℕ) → rows ≤ 65 → length (legend rows) ≤ 558
@@ -112,7 +128,7 @@ legend-most rows h =
     rw length-append
     (omega (
       arith,
-      filled-most (bytes "<g class='legend' transform='translate(0,#)'>\n") (row rows ∷ []) (1088 ∷ []) (omega arith, tt) 0,
+      filled-most (bytes "<g class='legend' transform='translate(0,#)'>\n") ((8 + row rows) ∷ []) (1096 ∷ []) (omega arith, tt) 0,
       largest .legend-is,
     ))
 
@@ -269,12 +285,111 @@ module _ (source target images : List ℕ) (s : length source ≤ 33) (t : lengt
 
 refused-length : (number offset : ℕ) → number ≤ 22 → offset < 65536 → length (refusedEnd number offset) ≤ 59
 refused-length number offset h g =
-    omega (arith, length-append (note number offset) foot, note-most number offset h (omega arith), largest .note-is)
+    omega (arith, length-append (note number offset) noteEnd, note-most number offset h (omega arith), largest .note-is)
 
 refusal-length : (number offset : ℕ) → number ≤ 22 → offset < 65536 → length (refusal number offset) ≤ 789
 unfolding refusal
 refusal-length number offset h g =
     omega (arith, length-append (head 0) (refusedEnd number offset), head-length 0 (omega arith), refused-length number offset h g)
+
+side-length : (chip : Bool) → length (sideName chip) ≤ 6
+side-length true = omega arith
+side-length false = omega arith
+
+lead-length : (number node : ℕ) → node ≤ 64 → length (faultLead number node) ≤ 17
+unfolding faultLead
+lead-length number node h =
+    omega (arith, filled-most (faultStart number) (node ∷ []) (64 ∷ []) (h, tt) 0, by-test (leb number 2))
+  where
+    by-test : (b : Bool) → length (filled (cond b (bytes ": the ") (bytes ": node # of the ")) (64 ∷ []) 0) ≤ 17
+    by-test true = omega (arith, largest .lead-tree)
+    by-test false = omega (arith, largest .lead-node)
+
+text-length : (number node : ℕ) → node ≤ 64 → length (faultText number node) ≤ 27
+unfolding faultText
+text-length number node h =
+    omega (
+      arith,
+      filled-most (faultWords number) (node ∷ []) (64 ∷ []) (h, tt) 0,
+      by-tests (eqb number 1) (eqb number 2) (eqb number 3) (eqb number 4),
+    )
+  where
+    by-tests : (w x y z : Bool)
+        → length (
+        filled
+        (
+        cond w (bytes " ends before it is complete")
+        (cond x (bytes " is complete before node #")
+        (cond y (bytes " is one too many")
+        (cond z (bytes " has more than 8 children") (bytes " lies 9 steps down"))))
+        )
+        (64 ∷ []) 0
+        )
+        ≤ 27
+    by-tests true x y z = omega (arith, largest .text-1)
+    by-tests false true y z = omega (arith, largest .text-2)
+    by-tests false false true z = omega (arith, largest .text-3)
+    by-tests false false false true = omega (arith, largest .text-4)
+    by-tests false false false false = omega (arith, largest .text-5)
+
+fault-note-length : (chip : Bool) (number offset node : ℕ) → number ≤ 22 → offset < 65536 → node ≤ 64
+    → length (faultNote chip number offset node) ≤ 109
+unfolding faultNote
+fault-note-length chip number offset node small h g =
+    let named = sideName chip ++ (faultText number node ++ noteEnd) in
+    omega (
+      arith,
+      length-append (note number offset) (faultLead number node ++ named),
+      length-append (faultLead number node) named,
+      length-append (sideName chip) (faultText number node ++ noteEnd),
+      length-append (faultText number node) noteEnd,
+      note-most number offset small (omega arith),
+      largest .note-is,
+      lead-length number node g,
+      side-length chip,
+      text-length number node g,
+    )
+
+-- 730 bytes for the head, 558 for the legend, and 109 for the note
+module _ (chip : Bool) (limit : ℕ) (tree : List ℕ) (number offset : ℕ) (few : limit ≤ 64) (small : number ≤ 22) (h : offset < 65536) where
+  part-length : length (take (suc (acceptedBytes limit tree)) tree) ≤ suc limit
+  part-length = omega (arith, length-take (suc (acceptedBytes limit tree)) tree, accepted-few limit tree)
+
+  fault-length : (most : ℕ) → length (treeOf chip (take (suc (acceptedBytes limit tree)) tree) [] (acceptedBytes limit tree) (suc (acceptedBytes limit tree)))
+      ≤ most
+      → length (faultOf chip limit tree number offset) ≤ 1397 + most
+  unfolding faultOf
+  fault-length most t =
+      let n = acceptedBytes limit tree in
+      let part = take (suc n) tree in
+      let drawn = treeOf chip part [] n (suc n) in
+      omega (
+        arith,
+        length-append (head (length part)) (drawn ++ (legend (length part) ++ faultNote chip number offset n)),
+        length-append drawn (legend (length part) ++ faultNote chip number offset n),
+        length-append (legend (length part)) (faultNote chip number offset n),
+        head-length (length part) (omega (arith, part-length)),
+        t,
+        legend-most (length part) (omega (arith, part-length)),
+        fault-note-length chip number offset n small h (omega (arith, accepted-few limit tree)),
+      )
+
+fault-sheet-length : (source target : List ℕ) (number offset : ℕ) → number ≤ 22 → offset < 65536
+    → length (faultSheet source target number offset) ≤ 13218
+fault-sheet-length source target number offset small h = by-test (eqb (fault 32 source) 0)
+  where
+    by-test : (b : Bool) → length (cond b (faultOf true 64 target number offset) (faultOf false 32 source number offset)) ≤ 13218
+    by-test true =
+        fault-length true 64 target number offset (omega arith) small h 11821
+        (chip-length (take (suc (acceptedBytes 64 target)) target) [] (acceptedBytes 64 target) (suc (acceptedBytes 64 target))
+        (part-length true 64 target number offset (omega arith) small h))
+    by-test false =
+        omega (
+          arith,
+          fault-length false 32 source number offset (omega arith) small h 5732
+              (source-length (take (suc (acceptedBytes 32 source)) source) [] (acceptedBytes 32 source) (suc (acceptedBytes 32 source))
+              (part-length false 32 source number offset (omega arith) small h)),
+        )
 
 nothing-length : length nothing ≤ 793
 unfolding nothing
@@ -320,7 +435,7 @@ module _ (source target : List ℕ) (limit offset : ℕ) (h : offset < 65536) wh
           → length (refusedSheet o source target number offset) ≤ 23735
       refused-sheet number n Map q = omega (arith, refusal-length number offset n h)
       refused-sheet number n NoMap q = unmapped-length number n q
-      refused-sheet number n (AtFault f) q = omega (arith, refusal-length number offset n h)
+      refused-sheet number n (AtFault f) q = omega (arith, fault-sheet-length source target number offset n h)
 
       by-number : (number : ℕ) → bothFault source target limit ≡ number → length (sheet source target limit offset) ≤ 23735
       by-number zero z = rw (← (sheet-mapped source target limit 0 (sym z) offset refl (searchMap source target) refl)) (mapped-length z)

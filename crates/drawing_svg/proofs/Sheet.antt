@@ -25,6 +25,7 @@ use Rattle.script_setup.specs.declared.Drawing.{Drawing}
 use Rattle.script_setup.specs.declared.Ending.{Ending}
 use Rattle.script_setup.specs.declared.Ending.the-variants.{End, Refused, Compile}
 use Rattle.script_setup.proofs.WithLimit.{limited}
+use Rattle.drawing_svg.proofs.FaultCases.{fault-kept}
 use Rattle.drawing_svg.specs.Sheet.{pairOf, foot, refusal, refusedSheet, nothing, sheet, limitIn, sheetBy, scriptSheet}
 
 -- the lengths of trees that are drawn
@@ -61,7 +62,8 @@ module _ (source target : List ℕ) (limit number : ℕ) (e : number ≡ bothFau
   unfolding sheet
   sheet-refused offset n o q = rw (ne-eqb (bothFault source target limit) 0 (λ z. n (e ∙ z)), q, e) refl
 
--- The drawings as they are kept give the same sheet as the whole ones: a drawing that is drawn is whole, and a refusal has the same number.
+-- The drawings as they are kept give the same sheet as the whole ones: a drawing that is
+-- drawn whole is kept whole, a drawing at fault is drawn as far as it was read, and a refusal has the same number.
 pub sheet-kept : (s t : List ℕ) (limit offset : ℕ) → sheet (take 33 s) (take 65 t) limit offset ≡ sheet s t limit offset
 sheet-kept s t limit offset = by-number (bothFault s t limit) refl
   where
@@ -79,7 +81,7 @@ sheet-kept s t limit offset = by-number (bothFault s t limit) refl
     by-outcome : (n : ℕ) → bothFault s t limit ≡ suc n → (o : Outcome) → outcome s t ≡ o → Same
     by-outcome n e Map k = refused-kept n e Map k refl
     by-outcome n e NoMap k = let f = unmapped-trees s t k in rw (prefix-whole 32 s (f .0), prefix-whole 64 t (f .1)) refl
-    by-outcome n e (AtFault m) k = refused-kept n e (AtFault m) k refl
+    by-outcome n e (AtFault m) k = refused-kept n e (AtFault m) k (fault-kept s t (suc n) offset)
 
     by-number : (n : ℕ) → bothFault s t limit ≡ n → Same
     by-number zero e = let all = both-whole s t limit e in rw (all .0, all .1) refl

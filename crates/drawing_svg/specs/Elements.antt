@@ -1,6 +1,8 @@
 -- The elements of a sheet, each a template and its numbers. A unit of length is a quarter of a millimetre.
 use Prim.Native.Nat.{ℕ, _+_, _*_}
+use mathlib.Core.Bool.{cond}
 use mathlib.Core.List.{List, [], _∷_, _++_}
+use lib.Dec.{eqb, leb}
 use Rattle.text_templates.specs.Template.{bytes, filled}
 
 -- the row of a node, by its number
@@ -11,7 +13,7 @@ row k = 48 + 16 * k
 unfoldable pub opening : ℕ → List ℕ
 opening rows =
     filled (bytes "<svg xmlns='http://www.w3.org/2000/svg' width='190mm' height='#mm' viewBox='0 0 760 #'><style>\n")
-    ((18 + 4 * rows) ∷ (72 + 16 * rows) ∷ []) 0
+    ((20 + 4 * rows) ∷ (80 + 16 * rows) ∷ []) 0
 
 -- the head of a sheet: its start, the styles of its parts, and a white ground
 unfoldable pub head : ℕ → List ℕ
@@ -48,7 +50,7 @@ join x y over down node image =
 -- the looks of nodes with their words, behind the last row
 unfoldable pub legend : ℕ → List ℕ
 legend rows =
-    filled (bytes "<g class='legend' transform='translate(0,#)'>\n") (row rows ∷ []) 0
+    filled (bytes "<g class='legend' transform='translate(0,#)'>\n") ((8 + row rows) ∷ []) 0
     ++ (bytes "<ellipse class='plain' cx='24' rx='9' ry='7'/><text x='37' dy='4'>node</text>\n"
     ++ (bytes "<ellipse class='passed' cx='94' rx='9' ry='7'/><text x='107' dy='4'>passed over</text>\n"
     ++ (bytes "<ellipse class='image' cx='198' rx='9' ry='7'/><text x='211' dy='4'>image</text>\n"
@@ -56,6 +58,28 @@ legend rows =
     ++ (bytes "<ellipse class='unused' cx='394' rx='9' ry='7'/><text x='407' dy='4'>unused</text>\n"
     ++ bytes "<ellipse class='fault' cx='474' rx='9' ry='7'/><text x='487' dy='4'>at fault</text></g>\n")))))
 
--- a refusal's number, and the offset of the command refused
+-- the start of a note: a refusal's number, and the offset of the command refused
 unfoldable pub note : ℕ → ℕ → List ℕ
-note number offset = filled (bytes "<text class='note' x='24' y='14'>no # #</text>\n") (number ∷ offset ∷ []) 0
+note number offset = filled (bytes "<text class='note' x='24' y='14'>no # #") (number ∷ offset ∷ []) 0
+
+-- the end of a sheet with a note
+abbrev pub noteEnd : List ℕ
+noteEnd = bytes "</text>\n</svg>\n"
+
+-- What is wrong with a tree's bytes, by the number of the refusal: the words before the tree's name, and those after it. `#` stands for the node of
+-- the byte at fault.
+abbrev pub faultStart : ℕ → List ℕ
+faultStart number = cond (leb number 2) (bytes ": the ") (bytes ": node # of the ")
+
+abbrev pub faultWords : ℕ → List ℕ
+faultWords number =
+    cond (eqb number 1) (bytes " ends before it is complete")
+    (cond (eqb number 2) (bytes " is complete before node #")
+    (cond (eqb number 3) (bytes " is one too many")
+    (cond (eqb number 4) (bytes " has more than 8 children") (bytes " lies 9 steps down"))))
+
+unfoldable pub faultLead : ℕ → ℕ → List ℕ
+faultLead number node = filled (faultStart number) (node ∷ []) 0
+
+unfoldable pub faultText : ℕ → ℕ → List ℕ
+faultText number node = filled (faultWords number) (node ∷ []) 0

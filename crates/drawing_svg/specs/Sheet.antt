@@ -6,6 +6,7 @@ use mathlib.Core.Bool.{Bool, true, false, _&&_, cond}
 use mathlib.Core.Option.{Option, none, some}
 use lib.ListN.{length, getD, take}
 use lib.Dec.{eqb, leb, ltb}
+use Rattle.topology.specs.Reader.{fault}
 use Rattle.topology_reduction.specs.Reduced.{passedOver}
 use Rattle.embedding_model.specs.Least.{searchMap}
 use Rattle.embedding_search.specs.Outcomes.{outcome}
@@ -15,11 +16,12 @@ use Rattle.pair_state.specs.Opening.{bothFault}
 use Rattle.topology_places.specs.Places.{depth, parent, childNumber, trunkFrom, sourceRole, roleOf}
 use Rattle.topology_places.specs.declared.Role.{Role}
 use Rattle.topology_places.specs.declared.Role.the-variants.{Plain, Passed, Image, Between, Unused}
+use Rattle.topology_reading.specs.Accepted.{acceptedBytes}
 use Rattle.script_setup.specs.Gathering.{Given, gathered}
 use Rattle.script_setup.specs.declared.Ending.{Ending}
 use Rattle.script_setup.specs.declared.Ending.the-variants.{End, Refused, Compile}
 use Rattle.text_templates.specs.Template.{bytes}
-use Rattle.drawing_svg.specs.Elements.{row, head, edge, mark, join, legend, note}
+use Rattle.drawing_svg.specs.Elements.{row, head, edge, mark, join, legend, note, noteEnd, faultLead, faultText}
 
 -- the column of a node in the tree whose root is at `left`
 abbrev pub column : ℕ → List ℕ → ℕ → ℕ
@@ -90,8 +92,9 @@ pairOf source target images from to =
 abbrev pub foot : List ℕ
 foot = bytes "</svg>\n"
 
+-- the end of a sheet with a refusal
 abbrev pub refusedEnd : ℕ → ℕ → List ℕ
-refusedEnd number offset = note number offset ++ foot
+refusedEnd number offset = note number offset ++ noteEnd
 
 -- a refusal alone
 unfoldable pub refusal : ℕ → ℕ → List ℕ
@@ -101,11 +104,37 @@ refusal number offset = head 0 ++ refusedEnd number offset
 unfoldable pub nothing : List ℕ
 nothing = head 0 ++ bytes "<text class='note' x='24' y='14'>nothing to draw</text>\n</svg>\n"
 
--- the sheet of a refused 04, by the outcome of the search: without a map both trees and the refusal, else the refusal alone
+-- the name of a side
+abbrev pub sideName : Bool → List ℕ
+sideName false = bytes "source"
+sideName true = bytes "chip"
+
+-- the refusal of a tree at fault, in words, and the end of the sheet
+unfoldable pub faultNote : Bool → ℕ → ℕ → ℕ → List ℕ
+faultNote chip number offset node = note number offset ++ (faultLead number node ++ (sideName chip ++ (faultText number node ++ noteEnd)))
+
+-- A tree at fault, as far as it was read (`acceptedBytes`), with the byte at fault marked in its row; and the refusal, in words. Where the bytes end
+-- too early there is no such byte.
+unfoldable pub faultOf : Bool → ℕ → List ℕ → ℕ → ℕ → List ℕ
+faultOf chip limit tree number offset =
+    let n = acceptedBytes limit tree in
+    let part = take (suc n) tree in
+    head (length part)
+    ++ (treeOf chip part [] n (suc n)
+    ++ (legend (length part) ++ faultNote chip number offset n))
+
+-- the sheet of the tree at fault, the source first
+abbrev pub faultSheet : List ℕ → List ℕ → ℕ → ℕ → List ℕ
+faultSheet source target number offset =
+    let chip = faultOf true 64 target number offset in
+    cond (eqb (fault 32 source) 0) chip (faultOf false 32 source number offset)
+
+-- The sheet of a refused 04, by the outcome of the search: without a map both trees and the refusal, for a tree at fault that tree, else the refusal
+-- alone.
 abbrev pub refusedSheet : Outcome → List ℕ → List ℕ → ℕ → ℕ → List ℕ
 refusedSheet Map source target number offset = refusal number offset
 refusedSheet NoMap source target number offset = pairOf source target [] 0 0 ++ refusedEnd number offset
-refusedSheet (AtFault n) source target number offset = refusal number offset
+refusedSheet (AtFault n) source target number offset = faultSheet source target number offset
 
 -- The sheet of the 04 at `offset`: both trees with the least map, or its refusal.
 unfoldable pub sheet : List ℕ → List ℕ → ℕ → ℕ → List ℕ

@@ -4,7 +4,7 @@ use text_templates::put_filled;
 ghost use mathlib.Core.Path.{_≡_};
 ghost use Prim.Native.Nat.{_<_};
 ghost use Rattle.text.specs.Text.{Puts};
-ghost use Rattle.drawing_svg.specs.Elements.{row, head, edge, mark, join, legend, note};
+ghost use Rattle.drawing_svg.specs.Elements.{row, head, edge, mark, join, legend, note, faultLead, faultText};
 
 // The row of a node.
 pub(crate) fn row_of(node: usize) -> usize
@@ -23,7 +23,7 @@ pub(crate) fn put_head(out: &mut [u8], at: usize, rows: usize) -> usize
         out,
         at,
         b"<svg xmlns='http://www.w3.org/2000/svg' width='190mm' height='#mm' viewBox='0 0 760 #'><style>\n",
-        &[18 + 4 * rows, 72 + 16 * rows],
+        &[20 + 4 * rows, 80 + 16 * rows],
     );
     let shapes = put_word(
         out,
@@ -133,7 +133,7 @@ pub(crate) fn put_legend(out: &mut [u8], at: usize, rows: usize) -> usize
         out,
         at,
         b"<g class='legend' transform='translate(0,#)'>\n",
-        &[row_of(rows)],
+        &[8 + row_of(rows)],
     );
     let plain = put_word(
         out,
@@ -167,14 +167,43 @@ pub(crate) fn put_legend(out: &mut [u8], at: usize, rows: usize) -> usize
     )
 }
 
-// A refusal's number, and the offset of the command refused.
+// The start of a note: a refusal's number, and the offset of the command refused.
 pub(crate) fn put_note(out: &mut [u8], at: usize, number: usize, offset: usize) -> usize
     ensures { λ r. ⌜ Puts (now (out .entry)) at (note number offset) (now (out .exit)) r ⌝ }
 {
     put_filled(
         out,
         at,
-        b"<text class='note' x='24' y='14'>no # #</text>\n",
+        b"<text class='note' x='24' y='14'>no # #",
         &[number, offset],
     )
+}
+
+// What is wrong with a tree's bytes, by the number of the refusal, at a node: the words before the tree's name.
+pub(crate) fn put_fault_lead(out: &mut [u8], at: usize, number: u8, node: usize) -> usize
+    ensures { λ r. ⌜ Puts (now (out .entry)) at (faultLead number node) (now (out .exit)) r ⌝ }
+{
+    if number <= 2 {
+        return put_filled(out, at, b": the ", &[node]);
+    }
+    put_filled(out, at, b": node # of the ", &[node])
+}
+
+// The words after it.
+pub(crate) fn put_fault_text(out: &mut [u8], at: usize, number: u8, node: usize) -> usize
+    ensures { λ r. ⌜ Puts (now (out .entry)) at (faultText number node) (now (out .exit)) r ⌝ }
+{
+    if number == 1 {
+        return put_filled(out, at, b" ends before it is complete", &[node]);
+    }
+    if number == 2 {
+        return put_filled(out, at, b" is complete before node #", &[node]);
+    }
+    if number == 3 {
+        return put_filled(out, at, b" is one too many", &[node]);
+    }
+    if number == 4 {
+        return put_filled(out, at, b" has more than 8 children", &[node]);
+    }
+    put_filled(out, at, b" lies 9 steps down", &[node])
 }

@@ -3,6 +3,8 @@
 mod elements;
 
 use elements::put_edge;
+use elements::put_fault_lead;
+use elements::put_fault_text;
 use elements::put_head;
 use elements::put_join;
 use elements::put_legend;
@@ -13,6 +15,8 @@ use embedding_search::Outcome;
 use script_setup::Drawing;
 use script_setup::Ending;
 use text::put_word;
+use topology::Reading;
+use topology::read;
 use topology::wide;
 use topology_places::Role;
 use topology_places::child_number;
@@ -21,16 +25,17 @@ use topology_places::parent;
 use topology_places::role_of;
 use topology_places::source_role;
 use topology_places::trunk_from;
+use topology_reading::accepted_bytes;
 use topology_reduction::PASSED_OVER;
 ghost use mathlib.Core.Path.{_≡_};
-ghost use Prim.Native.Nat.{_<_, _≤_, max};
+ghost use Prim.Native.Nat.{_<_, _≤_, min, max};
 ghost use mathlib.Core.Bool.{_&&_};
 ghost use lib.ListN.{length, take};
 ghost use lib.Dec.{leb, ltb};
 ghost use Rattle.text.specs.Text.{Puts};
 ghost use Rattle.drawing_svg.specs.Elements.{mark};
 ghost use Rattle.drawing_svg.specs.Sheet.{column, each, edgeOf, className, leftOf, labelOf, roleIn, nodeOf, treeOf, joinOf, joinsOf, pairOf};
-ghost use Rattle.drawing_svg.specs.Sheet.{refusedEnd, refusal, nothing, sheet, scriptSheet};
+ghost use Rattle.drawing_svg.specs.Sheet.{refusedEnd, refusal, nothing, sideName, faultNote, faultOf, faultSheet, sheet, scriptSheet};
 
 // Where a node's column is in the tree whose root is at `left`.
 fn column_of(left: usize, bytes: &[u8], node: usize) -> usize
@@ -232,6 +237,12 @@ fn larger(a: usize, b: usize) -> usize
     if a < b { b } else { a }
 }
 
+fn smaller(a: usize, b: usize) -> usize
+    ensures { λ r. ⌜ r ≡ min a b ⌝ }
+{
+    if a < b { a } else { b }
+}
+
 // Both trees and the lines between them. The source's nodes `from` to `to` - 1 are marked.
 fn put_pair(
     out: &mut [u8],
@@ -258,7 +269,7 @@ fn put_refused(out: &mut [u8], at: usize, number: u8, offset: usize) -> usize
     ensures { λ r. ⌜ Puts (now (out .entry)) at (refusedEnd number offset) (now (out .exit)) r ⌝ }
 {
     let note = put_note(out, at, number as usize, offset);
-    put_word(out, note, b"</svg>\n")
+    put_word(out, note, b"</text>\n</svg>\n")
 }
 
 // A refusal alone: its number, and the offset of the command refused.
@@ -281,8 +292,74 @@ fn draw_nothing(out: &mut [u8], at: usize) -> usize
     )
 }
 
+// The name of a side.
+fn put_side(out: &mut [u8], at: usize, chip: bool) -> usize
+    ensures { λ r. ⌜ Puts (now (out .entry)) at (sideName chip) (now (out .exit)) r ⌝ }
+{
+    if chip {
+        return put_word(out, at, b"chip");
+    }
+    put_word(out, at, b"source")
+}
+
+// The refusal of a tree at fault, in words, and the end of the sheet.
+fn put_fault_note(
+    out: &mut [u8],
+    at: usize,
+    chip: bool,
+    number: u8,
+    offset: usize,
+    node: usize,
+) -> usize
+    ensures { λ r. ⌜ Puts (now (out .entry)) at (faultNote chip number offset node) (now (out .exit)) r ⌝ }
+{
+    let note = put_note(out, at, number as usize, offset);
+    let lead = put_fault_lead(out, note, number, node);
+    let side = put_side(out, lead, chip);
+    let text = put_fault_text(out, side, number, node);
+    put_word(out, text, b"</text>\n</svg>\n")
+}
+
+// A tree at fault, as far as it was read, with the byte at fault marked, and the refusal in words.
+fn put_fault(
+    out: &mut [u8],
+    at: usize,
+    chip: bool,
+    bytes: &[u8],
+    limit: usize,
+    number: u8,
+    offset: usize,
+) -> usize
+    requires { ⌜ limit ≤ 64 ⌝ }
+    ensures { λ r. ⌜ Puts (now (out .entry)) at (faultOf chip limit (now (bytes .entry)) number offset) (now (out .exit)) r ⌝ }
+{
+    let node = accepted_bytes(bytes, limit);
+    let rows = smaller(node + 1, bytes.len());
+    let head = put_head(out, at, rows);
+    let tree = put_tree(out, head, chip, &bytes[..rows], &bytes[..0], node, node + 1);
+    let legend = put_legend(out, tree, rows);
+    put_fault_note(out, legend, chip, number, offset, node)
+}
+
+// The sheet of the tree at fault, the source first.
+fn draw_fault(
+    source: &[u8],
+    target: &[u8],
+    number: u8,
+    offset: usize,
+    out: &mut [u8],
+    at: usize,
+) -> usize
+    ensures { λ r. ⌜ Puts (now (out .entry)) at (faultSheet (now (source .entry)) (now (target .entry)) number offset) (now (out .exit)) r ⌝ }
+{
+    match read(source, 32) {
+        Reading::Tree => put_fault(out, at, true, target, 64, number, offset),
+        Reading::Refused(_) => put_fault(out, at, false, source, 32, number, offset),
+    }
+}
+
 // The sheet of an 04 at `offset`, for a source and a target with a packet limit: both trees with the least map between them; without a map the trees
-// and the refusal; for any other refusal that alone.
+// and the refusal; for a tree at fault that tree and the refusal; for any other refusal that alone.
 fn draw(
     source: &[u8],
     target: &[u8],
@@ -308,7 +385,7 @@ fn draw(
             let pair = put_pair(out, at, source, target, &source[..0], 0, 0);
             put_refused(out, pair, number, offset)
         }
-        Outcome::Refused(_) => draw_refusal(number, offset, out, at),
+        Outcome::Refused(_) => draw_fault(source, target, number, offset, out, at),
     }
 }
 

@@ -80,8 +80,8 @@ put-refused-requires c κs = search needs
 enum-told-3 : tie.Need-enum-told-3
 enum-told-3 c = search needs
 
-draw-refusal-requires-2 : tie.Need-draw-refusal-requires-2
-draw-refusal-requires-2 c κs = search needs
+draw-fault-requires : tie.Need-draw-fault-requires
+draw-fault-requires c κs = search needs
 
 same-length-2 : tie.Need-same-length-2
 same-length-2 c = search needs
@@ -116,7 +116,7 @@ returns-4 c =
     let told = end .before .before in
     let tested = told .before .before in
     let opened = opens-both _ _ _ _ (tested .before .«open» .ensures) in
-    puts-as (sheet-refused _ _ _ _ (opened .refusal) _ (tested .if1 .left) _ (sym (opened .outcome) ∙ told .enum-told3 .given .1)) (end .draw-refusal2 .ensures)
+    puts-as (sheet-refused _ _ _ _ (opened .refusal) _ (tested .if1 .left) _ (sym (opened .outcome) ∙ told .enum-told3 .given .1)) (end .draw-fault .ensures)
 
 pub draw-spec : {M : Type 1} → statement M
 draw-spec =
@@ -137,7 +137,7 @@ draw-spec =
     put-pair-requires-2
     put-refused-requires
     enum-told-3
-    draw-refusal-requires-2
+    draw-fault-requires
     same-length-2
     returns-2
     same-length-3

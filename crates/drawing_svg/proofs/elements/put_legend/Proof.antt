@@ -1,6 +1,6 @@
 -- `put_legend` meets its contract: the parts of the text joined.
 use mathlib.Core.Path.{ap}
-use Prim.Native.Nat.{ℕ}
+use Prim.Native.Nat.{ℕ, _+_}
 use mathlib.Core.List.{[], _∷_}
 use Rattle.text_templates.specs.Template.{bytes, filled}
 use Rattle.drawing_svg.specs.Elements.{legend}
@@ -14,6 +14,9 @@ slice-aggregate-put-filled c = search needs
 
 row-of-requires : tie.Need-row-of-requires
 row-of-requires c κs = search needs
+
+add-t23 : tie.Need-add-t23
+add-t23 c = search needs
 
 slice-aggregate-put-filled-2 : tie.Need-slice-aggregate-put-filled-2
 slice-aggregate-put-filled-2 c = search needs
@@ -71,7 +74,7 @@ returns c =
     let plain = passed .before .before .before .before .before in
     let start = plain .before .before .before .before .before in
     let y = start .before .before in
-    let here = ap (λ (n : ℕ). filled (bytes "<g class='legend' transform='translate(0,#)'>\n") (n ∷ []) 0) (y .row-of .ensures) in
+    let here = ap (λ (n : ℕ). filled (bytes "<g class='legend' transform='translate(0,#)'>\n") ((8 + n) ∷ []) 0) (y .row-of .ensures) in
     puts-then (puts-as here (start .put-filled .ensures))
     (puts-then (plain .put-word .ensures)
     (puts-then (passed .put-word2 .ensures)
@@ -84,6 +87,7 @@ put-legend-spec =
     (tie.spec
     slice-aggregate-put-filled
     row-of-requires
+    add-t23
     slice-aggregate-put-filled-2
     put-filled-requires
     slice-aggregate-put-word

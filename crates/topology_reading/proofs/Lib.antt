@@ -1,0 +1,2 @@
+pub mod ReadCases
+pub mod FirstFault
