@@ -54,7 +54,7 @@ tries-next test n a found next b h t f g =
 pub tries-all : (test : ℕ → Bool) (n a found : ℕ) → n ≤ a → Tries test n a found → found ≡ lastOf test n
 tries-all test n a found h t = let e : a ≡ n = omega (arith, t .upto) in t .is ∙ ap (lastOf test) e
 
-counted-most : (test : ℕ → Bool) (n : ℕ) → counted test n ≤ n
+pub counted-most : (test : ℕ → Bool) (n : ℕ) → counted test n ≤ n
 counted-most test zero = omega arith
 counted-most test (suc n) = by-test (test n) (counted-most test n)
   where
@@ -62,7 +62,7 @@ counted-most test (suc n) = by-test (test n) (counted-most test n)
     by-test true h = omega arith
     by-test false h = omega arith
 
-last-most : (test : ℕ → Bool) (n : ℕ) → lastOf test n ≤ n
+pub last-most : (test : ℕ → Bool) (n : ℕ) → lastOf test n ≤ n
 last-most test zero = omega arith
 last-most test (suc n) = by-test (test n) (last-most test n)
   where
