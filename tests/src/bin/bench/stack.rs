@@ -8,15 +8,13 @@
 
 use crate::queue_tree::Filled;
 use crate::scheduler::Weighted;
-use linduvar_tests::plain::PlainPath;
+use linduvar::chip::{self, Behind};
+use linduvar::{maps, queue, tree};
 use linduvar_tests::queue_tree::{Step, MOST_PACKETS};
 use linduvar_tests::random::Random;
-use linduvar_tests::rattle_chip::Behind;
 use linduvar_tests::scheduler::{Rule, STRICT};
 use linduvar_tests::topology::{MOST_STEPS_DOWN, SOURCE_NODES, TARGET_NODES};
 use linduvar_tests::{embedding, laborious};
-use linduvar_tests::{rattle, rattle_embedding, rattle_queue_tree, rattle_translator};
-use linduvar_tests::{rattle_chip, rattle_tree};
 use std::hint::black_box;
 use std::thread;
 
@@ -29,21 +27,21 @@ pub fn run(random: &mut Random) {
     let (source, target) = laborious::largest_pair();
     let (_, map) = embedding::search(&source, &target);
     let map = &map[..source.len()];
-    let path = PlainPath::write(&[Step { child: 1, rank: 1 }; 2], 1);
-    report("read", &|| rattle::read(&target, TARGET_NODES));
-    report("branch", &|| rattle::branch(&target, 1));
-    report("branch_byte", &|| rattle::branch_byte(&target, 1, 1));
-    report("check", &|| rattle_embedding::check(&source, &target, map));
+    let path = linduvar::Path::new(&[Step { child: 1, rank: 1 }; 2], 1);
+    report("read", &|| linduvar::topology::read(&target, TARGET_NODES));
+    report("branch", &|| linduvar::topology::branch(&target, 1));
+    report("branch_byte", &|| {
+        linduvar::topology::branch_byte(&target, 1, 1)
+    });
+    report("check", &|| maps::check(&source, &target, map));
     report("search", &|| {
-        rattle_embedding::search(&source, &target, &mut [0; SOURCE_NODES])
+        maps::search(&source, &target, &mut [0; SOURCE_NODES])
     });
-    report("carry", &|| {
-        rattle_translator::carry(&source, &target, map, &path)
-    });
+    report("carry", &|| maps::carry(&source, &target, map, &path));
     let filled = Filled::new(MOST_STEPS_DOWN, MOST_PACKETS, random);
-    report("open", &|| rattle_queue_tree::open(&target, MOST_PACKETS));
-    report("held", &|| rattle_queue_tree::held(&filled.state));
-    report("refusals", &|| rattle_queue_tree::refusals(&filled.state));
+    report("open", &|| queue::open(&target, MOST_PACKETS));
+    report("held", &|| queue::held(&filled.state));
+    report("refusals", &|| queue::refusals(&filled.state));
     report("push", &|| filled.push());
     report("pop", &|| filled.pop());
     report("rounds", &|| filled.rounds(2));
@@ -57,10 +55,8 @@ fn trees() {
     let tree = &weighted.plain;
     let (topology, rules) = (&tree.state.frame.topology, &tree.disciplines.rules);
     let topology = &topology[..tree.state.frame.nodes];
-    report("tree_open", &|| {
-        rattle_tree::open(topology, MOST_PACKETS, rules)
-    });
-    report("tree_held", &|| rattle_tree::held(tree));
+    report("tree_open", &|| tree::open(topology, MOST_PACKETS, rules));
+    report("tree_held", &|| tree::held(tree));
     report("tree_push", &|| weighted.push());
     report("tree_push_to_leaf", &|| weighted.push_to_leaf());
     report("tree_pop", &|| weighted.pop());
@@ -73,14 +69,14 @@ fn chips(source: &[u8], target: &[u8], map: &[u8]) {
         weight: 1,
     };
     let rules = &[rule; TARGET_NODES];
-    let chip = rattle_chip::open(source, target, MOST_PACKETS, rules).chip;
+    let chip = chip::open_both(source, target, MOST_PACKETS, rules).chip;
     let behind = Behind { source, map };
     let leaf = source.len() - 1;
     let pushed = behind.push_to_leaf(&chip, leaf, 1, 1, 1);
     assert_eq!((pushed.refusal, pushed.value), (0, 1));
-    let path = PlainPath::write(&[Step { child: 1, rank: 1 }; 2], 1);
+    let path = linduvar::Path::new(&[Step { child: 1, rank: 1 }; 2], 1);
     report("pair_open", &|| {
-        rattle_chip::open(source, target, MOST_PACKETS, rules)
+        chip::open_both(source, target, MOST_PACKETS, rules)
     });
     report("chip_held", &|| behind.held(&pushed.tree));
     report("chip_push", &|| behind.push(&pushed.tree, &path, 1));
