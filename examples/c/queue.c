@@ -1,6 +1,7 @@
 // The queue tree alone: opening, pushes by path, pops, counts, and refusals by number.
 //
-// A state has 27,864 bytes, so states and answers are static here and not on the stack. A call takes up to 116 KB of stack besides (docs/C.md).
+// A state has 27,864 bytes, so states and answers are static here and not on the stack. A call needs stack all the same (docs/C.md): this program
+// runs with 180 KB.
 #include <inttypes.h>
 #include <linduvar.h>
 #include <stdio.h>
