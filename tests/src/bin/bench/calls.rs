@@ -21,26 +21,24 @@ pub fn run(random: &mut Random) {
     let (source, target) = laborious::largest_pair();
     let (_, map) = embedding::search(&source, &target);
     let map = &map[..source.len()];
-    drawings(&source, &target, map);
+    let behind = Behind {
+        source: &source,
+        map,
+    };
+    drawings(behind, &target);
     for packets in [1, MOST_PACKETS] {
         println!("of a tree that holds {packets}:");
         queues(packets, random);
         trees(packets);
-        chips(
-            Behind {
-                source: &source,
-                map,
-            },
-            &target,
-            packets,
-        );
+        chips(behind, &target, packets);
     }
 }
 
 /// The calls that take no state, on 32 nodes in 64, and the openings.
-fn drawings(source: &[u8], target: &[u8], map: &[u8]) {
+fn drawings(Behind { source, map }: Behind, target: &[u8]) {
     let path = two_steps();
     let rules = &strict_rules();
+    assert_eq!(maps::carry(source, target, map, &path).refusal, 0);
     report("read", &|| topology::read(target, TARGET_NODES));
     report("branch", &|| topology::branch(target, 1));
     report("branch_byte", &|| topology::branch_byte(target, 1, 1));
@@ -94,6 +92,7 @@ fn chips(behind: Behind, target: &[u8], packets: usize) {
     let less = (1..packets as u32).fold(opened.tree, |chip, packet| push(&chip, packet));
     let chip = push(&less, packets as u32);
     let path = two_steps();
+    assert_eq!(behind.push(&less, &path, 1).refusal, 0);
     report("chip_held", &|| behind.held(&chip));
     report("chip_refusals", &|| behind.refusals(&chip));
     report("chip_push", &|| behind.push(&less, &path, 1));
