@@ -1,5 +1,6 @@
 //! Times the Rattle library beside Rust, and counts its copies and its stack.
 
+mod calls;
 mod copies;
 mod embedding;
 mod queue_tree;
@@ -29,7 +30,7 @@ fn main() {
     queue_tree::run(&mut random);
     scheduler::run();
     translator::run(&mut random);
-    stack::run(&mut random);
+    calls::run(&mut random);
     copies::run();
     whole_scripts::run();
 }
