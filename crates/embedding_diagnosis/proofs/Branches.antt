@@ -1,6 +1,6 @@
 -- An embedding, seen from one node of the drawing: it maps the branch under that node into the branch under the node's image (`branch-embeds`), and
 -- the image lies no less deep than the node (`image-depth`). And a branch of a tree within the limits is within them (`branch-within`).
-use mathlib.Core.Path.{_≡_, refl, sym, ap, _∙_, subst}
+use mathlib.Core.Path.{_≡_, sym, ap, _∙_, subst}
 use mathlib.Core.Logic.{_≢_}
 use Prim.Native.Nat.{ℕ, zero, suc, _+_, _-_, _≤_, _<_}
 use native.Mathlib.Omega.{arith}

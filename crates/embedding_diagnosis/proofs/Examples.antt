@@ -1,4 +1,4 @@
--- One pair for each answer. Paper 01 has the first three: the drawing that loads, the same two trees the other way round, and more leaves than the chip has at that place.
+-- One pair for each answer. Paper 01 has the first three pairs.
 use mathlib.Core.Path.{_≡_, refl}
 use Prim.Native.Nat.{ℕ}
 use mathlib.Core.List.{List, [], _∷_}

@@ -21,7 +21,7 @@ use Rattle.topology.proofs.Decoding.{length-code, byte-width}
 use Rattle.topology.proofs.Reader.{fault-wider}
 use Rattle.topology.proofs.Lookup.{part-code, valid-size}
 use Rattle.topology_reduction.specs.Reduced.{spread}
-use Rattle.topology_places.specs.Places.{counted, depth}
+use Rattle.topology_places.specs.Places.{depth}
 use Rattle.topology_places.proofs.Counted.{counted-most, last-most, depth-most}
 use Rattle.topology_places.proofs.Passes.{counted-into}
 use Rattle.embedding_model.specs.Rules.{image, Passes}
@@ -37,7 +37,8 @@ use Rattle.embedding_search.specs.Outcomes.{outcomeBy, outcome}
 use Rattle.embedding_search.specs.Outcomes.{numberOf as Outcomes·numberOf}
 use Rattle.embedding_search.proofs.FoundSimulated.{outcome-number}
 use Rattle.embedding_diagnosis.specs.Misfit.{isKept, keptAbove, mayGo, fitsNowhere, misfit, FitsNowhere, Misfit}
-use Rattle.embedding_diagnosis.specs.Diagnosis.{greatest, deepest, leaves, leavesUnder, mostLeaves, lackAt, diagnosisBy, diagnosis, numberOf, Says}
+use Rattle.embedding_diagnosis.specs.Diagnosis.{greatest, deepest, leaves, leavesUnder, mostLeaves}
+use Rattle.embedding_diagnosis.specs.Diagnosis.{lackAt, diagnosisBy, diagnosis, numberOf, Says}
 use Rattle.embedding_diagnosis.specs.declared.Diagnosis.{Diagnosis}
 use Rattle.embedding_diagnosis.specs.declared.Diagnosis.the-variants.{Loads, Refused, TooDeep, TooManyLeaves, NotTogether}
 use Rattle.embedding_diagnosis.proofs.Nowhere.{may-to, may-depth, drawing, chip, leaf-fits, misfit-is}
@@ -236,11 +237,11 @@ diagnosis-number source target = by-outcome (outcome source target) ∙ outcome-
 
 -- The numbers of an answer are small.
 abbrev pub Small : ℕ → ℕ → Diagnosis → Type 0
-Small nodes places Loads = Unit
-Small nodes places (Refused n) = Unit
-Small nodes places (TooDeep node needed there) = (node ≤ nodes) × (needed ≤ nodes) × (there ≤ places)
-Small nodes places (TooManyLeaves node needed there) = (node ≤ nodes) × (needed ≤ nodes) × (there ≤ places)
-Small nodes places (NotTogether node) = node ≤ nodes
+Small source-nodes target-nodes Loads = Unit
+Small source-nodes target-nodes (Refused n) = Unit
+Small source-nodes target-nodes (TooDeep node needed there) = (node ≤ source-nodes) × (needed ≤ source-nodes) × (there ≤ target-nodes)
+Small source-nodes target-nodes (TooManyLeaves node needed there) = (node ≤ source-nodes) × (needed ≤ source-nodes) × (there ≤ target-nodes)
+Small source-nodes target-nodes (NotTogether node) = node ≤ source-nodes
 
 leaves-most : (bytes : List ℕ) (n : ℕ) → leavesUnder bytes n ≤ length bytes
 unfolding leaves branchPart

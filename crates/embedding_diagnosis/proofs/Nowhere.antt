@@ -6,7 +6,7 @@
 -- reduced.
 use mathlib.Core.Path.{_≡_, refl, sym, ap, _∙_, subst}
 use mathlib.Core.Logic.{_≢_}
-use Prim.Native.Nat.{ℕ, zero, suc, _+_, _≤_, _<_}
+use Prim.Native.Nat.{ℕ, _≤_, _<_}
 use native.Mathlib.Decide.{ℕ-discrete}
 use native.Mathlib.Omega.{arith}
 use mathlib.Core.List.{List, [], _∷_}
@@ -115,7 +115,8 @@ module _ (source target : List ℕ) (hs : fault 32 source ≡ 0) (ht : fault 64 
     unfolding fitsAt
     leaf-fits z =
         fits-some (eq-eqb _ 0
-        (lone-loads (branchPart source s) (branchPart target t) drawing-fault chip-fault (ap (λ (u : Topo). width (reduced u)) drawing-tree ∙ alone (subtree S s) leaf)))
+        (lone-loads (branchPart source s) (branchPart target t) drawing-fault chip-fault
+        (ap (λ (u : Topo). width (reduced u)) drawing-tree ∙ alone (subtree S s) leaf)))
       where
         leaf : width (subtree S s) ≡ 0
         leaf = sym (byte-width S s (omega (arith, valid-size 32 source hs))) ∙ ap (λ (b : List ℕ). getD b s 0) (drawn 32 source hs) ∙ z

@@ -1,5 +1,4 @@
 -- A diagnosis as plain numbers.
-use Prim.Native.Nat.{ℕ}
 use Rattle.embedding_diagnosis.specs.declared.Diagnosis.{Diagnosis}
 use Rattle.embedding_diagnosis.specs.declared.Diagnosis.the-variants.{Loads, Refused, TooDeep, TooManyLeaves, NotTogether}
 use Rattle.exports_diagnosis.specs.declared.PlainDiagnosis.{PlainDiagnosis}

@@ -4,10 +4,11 @@ ghost use mathlib.Core.Path.{_≡_};
 ghost use Rattle.embedding_diagnosis.specs.Diagnosis.{diagnosis};
 ghost use Rattle.exports_diagnosis.specs.Plain.{plainOf};
 
-// The refusal of the search, or 0. If it is 12, `node` is the node of the drawing whose branch fits nowhere, and `lack` says what the branch lacks. 1:
-// the node is a leaf with `needed` kept nodes above it, and no chip node has more than `there` nodes above it. 2: the branch has `needed` leaves, and a
-// branch of the chip where it may go at most `there`. 3: each branch below the node fits somewhere, but not all of them together. Else all other
-// numbers are 0.
+// The refusal of the search, or 0. If it is 12, `node` is the node of the drawing whose branch fits nowhere, and `lack` says what the branch lacks.
+// 1: the node is a leaf with `needed` kept nodes above it, and no chip node has more than `there` nodes above it.
+// 2: the branch has `needed` leaves, and a branch of the chip where it may go has at most `there`.
+// 3: each branch below the node fits somewhere, but not all of them together.
+// All numbers that are not named are 0.
 #[repr(C)]
 pub struct PlainDiagnosis {
     pub refusal: u8,

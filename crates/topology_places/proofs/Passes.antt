@@ -100,7 +100,8 @@ counted-without test (suc n) a h e = by-order (decLt a n) (λ l. counted-without
         and-true true = refl
         and-true false = refl
 
-    by-order : Dec (a < n) → (a < n → counted test n ≡ suc (counted rest n)) → counted test n + cond (test n) 1 0 ≡ suc (counted rest n + cond (rest n) 1 0)
+    by-order : Dec (a < n) → (a < n → counted test n ≡ suc (counted rest n))
+        → counted test n + cond (test n) 1 0 ≡ suc (counted rest n + cond (rest n) 1 0)
     by-order (yes l) r = rw (← (others n (λ z. omega arith))) (omega (arith, r l))
     by-order (no g) r =
         let s : n ≡ a = omega arith in

@@ -31,7 +31,9 @@ loop-less : tie.Need-loop-less Inv-loop μ-loop
 loop-less c = search needs
 
 loop-again : tie.Need-loop-again Inv-loop μ-loop
-loop-again c = greatest-next _ _ _ _ _ _ _ (c .before .before .loop-test .taken) (c .before .before .before .loop .inv) (c .before .depth .ensures) (c .larger .ensures)
+loop-again c =
+    greatest-next _ _ _ _ _ _ _ (c .before .before .loop-test .taken) (c .before .before .before .loop .inv) (c .before .depth .ensures)
+    (c .larger .ensures)
 
 returns : tie.Need-returns Inv-loop μ-loop
 unfolding deepest

@@ -33,7 +33,9 @@ loop-less : tie.Need-loop-less Inv-loop μ-loop
 loop-less c = search needs
 
 loop-again : tie.Need-loop-again Inv-loop μ-loop
-loop-again c = counts-next _ _ _ _ _ _ (c .before .before .loop-test .taken) (c .before .before .before .loop .inv) (c .before .is-kept-above .ensures) (c .one-if .ensures)
+loop-again c =
+    counts-next _ _ _ _ _ _ (c .before .before .loop-test .taken) (c .before .before .before .loop .inv) (c .before .is-kept-above .ensures)
+    (c .one-if .ensures)
 
 returns : tie.Need-returns Inv-loop μ-loop
 unfolding keptAbove

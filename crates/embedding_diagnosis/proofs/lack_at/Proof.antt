@@ -14,7 +14,9 @@ deepest-requires : tie.Need-deepest-requires
 deepest-requires c κs = search needs
 
 returns : tie.Need-returns
-returns c = lack-deep _ _ _ _ _ (c .before .before .children-of .ensures) (c .before .before .before .kept-above .ensures) (c .before .if1 .taken) _ (c .deepest .ensures)
+returns c =
+    lack-deep _ _ _ _ _ (c .before .before .children-of .ensures) (c .before .before .before .kept-above .ensures) (c .before .if1 .taken) _
+    (c .deepest .ensures)
 
 leaves-under-requires : tie.Need-leaves-under-requires
 leaves-under-requires c κs = search needs

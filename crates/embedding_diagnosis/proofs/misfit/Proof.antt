@@ -1,6 +1,6 @@
 -- `misfit` meets its contract. Nothing is found from s on, so that what is found in all is what is found before s.
 use borrow.Author.Needs.{needs}
-use mathlib.Core.Path.{_≡_, sym, _∙_, ap}
+use mathlib.Core.Path.{_≡_, sym, _∙_}
 use Prim.Native.Nat.{suc, _-_}
 use native.Mathlib.Omega.{arith}
 use Rattle.embedding_diagnosis.specs.Misfit.{misfit}

@@ -27,8 +27,8 @@ returns c = diagnosis-is _ _ _ (c .before .before .search .ensures) _ (c .enum-t
 
 returns-2 : tie.Need-returns-2
 returns-2 c =
-    diagnosis-lack _ _ _ (c .before .before .before .before .search .ensures) (c .before .before .enum-told2 .given .1) _ (c .before .misfit .ensures) _
-    (c .lack-at .ensures)
+    diagnosis-lack _ _ _ (c .before .before .before .before .search .ensures) (c .before .before .enum-told2 .given .1) _
+    (c .before .misfit .ensures) _ (c .lack-at .ensures)
 
 returns-3 : tie.Need-returns-3
 returns-3 c = diagnosis-is _ _ _ (c .before .before .before .search .ensures) _ (c .before .outcome .given .1)
