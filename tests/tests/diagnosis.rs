@@ -103,11 +103,11 @@ fn examples(seed: u64) {
     println!("examples: as they should be");
 }
 
-/// Every tree of up to 6 nodes in every tree of up to 7.
+/// Every tree of up to 6 nodes in every tree of up to 8.
 fn every_small_pair(seed: u64) {
     let mut comparison = Comparison::new(seed);
     for source in (1..=6).flat_map(all_trees) {
-        for target in (1..=7).flat_map(all_trees) {
+        for target in (1..=8).flat_map(all_trees) {
             comparison.pair(&source, &target);
         }
     }
@@ -124,7 +124,8 @@ fn random_pairs(seed: u64) {
     }
     comparison.print("random pairs, up to 32 in 64 nodes");
     for _ in 0..NEAR_PAIRS {
-        let drawn = pairs::embedded(&mut random, SOURCE_NODES - 1, TARGET_NODES);
+        let chip_nodes = random.pick(&[SOURCE_NODES, 40, TARGET_NODES]);
+        let drawn = pairs::embedded(&mut random, SOURCE_NODES - 1, chip_nodes);
         let source = with_a_leaf(&mut random, drawn.source);
         comparison.pair(&source, &drawn.target);
     }
@@ -162,21 +163,31 @@ fn with_a_leaf(random: &mut Random, mut source: Vec<u8>) -> Vec<u8> {
 struct Comparison {
     seed: u64,
     pairs: usize,
-    /// By refusal and lack.
-    answers: BTreeMap<(u8, u8), usize>,
+    answers: BTreeMap<Kind, usize>,
 }
 
-const ANSWERS: [(u8, u8); 9] = [
-    (0, 0),
-    (1, 0),
-    (2, 0),
-    (3, 0),
-    (4, 0),
-    (5, 0),
-    (NO_MAP, LACKS_DEPTH),
-    (NO_MAP, LACKS_LEAVES),
-    (NO_MAP, LACKS_ROOM),
+/// The refusal, the lack, and whether the misfit lies below the top node.
+type Kind = (u8, u8, bool);
+
+/// The leaf that lacks depth is never the top node.
+const KINDS: [Kind; 11] = [
+    (0, 0, false),
+    (1, 0, false),
+    (2, 0, false),
+    (3, 0, false),
+    (4, 0, false),
+    (5, 0, false),
+    (NO_MAP, LACKS_DEPTH, true),
+    (NO_MAP, LACKS_LEAVES, false),
+    (NO_MAP, LACKS_LEAVES, true),
+    (NO_MAP, LACKS_ROOM, false),
+    (NO_MAP, LACKS_ROOM, true),
 ];
+
+fn kind(source: &[u8], answer: Diagnosis) -> Kind {
+    let below = answer.refusal == NO_MAP && answer.node != kept(source)[0];
+    (answer.refusal, answer.lack, below)
+}
 
 impl Comparison {
     fn new(seed: u64) -> Comparison {
@@ -199,10 +210,7 @@ impl Comparison {
             );
         }
         holds(source, target, rattle);
-        *self
-            .answers
-            .entry((rattle.refusal, rattle.lack))
-            .or_default() += 1;
+        *self.answers.entry(kind(source, rattle)).or_default() += 1;
         self.pairs += 1;
         rattle
     }
@@ -223,20 +231,21 @@ impl Comparison {
         let counts: Vec<String> = self
             .answers
             .iter()
-            .map(|((refusal, lack), met)| match lack {
-                0 => format!("{refusal}: {met}"),
-                _ => format!("{refusal}, lack {lack}: {met}"),
+            .map(|((refusal, lack, below), met)| match (lack, below) {
+                (0, _) => format!("{refusal}: {met}"),
+                (_, false) => format!("{refusal}, the top node lacks {lack}: {met}"),
+                (_, true) => format!("{refusal}, a node below lacks {lack}: {met}"),
             })
             .collect();
         println!("{what}: {} pairs; how many met each answer:", self.pairs);
-        println!("  {}", counts.join("  "));
+        println!("  {}", counts.join("; "));
     }
 
     fn require_all(&self) {
-        for answer in ANSWERS {
-            assert!(self.answers.contains_key(&answer), "{answer:?} was not met");
+        for kind in KINDS {
+            assert!(self.answers.contains_key(&kind), "{kind:?} was not met");
         }
-        assert_eq!(self.answers.len(), ANSWERS.len());
+        assert_eq!(self.answers.len(), KINDS.len());
     }
 }
 
