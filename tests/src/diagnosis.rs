@@ -91,15 +91,19 @@ fn leaf_count(tree: &Topology, node: usize) -> usize {
 struct Matcher<'a> {
     drawing: &'a Topology,
     chip: &'a Topology,
+    /// How many leaves each branch of the chip has.
+    chip_leaves: Vec<usize>,
     /// The answers of `shared` to a node, a set, a place and a first child.
     known: HashMap<(usize, u8, usize, usize), bool>,
 }
 
 impl<'a> Matcher<'a> {
     fn new(drawing: &'a Topology, chip: &'a Topology) -> Matcher<'a> {
+        let places = 0..chip.node_count();
         Matcher {
             drawing,
             chip,
+            chip_leaves: places.map(|place| leaf_count(chip, place)).collect(),
             known: HashMap::new(),
         }
     }
@@ -146,8 +150,11 @@ impl<'a> Matcher<'a> {
     }
 
     /// Whether a set of the children of `node` has images in the branch under
-    /// `place`: one alone may be at its top.
+    /// `place`: one alone may be at its top, and each needs a leaf.
     fn held(&mut self, node: usize, set: u8, place: usize) -> bool {
+        if set.count_ones() as usize > self.chip_leaves[place] {
+            return false;
+        }
         if set.is_power_of_two() {
             let child = self.drawing.children(node)[set.ilog2() as usize];
             if self.goes(child, place) {
