@@ -74,6 +74,8 @@ fn examples(seed: u64) {
     lacks(&forks, &comb, LACKS_ROOM, [0, 0, 0]);
     // The same below a node that is passed over.
     lacks(&[1, 2, 2, 0, 0, 2, 0, 0], &comb, LACKS_ROOM, [1, 0, 0]);
+    // The sample of refusal 12.
+    lacks(&[2, 0, 0], &[1, 0], LACKS_LEAVES, [0, 2, 1]);
     // The top node lacks leaves, also if it lies below passed nodes.
     lacks(&[3, 0, 0, 0], &[2, 0, 0], LACKS_LEAVES, [0, 3, 2]);
     lacks(&[1, 1, 3, 0, 0, 0], &[1, 2, 0, 0], LACKS_LEAVES, [2, 3, 2]);

@@ -28,7 +28,7 @@ pub fn run(random: &mut Random) {
     pairs.sort_by(|a, b| a.rattle.total_cmp(&b.rattle));
     report("half take at most", pairs[PAIRS / 2].rattle, rust);
     let slowest = &pairs[PAIRS - 1];
-    report("the slowest of Rattle", slowest.rattle, slowest.rust);
+    report("the slowest", slowest.rattle, slowest.rust);
     println!("  {:?} in {:?}", slowest.source, slowest.target);
     let (source, target) = nested_stars();
     let Timed { rattle, rust, .. } = timed(source, target);
@@ -53,11 +53,11 @@ fn tree(random: &mut Random, nodes: usize) -> Vec<u8> {
     generate::tree(random, shape, nodes, depth, children)
 }
 
-/// The slowest pair that is known: each node with two children on the chip is tried
-/// for node 2, whose branch is one step too deep for the last of them.
+/// The slowest pair that was found. Node 2 is tried everywhere below the chip's
+/// root, and most of the chip lies below six of these nodes.
 fn nested_stars() -> (Vec<u8>, Vec<u8>) {
     let fan = |children: usize| [vec![children as u8], vec![0; children]].concat();
-    let nested = [vec![8; 1], vec![0; 7], fan(8)].concat();
+    let nested = [vec![8], vec![0; 7], fan(8)].concat();
     let source = [vec![2, 0, 5], nested, fan(8), vec![0; 3]].concat();
     let fork = [vec![7], fan(8).repeat(5), fan(4), vec![0]].concat();
     let forks = [vec![2; 6], fork, vec![0; 6]].concat();
