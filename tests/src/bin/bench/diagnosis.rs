@@ -3,6 +3,7 @@
 use linduvar::maps;
 use linduvar_tests::diagnosis;
 use linduvar_tests::generate::{self, SHAPES};
+use linduvar_tests::laborious;
 use linduvar_tests::random::Random;
 use linduvar_tests::topology::{SOURCE_NODES, TARGET_NODES};
 use std::hint::black_box;
@@ -30,9 +31,13 @@ pub fn run(random: &mut Random) {
     let slowest = &pairs[PAIRS - 1];
     report("the slowest", slowest.rattle, slowest.rust);
     println!("  {:?} in {:?}", slowest.source, slowest.target);
-    let (source, target) = nested_stars();
-    let Timed { rattle, rust, .. } = timed(source, target);
-    report("nested stars, forks", rattle, rust);
+    for (name, (source, target)) in [
+        ("fans, none", laborious::hard_pair()),
+        ("nested stars, forks", nested_stars()),
+    ] {
+        let Timed { rattle, rust, .. } = timed(source, target);
+        report(name, rattle, rust);
+    }
 }
 
 /// A random pair of full size without a map.
