@@ -7,7 +7,7 @@
 
 use crate::embedding::{read_pair, Pair, Refusal};
 use crate::reduced::Reduced;
-use crate::topology::Topology;
+use crate::topology::{Topology, MOST_CHILDREN};
 use linduvar::{Diagnosis, LACKS_DEPTH, LACKS_LEAVES, LACKS_ROOM};
 use std::collections::HashMap;
 
@@ -124,13 +124,13 @@ impl<'a> Matcher<'a> {
     fn goes(&mut self, node: usize, place: usize) -> bool {
         match self.drawing.child_count(node) {
             0 => self.chip.is_leaf(place),
-            children => self.shared(node, u8::MAX >> (8 - children), place, 0),
+            children => self.shared(node, u8::MAX >> (MOST_CHILDREN - children), place, 0),
         }
     }
 
-    /// Whether a set of the children of `node`, a bit for each, has images below
-    /// `place`, none above another, all below its children from `first` on. Each
-    /// of these gets a part of the set.
+    /// Whether a set of the children of `node`, a bit for each, has images, none
+    /// above another, in the branches under the children of `place` from `first` on.
+    /// Each of these branches gets a part of the set.
     fn shared(&mut self, node: usize, set: u8, place: usize, first: usize) -> bool {
         if set == 0 {
             return true;
