@@ -17,10 +17,9 @@ static const uint8_t chip[] = {2, 2, 0, 0, 2, 0, 0};
 
 // Why there is no map.
 static void explain(const uint8_t *source, size_t length) {
-    static const char *const lacks[] = {
-        [LINDUVAR_LACKS_DEPTH] = "depth", [LINDUVAR_LACKS_LEAVES] = "leaves", [LINDUVAR_LACKS_ROOM] = "room"};
     linduvar_diagnosis why = linduvar_why(source, length, chip, sizeof chip);
-    printf("  the branch under node %zu lacks %s: %zu needed, %zu there\n", why.node, lacks[why.lack], why.needed, why.there);
+    const char *lack = why.lack == LINDUVAR_LACKS_DEPTH ? "depth" : why.lack == LINDUVAR_LACKS_LEAVES ? "leaves" : "room";
+    printf("  the branch under node %zu lacks %s: %zu needed, %zu there\n", why.node, lack, why.needed, why.there);
 }
 
 static void search(const char *name, const uint8_t *source, size_t length) {
