@@ -1,7 +1,7 @@
 // A drawing fitted to a chip: the least map or why there is none, a path carried over, and packets sent through both trees by their disciplines.
 //
 // A tree has 28,504 bytes and both trees with their map 57,048, so they are static here and not on the stack. A call needs stack all the same
-// (docs/C.md): this program runs with 320 KB.
+// (docs/C.md): this program runs with 340 KB.
 #include <inttypes.h>
 #include <linduvar.h>
 #include <stdio.h>
