@@ -39,6 +39,11 @@ extern "C" {
 #define LINDUVAR_STRICT 1
 #define LINDUVAR_WEIGHTED 2
 
+// What a branch that fits nowhere lacks, from linduvar_why.
+#define LINDUVAR_LACKS_DEPTH 1
+#define LINDUVAR_LACKS_LEAVES 2
+#define LINDUVAR_LACKS_ROOM 3
+
 // ---- Paths and ways ----
 
 // One step of a path: to a child, by its number from 1, with the rank that it enters the node's queue with.
@@ -72,6 +77,21 @@ typedef struct linduvar_way {
     linduvar_taken taken[LINDUVAR_MAX_STEPS];
     size_t count;
 } linduvar_way;
+
+// ---- Why there is no map ----
+
+// The refusal of the search, or 0. If it is 12, the branch under `node` of the source fits nowhere on the target, and `lack` says what it lacks.
+// LINDUVAR_LACKS_DEPTH: the node is a leaf with `needed` kept nodes above it, and no target node has more than `there` nodes above it.
+// LINDUVAR_LACKS_LEAVES: the branch has `needed` leaves, and a branch of the target where it may go has at most `there`.
+// LINDUVAR_LACKS_ROOM: each branch below the node fits somewhere, but not all of them together; `needed` and `there` are 0.
+// If the refusal is not 12, all else is 0.
+typedef struct linduvar_diagnosis {
+    uint8_t refusal;
+    uint8_t lack;
+    size_t node;
+    size_t needed;
+    size_t there;
+} linduvar_diagnosis;
 
 // ---- The queue tree ----
 
@@ -214,6 +234,9 @@ uint8_t linduvar_check(const uint8_t *source, size_t source_length, const uint8_
 // LINDUVAR_NO_ROOM if there is a map but `out` has fewer than 32 bytes. Unless the answer is 0, nothing is written. Refusals: S, T, 12.
 uint8_t linduvar_search(const uint8_t *source, size_t source_length, const uint8_t *target, size_t target_length, uint8_t *out, size_t out_length);
 
+// Why the source has no map into the target. Refusals: S, T, 12.
+linduvar_diagnosis linduvar_why(const uint8_t *source, size_t source_length, const uint8_t *target, size_t target_length);
+
 // Writes to `depth` the least depth of a complete tree, with d children at each inner node, into which the source has a map, and answers 0; or
 // answers the refusal and writes nothing. Refusals: S, 27.
 uint8_t linduvar_least_depth(const uint8_t *source, size_t source_length, size_t d, size_t *depth);
@@ -308,6 +331,13 @@ LINDUVAR_FIELD(linduvar_taken, rank, 4);
 LINDUVAR_SIZE(linduvar_way, 80);
 LINDUVAR_FIELD(linduvar_way, taken, 0);
 LINDUVAR_FIELD(linduvar_way, count, 72);
+
+LINDUVAR_SIZE(linduvar_diagnosis, 32);
+LINDUVAR_FIELD(linduvar_diagnosis, refusal, 0);
+LINDUVAR_FIELD(linduvar_diagnosis, lack, 1);
+LINDUVAR_FIELD(linduvar_diagnosis, node, 8);
+LINDUVAR_FIELD(linduvar_diagnosis, needed, 16);
+LINDUVAR_FIELD(linduvar_diagnosis, there, 24);
 
 LINDUVAR_SIZE(linduvar_entry, 12);
 LINDUVAR_FIELD(linduvar_entry, rank, 0);

@@ -1,7 +1,7 @@
-// A drawing fitted to a chip: the least map, a path carried over, and packets sent through both trees by their disciplines.
+// A drawing fitted to a chip: the least map or why there is none, a path carried over, and packets sent through both trees by their disciplines.
 //
 // A tree has 28,504 bytes and both trees with their map 57,048, so they are static here and not on the stack. A call needs stack all the same
-// (docs/C.md): this program runs with 320 KB.
+// (docs/C.md): this program runs with 340 KB.
 #include <inttypes.h>
 #include <linduvar.h>
 #include <stdio.h>
@@ -15,11 +15,21 @@ static const uint8_t five_courses[] = {5, 0, 0, 0, 0, 0};
 // Four leaves, and never more than two children.
 static const uint8_t chip[] = {2, 2, 0, 0, 2, 0, 0};
 
+// Why there is no map.
+static void explain(const uint8_t *source, size_t length) {
+    linduvar_diagnosis why = linduvar_why(source, length, chip, sizeof chip);
+    const char *lack = why.lack == LINDUVAR_LACKS_DEPTH ? "depth" : why.lack == LINDUVAR_LACKS_LEAVES ? "leaves" : "room";
+    printf("  the branch under node %zu lacks %s: %zu needed, %zu there\n", why.node, lack, why.needed, why.there);
+}
+
 static void search(const char *name, const uint8_t *source, size_t length) {
     uint8_t map[LINDUVAR_MAX_SOURCE_NODES];
     uint8_t refusal = linduvar_search(source, length, chip, sizeof chip, map, sizeof map);
     if (refusal != 0) {
         printf("%s: no %d\n", name, refusal);
+        if (refusal == 12) {
+            explain(source, length);
+        }
         return;
     }
     printf("%s: map", name);

@@ -1,10 +1,11 @@
-//! A drawing fitted to a chip: the least map, a path carried over, and packets
-//! sent through both trees by their disciplines. examples/c/fit.c does the same
-//! in C.
+//! A drawing fitted to a chip: the least map or why there is none, a path carried
+//! over, and packets sent through both trees by their disciplines. examples/c/fit.c
+//! does the same in C.
 
 use linduvar::chip::{self, Behind};
 use linduvar::{maps, tree, PairOpened, Path, Rule, Step};
 use linduvar::{ARRIVAL, MAX_SOURCE_NODES, MAX_TARGET_NODES, WEIGHTED};
+use linduvar::{LACKS_DEPTH, LACKS_LEAVES};
 
 /// The root has three children: the roses, the glasshouses with two children of
 /// their own (palms and orchids), and the gate.
@@ -66,8 +67,27 @@ fn search(name: &str, source: &[u8]) {
             let images: Vec<String> = map[..source.len()].iter().map(u8::to_string).collect();
             println!("{name}: map {}", images.join(" "));
         }
-        refusal => println!("{name}: no {refusal}"),
+        refusal => {
+            println!("{name}: no {refusal}");
+            if refusal == 12 {
+                explain(source);
+            }
+        }
     }
+}
+
+/// Why there is no map.
+fn explain(source: &[u8]) {
+    let why = maps::why(source, &CHIP);
+    let lack = match why.lack {
+        LACKS_DEPTH => "depth",
+        LACKS_LEAVES => "leaves",
+        _ => "room",
+    };
+    println!(
+        "  the branch under node {} lacks {lack}: {} needed, {} there",
+        why.node, why.needed, why.there
+    );
 }
 
 fn behind(pair: &PairOpened) -> Behind<'_> {

@@ -15,8 +15,8 @@ pub mod topology;
 pub mod tree;
 
 pub use structs::{
-    Amount, Answer, Carried, Disciplines, Entry, Frame, Opened, PairOpened, Path, Popped, Rule,
-    Rules, State, Step, Taken, Tree, TreeAnswer, TreeOpened, Way,
+    Amount, Answer, Carried, Diagnosis, Disciplines, Entry, Frame, Opened, PairOpened, Path,
+    Popped, Rule, Rules, State, Step, Taken, Tree, TreeAnswer, TreeOpened, Way,
 };
 
 /// The most nodes of a source.
@@ -44,3 +44,8 @@ pub const NO_BYTE: u8 = 255;
 pub const ARRIVAL: u8 = 0;
 pub const STRICT: u8 = 1;
 pub const WEIGHTED: u8 = 2;
+
+/// What a branch that fits nowhere lacks, from [`maps::why`].
+pub const LACKS_DEPTH: u8 = 1;
+pub const LACKS_LEAVES: u8 = 2;
+pub const LACKS_ROOM: u8 = 3;

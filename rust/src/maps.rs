@@ -1,7 +1,7 @@
-//! Maps of a source into a target: the check, the search, the least depth of a
-//! regular chip, and the carrying of a path.
+//! Maps of a source into a target: the check, the search, why there is none, the
+//! least depth of a regular chip, and the carrying of a path.
 
-use crate::{Carried, Path};
+use crate::{Carried, Diagnosis, Path};
 
 mod boundary {
     use super::*;
@@ -23,6 +23,12 @@ mod boundary {
             out: *mut u8,
             out_length: usize,
         ) -> u8;
+        pub fn linduvar_why(
+            source: *const u8,
+            source_length: usize,
+            target: *const u8,
+            target_length: usize,
+        ) -> Diagnosis;
         pub fn linduvar_least_depth(
             source: *const u8,
             source_length: usize,
@@ -44,7 +50,8 @@ mod boundary {
 // Safety, for every call below: each pointer and the length after it are those
 // of one slice, which outlives the call, and `depth` is one number that does. The
 // library writes to `out` and to `depth` alone, and these are borrowed for
-// writing. A path goes in and comes out by value, laid out as C does.
+// writing. A path goes in and comes out by value, and a diagnosis comes out so,
+// laid out as C does.
 
 /// 0 if the map passes, else the refusal.
 pub fn check(source: &[u8], target: &[u8], map: &[u8]) -> u8 {
@@ -74,6 +81,11 @@ pub fn search(source: &[u8], target: &[u8], out: &mut [u8]) -> u8 {
             out.len(),
         )
     }
+}
+
+/// Why the source has no map into the target.
+pub fn why(source: &[u8], target: &[u8]) -> Diagnosis {
+    unsafe { boundary::linduvar_why(source.as_ptr(), source.len(), target.as_ptr(), target.len()) }
 }
 
 /// 0 and in `depth` the least depth of a complete tree, with d children at each

@@ -50,6 +50,26 @@ pub struct Way {
     pub count: usize,
 }
 
+/// Why a source has no map into a target: the refusal of the search, or 0. If it
+/// is 12, the branch under `node` of the source fits nowhere on the target, and
+/// `lack` says what it lacks.
+/// [`LACKS_DEPTH`](crate::LACKS_DEPTH): the node is a leaf with `needed` kept
+/// nodes above it, and no target node has more than `there` nodes above it.
+/// [`LACKS_LEAVES`](crate::LACKS_LEAVES): the branch has `needed` leaves, and a
+/// branch of the target where it may go has at most `there`.
+/// [`LACKS_ROOM`](crate::LACKS_ROOM): each branch below the node fits somewhere,
+/// but not all of them together; `needed` and `there` are 0. If the refusal is not
+/// 12, all else is 0.
+#[repr(C)]
+#[derive(Clone, Copy, Debug, PartialEq, Eq)]
+pub struct Diagnosis {
+    pub refusal: u8,
+    pub lack: u8,
+    pub node: usize,
+    pub needed: usize,
+    pub there: usize,
+}
+
 /// An entry of a queue: the child `child` if `tag` is 0, else the packet
 /// `packet`.
 #[repr(C)]
@@ -228,6 +248,7 @@ const _: () = {
     layout!(Carried, 96: path 0, refusal 88);
     layout!(Taken, 8: node 0, child 1, rank 4);
     layout!(Way, 80: taken 0, count 72);
+    layout!(Diagnosis, 32: refusal 0, lack 1, node 8, needed 16, there 24);
     layout!(Entry, 12: rank 0, tag 4, child 5, packet 8);
     layout!(Frame, 80: topology 0, nodes 64, limit 72);
     layout!(State, 27_864: frame 0, refused 80, lengths 84, entries 212);

@@ -46,6 +46,8 @@ fn drawings(Behind { source, map }: Behind, target: &[u8]) {
     report("search", &|| {
         maps::search(source, target, &mut [0; SOURCE_NODES])
     });
+    let (misfit, chip) = laborious::hard_pair();
+    report("why", &|| maps::why(&misfit, &chip));
     report("least_depth", &|| maps::least_depth(source, 2, &mut 0));
     report("carry", &|| maps::carry(source, target, map, &path));
     report("open", &|| queue::open(target, MOST_PACKETS));

@@ -3,6 +3,7 @@
 use linduvar::maps;
 use linduvar_tests::embedding;
 use linduvar_tests::generate::chain;
+use linduvar_tests::laborious;
 use linduvar_tests::pairs;
 use linduvar_tests::random::Random;
 use linduvar_tests::topology::{SOURCE_NODES, TARGET_NODES};
@@ -53,8 +54,7 @@ pub fn run(random: &mut Random) {
     let fork = [vec![7], fan(8).repeat(5), fan(4), vec![0]].concat();
     let forks = [vec![2; 6], fork, vec![0; 6]].concat();
     search("stars, forks", &[(stars, forks)]);
-    let source = [vec![8], fan(8), fan(8), fan(7), vec![0; 5]].concat();
-    let few = [vec![8], fan(7).repeat(6), fan(8), vec![1; 5], vec![0]].concat();
+    let (source, few) = laborious::hard_pair();
     let enough = [vec![8], fan(7).repeat(5), fan(8), vec![0, 1], fan(8)].concat();
     search("fans, none", &[(source.clone(), few)]);
     search("fans, a map", &[(source, enough)]);

@@ -2,6 +2,7 @@
 
 mod calls;
 mod copies;
+mod diagnosis;
 mod embedding;
 mod queue_tree;
 mod regular;
@@ -26,6 +27,7 @@ fn main() {
     println!("and in brackets the time of Rattle over that of Rust");
     topology::run(&mut random);
     embedding::run(&mut random);
+    diagnosis::run(&mut random);
     regular::run(&mut random);
     queue_tree::run(&mut random);
     scheduler::run();
