@@ -1,7 +1,7 @@
 // Why a drawing has no map: the branch of it that fits nowhere on the chip, and what the branch lacks.
 //
 // Each kept node, from the last to the first that fits nowhere, is tried at each target node where it may go, by a search of the one branch in the
-// other: at most 32 * 64 searches, each of smaller trees than the whole. The slowest pair that was found takes 5 ms (docs/PERFORMANCE.md).
+// other: at most 32 * 64 searches, each of smaller trees than the whole. The slowest pair that was found takes 5.5 ms (docs/PERFORMANCE.md).
 use embedding_search::Outcome;
 use embedding_search::number_of;
 use embedding_search::search;
