@@ -1,10 +1,12 @@
 //! The second implementation of the drawing of a pair: it walks the trees and
 //! writes their elements.
 
+use crate::diagnosis::why;
 use crate::embedding::{read_pair, Pair};
 use crate::reduced::PASSED_OVER;
 use crate::script::{outcomes, Done};
 use crate::topology::{Topology, MOST_CHILDREN, MOST_STEPS_DOWN, SOURCE_NODES, TARGET_NODES};
+use linduvar::{Diagnosis, LACKS_DEPTH, LACKS_LEAVES};
 
 const STYLE: [&str; 6] = [
     "text{font:10px sans-serif;text-anchor:middle}path{fill:none;stroke:black}ellipse{fill:white;stroke:black}",
@@ -48,8 +50,11 @@ pub fn draw(script: &[u8]) -> String {
         match (outcome.command, outcome.answer) {
             (0x01, Ok(_)) => source.push(script[outcome.offset + 1]),
             (0x02, Ok(_)) => target.push(script[outcome.offset + 1]),
-            (_, Ok(Done::Map(images))) => return sheet(&pair(&source, &target, &images)),
-            (_, Err((12, _))) => return sheet(&(pair(&source, &target, &[]) + &note(&no(12)))),
+            (_, Ok(Done::Map(images))) => return sheet(&pair(&source, &target, &images, None)),
+            (_, Err((12, _))) => {
+                let (trees, words) = misfit(&source, &target);
+                return sheet(&(trees + &note(&(no(12) + &words))));
+            }
             (_, Err((number @ 1..=5, _))) => {
                 let (part, words) = if Topology::read(&source, SOURCE_NODES).is_err() {
                     at_fault(SOURCE, &source, SOURCE_NODES, number)
@@ -137,7 +142,30 @@ fn read_as_far(
     fine && (0..children).all(|_| read_as_far(part, bytes, limit, Some(node), depth + 1))
 }
 
-fn pair(source: &[u8], target: &[u8], images: &[u8]) -> String {
+/// Both trees of a pair without a map, the branch that fits nowhere marked, and
+/// what it lacks in words.
+fn misfit(source: &[u8], target: &[u8]) -> (String, String) {
+    let Diagnosis {
+        lack,
+        node,
+        needed,
+        there,
+        ..
+    } = why(source, target);
+    let words = match lack {
+        LACKS_DEPTH => format!("node {node} needs {needed} levels above it, the chip has {there}"),
+        LACKS_LEAVES => format!(
+            "the branch of node {node} has {needed} leaves, a chip branch where it may go at most {there}"
+        ),
+        _ => format!("the branches below node {node} do not fit side by side"),
+    };
+    let trees = pair(source, target, &[], Some(node.into()));
+    (trees, format!(": {words}"))
+}
+
+/// Both trees and the lines between them; the branch of the source under a node
+/// may be marked.
+fn pair(source: &[u8], target: &[u8], images: &[u8], marked: Option<usize>) -> String {
     let Ok(Pair { source, target }) = read_pair(source, target) else {
         panic!("the search reads both trees first");
     };
@@ -155,7 +183,10 @@ fn pair(source: &[u8], target: &[u8], images: &[u8]) -> String {
         .collect();
     head(rows)
         + &format!("<g class='joins'>\n{joins}</g>\n")
-        + &tree(SOURCE, &source, |node| source_class(&source, node))
+        + &tree(SOURCE, &source, |node| match marked {
+            Some(top) if source.is_above(top, node) => "fault",
+            _ => source_class(&source, node),
+        })
         + &tree(CHIP, &target, |node| chip_class(&target, &images, node))
         + &legend(rows)
 }

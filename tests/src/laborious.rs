@@ -143,9 +143,14 @@ fn fan(children: u8) -> Vec<u8> {
     [vec![children], vec![0; usize::from(children)]].concat()
 }
 
-/// Eight children a node, 32 nodes into 64, and no map.
 fn hard_search() -> Vec<u8> {
+    let (source, target) = hard_pair();
+    opening(&source, &target, 1).concat()
+}
+
+/// Eight children a node, 32 nodes into 64, and no map.
+pub fn hard_pair() -> (Vec<u8>, Vec<u8>) {
     let source = [vec![8], fan(8), fan(8), fan(7), vec![0; 5]].concat();
     let target = [vec![8], fan(7).repeat(6), fan(8), vec![1; 5], vec![0]].concat();
-    opening(&source, &target, 1).concat()
+    (source, target)
 }

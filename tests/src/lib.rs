@@ -1,11 +1,12 @@
 //! A second implementation of the topology reader, of the search with its map
-//! check, of the least depth of a regular chip, of the queue tree, of the carrying
-//! of a path, of disciplines and of the programs, written from the papers, and what
-//! it takes to compare them with those proved in Rattle.
+//! check, of the diagnosis, of the least depth of a regular chip, of the queue tree,
+//! of the carrying of a path, of disciplines and of the programs, written from the
+//! papers, and what it takes to compare them with those proved in Rattle.
 
 pub mod both_trees;
 pub mod buychip;
 pub mod commands;
+pub mod diagnosis;
 pub mod drawing;
 pub mod embedding;
 pub mod gatewalk;
@@ -19,16 +20,11 @@ pub mod plain;
 pub mod plain_tree;
 pub mod queue_tree;
 pub mod random;
-pub mod rattle;
-pub mod rattle_chip;
-pub mod rattle_embedding;
-pub mod rattle_queue_tree;
-pub mod rattle_translator;
-pub mod rattle_tree;
 pub mod reached;
 pub mod reduced;
 pub mod regular;
 pub mod requests;
+pub mod rounds;
 pub mod rules;
 pub mod samples;
 pub mod scheduler;

@@ -53,7 +53,7 @@ fn bushy(bytes: &[u8], most: usize) -> Vec<u8> {
 
 /// A tree with nodes of one child put in, up to `nodes` in all where there is
 /// room for them: a byte 1 draws a node above the one that follows.
-fn stretched(random: &mut Random, mut bytes: Vec<u8>, nodes: usize) -> Vec<u8> {
+pub fn stretched(random: &mut Random, mut bytes: Vec<u8>, nodes: usize) -> Vec<u8> {
     for _ in 0..2 * nodes {
         let at = random.below(bytes.len());
         bytes.insert(at, 1);

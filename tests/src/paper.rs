@@ -86,7 +86,7 @@ fn pairs() -> Vec<(Vec<u8>, String)> {
 
 /// Four leaves and 27 nodes that are passed over: there can be no more of them
 /// among 32.
-fn lanes() -> Vec<u8> {
+pub fn lanes() -> Vec<u8> {
     let lane = |nodes: usize| [vec![1; nodes], vec![0]].concat();
     [vec![4], lane(7).repeat(3), lane(6)].concat()
 }

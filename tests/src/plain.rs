@@ -1,271 +1,131 @@
-//! States, paths, ways and answers as they cross the boundary to the Rattle
-//! library, laid out as C does. A path and a way are the library's own; a state
-//! is written as plain numbers.
+//! States of the second implementation written as the Rattle library has them at
+//! its boundary, as plain numbers, and read from there.
 
-use crate::queue_tree::{Entry, Item, State, Step, Taken, MOST_ENTRIES};
+use crate::queue_tree::{Entry, Item, State, Taken, MOST_ENTRIES};
 use crate::topology::TARGET_NODES;
+use linduvar::{Frame, Way, MAX_STEPS};
 
-/// A path has room for one step more than the deepest tree takes; as many nodes
-/// are on the longest way of a pop.
-pub const MOST_STEPS: usize = 9;
+/// What stands where no entry was put.
+const NO_ENTRY: linduvar::Entry = linduvar::Entry {
+    rank: 0,
+    tag: 0,
+    child: 0,
+    packet: 0,
+};
 
-/// Where `tag` is 0 the child `child`, else the packet `packet`.
-#[repr(C)]
-#[derive(Clone, Copy, Debug, PartialEq, Eq)]
-pub struct PlainEntry {
-    pub rank: u32,
-    pub tag: u8,
-    pub child: u8,
-    pub packet: u32,
-}
-
-/// What stands beside the queues and their count of refusals.
-#[repr(C)]
-#[derive(Clone, Copy, Debug, PartialEq, Eq)]
-pub struct PlainFrame {
-    pub topology: [u8; TARGET_NODES],
-    pub nodes: usize,
-    pub limit: usize,
-}
-
-/// The queues stand one behind the other in the order of their nodes, each from
-/// its head on and as long as its length says. Behind the last node and the
-/// last entry there may be anything.
-#[repr(C)]
-#[derive(Clone, Copy, Debug, PartialEq, Eq)]
-pub struct PlainState {
-    pub frame: PlainFrame,
-    pub refused: u32,
-    pub lengths: [u16; TARGET_NODES],
-    pub entries: [PlainEntry; MOST_ENTRIES],
-}
-
-#[repr(C)]
-#[derive(Clone, Copy, Debug, PartialEq, Eq)]
-pub struct PlainStep {
-    pub child: u8,
-    pub rank: u32,
-}
-
-/// Past the last step there may be anything.
-#[repr(C)]
-#[derive(Clone, Copy, Debug, PartialEq, Eq)]
-pub struct PlainPath {
-    pub steps: [PlainStep; MOST_STEPS],
-    pub count: usize,
-    pub leaf_rank: u32,
-}
-
-/// 0 and the carried path, with zeros past its last step; or the refusal and
-/// the path as it came.
-#[repr(C)]
-#[derive(Clone, Copy, Debug, PartialEq, Eq)]
-pub struct PlainCarried {
-    pub path: PlainPath,
-    pub refusal: u8,
-}
-
-/// 0 and the empty tree, or the refusal and zeros throughout.
-#[repr(C)]
-#[derive(Clone, Copy)]
-pub struct PlainOpened {
-    pub state: PlainState,
-    pub refusal: u8,
-}
-
-/// 0 or the refusal, with the packets held after a push, the packet that
-/// departs or the refusals counted.
-#[repr(C)]
-#[derive(Clone, Copy)]
-pub struct PlainAnswer {
-    pub state: PlainState,
-    pub refusal: u8,
-    pub value: u32,
-}
-
-#[repr(C)]
-#[derive(Clone, Copy, Debug, PartialEq, Eq)]
-pub struct PlainTaken {
-    pub node: u8,
-    pub child: u8,
-    pub rank: u32,
-}
-
-/// Zeros past the last node.
-#[repr(C)]
-#[derive(Clone, Copy, Debug, PartialEq, Eq)]
-pub struct PlainWay {
-    pub taken: [PlainTaken; MOST_STEPS],
-    pub count: usize,
-}
-
-#[repr(C)]
-#[derive(Clone, Copy)]
-pub struct PlainPopped {
-    pub answer: PlainAnswer,
-    pub way: PlainWay,
-}
-
-/// 0 or the refusal, with a count.
-#[repr(C)]
-#[derive(Clone, Copy, Debug, PartialEq, Eq)]
-pub struct PlainAmount {
-    pub refusal: u8,
-    pub value: u32,
-}
-
-impl PlainEntry {
-    /// What stands where no entry was put.
-    const NONE: PlainEntry = PlainEntry {
-        rank: 0,
-        tag: 0,
-        child: 0,
-        packet: 0,
+pub fn entry(entry: &Entry) -> linduvar::Entry {
+    let (tag, child, packet) = match entry.item {
+        Item::Child(child) => (0, child, 0),
+        Item::Packet(packet) => (1, 0, packet),
     };
-
-    pub fn write(entry: &Entry) -> PlainEntry {
-        let (tag, child, packet) = match entry.item {
-            Item::Child(child) => (0, child, 0),
-            Item::Packet(packet) => (1, 0, packet),
-        };
-        PlainEntry {
-            rank: entry.rank,
-            tag,
-            child,
-            packet,
-        }
-    }
-
-    pub fn read(&self) -> Entry {
-        let item = match self.tag {
-            0 => Item::Child(self.child),
-            _ => Item::Packet(self.packet),
-        };
-        Entry {
-            rank: self.rank,
-            item,
-        }
+    linduvar::Entry {
+        rank: entry.rank,
+        tag,
+        child,
+        packet,
     }
 }
 
-impl PlainState {
-    pub fn write(state: &State) -> PlainState {
-        let mut plain = PlainState {
-            frame: PlainFrame {
-                topology: [0; TARGET_NODES],
-                nodes: state.queues.len(),
-                limit: state.limit,
-            },
-            refused: state.refused,
-            lengths: [0; TARGET_NODES],
-            entries: [PlainEntry::NONE; MOST_ENTRIES],
-        };
-        plain.frame.topology[..state.topology.len()].copy_from_slice(&state.topology);
-        for (node, queue) in state.queues.iter().enumerate() {
-            for entry in queue {
-                plain.append(node, entry).expect("room for each entry");
-            }
-        }
-        plain
-    }
-
-    /// None if there are more nodes or entries than there can be.
-    pub fn read(&self) -> Option<State> {
-        let frame = &self.frame;
-        let mut entries = &self.entries[..];
-        let mut queues = Vec::new();
-        for &length in self.lengths.get(..frame.nodes)? {
-            let (queue, behind) = entries.split_at_checked(usize::from(length))?;
-            queues.push(queue.iter().map(PlainEntry::read).collect());
-            entries = behind;
-        }
-        Some(State {
-            topology: frame.topology[..frame.nodes].to_vec(),
-            limit: frame.limit,
-            refused: self.refused,
-            queues,
-        })
-    }
-
-    /// Where the queue of a node begins.
-    fn start(&self, node: usize) -> usize {
-        let before = &self.lengths[..node];
-        before.iter().map(|&length| usize::from(length)).sum()
-    }
-
-    /// How many entries there are.
-    pub fn used(&self) -> usize {
-        self.start(self.frame.nodes)
-    }
-
-    /// Adds an entry behind all others of a queue; None if there is no room.
-    pub fn append(&mut self, node: usize, entry: &Entry) -> Option<()> {
-        let (at, used) = (self.start(node + 1), self.used());
-        if used == MOST_ENTRIES {
-            return None;
-        }
-        self.entries.copy_within(at..used, at + 1);
-        self.entries[at] = PlainEntry::write(entry);
-        self.lengths[node] += 1;
-        Some(())
-    }
-
-    /// Takes an entry out of the queue that it is in.
-    pub fn remove(&mut self, node: usize, at: usize) {
-        let used = self.used();
-        self.entries.copy_within(at + 1..used, at);
-        self.lengths[node] -= 1;
-    }
-
-    /// The same with every entry written anew, those behind the last included,
-    /// as the library gives a state back: tags are 0 and 1, and a child has the
-    /// packet 0, a packet the child 0.
-    pub fn rewritten(&self) -> PlainState {
-        let mut plain = *self;
-        for entry in &mut plain.entries {
-            *entry = PlainEntry::write(&entry.read());
-        }
-        plain
+fn read_entry(plain: &linduvar::Entry) -> Entry {
+    let item = match plain.tag {
+        0 => Item::Child(plain.child),
+        _ => Item::Packet(plain.packet),
+    };
+    Entry {
+        rank: plain.rank,
+        item,
     }
 }
 
-impl PlainPath {
-    /// Only the first nine steps of a longer path; zeros past the last step.
-    pub fn write(steps: &[Step], leaf_rank: u32) -> PlainPath {
-        let mut path = PlainPath {
-            steps: [PlainStep { child: 0, rank: 0 }; MOST_STEPS],
-            count: steps.len().min(MOST_STEPS),
-            leaf_rank,
-        };
-        for (place, &Step { child, rank }) in path.steps.iter_mut().zip(steps) {
-            *place = PlainStep { child, rank };
+pub fn state(state: &State) -> linduvar::State {
+    let mut plain = linduvar::State {
+        frame: Frame {
+            topology: [0; TARGET_NODES],
+            nodes: state.queues.len(),
+            limit: state.limit,
+        },
+        refused: state.refused,
+        lengths: [0; TARGET_NODES],
+        entries: [NO_ENTRY; MOST_ENTRIES],
+    };
+    plain.frame.topology[..state.topology.len()].copy_from_slice(&state.topology);
+    for (node, queue) in state.queues.iter().enumerate() {
+        for entry in queue {
+            append(&mut plain, node, entry).expect("room for each entry");
         }
-        path
     }
-
-    /// The steps; a count above nine reads as nine.
-    pub fn read(&self) -> Vec<Step> {
-        let steps = self.steps.iter().take(self.count);
-        steps
-            .map(|&PlainStep { child, rank }| Step { child, rank })
-            .collect()
-    }
+    plain
 }
 
-impl PlainWay {
-    pub fn write(way: &[Taken]) -> PlainWay {
-        let none = PlainTaken {
-            node: 0,
-            child: 0,
-            rank: 0,
-        };
-        let mut plain = PlainWay {
-            taken: [none; MOST_STEPS],
-            count: way.len(),
-        };
-        for (place, &Taken { node, child, rank }) in plain.taken.iter_mut().zip(way) {
-            *place = PlainTaken { node, child, rank };
-        }
-        plain
+/// None if there are more nodes or entries than there can be.
+pub fn read(plain: &linduvar::State) -> Option<State> {
+    let frame = &plain.frame;
+    let mut entries = &plain.entries[..];
+    let mut queues = Vec::new();
+    for &length in plain.lengths.get(..frame.nodes)? {
+        let (queue, behind) = entries.split_at_checked(usize::from(length))?;
+        queues.push(queue.iter().map(read_entry).collect());
+        entries = behind;
     }
+    Some(State {
+        topology: frame.topology[..frame.nodes].to_vec(),
+        limit: frame.limit,
+        refused: plain.refused,
+        queues,
+    })
+}
+
+/// Where the queue of a node begins.
+fn start(plain: &linduvar::State, node: usize) -> usize {
+    let before = &plain.lengths[..node];
+    before.iter().map(|&length| usize::from(length)).sum()
+}
+
+/// How many entries there are.
+pub fn used(plain: &linduvar::State) -> usize {
+    start(plain, plain.frame.nodes)
+}
+
+/// Adds an entry behind all others of a queue; None if there is no room.
+pub fn append(plain: &mut linduvar::State, node: usize, new: &Entry) -> Option<()> {
+    let (at, used) = (start(plain, node + 1), used(plain));
+    if used == MOST_ENTRIES {
+        return None;
+    }
+    plain.entries.copy_within(at..used, at + 1);
+    plain.entries[at] = entry(new);
+    plain.lengths[node] += 1;
+    Some(())
+}
+
+/// Takes an entry out of the queue that it is in.
+pub fn remove(plain: &mut linduvar::State, node: usize, at: usize) {
+    let used = used(plain);
+    plain.entries.copy_within(at + 1..used, at);
+    plain.lengths[node] -= 1;
+}
+
+/// The same with every entry written anew, those behind the last included, as the
+/// library gives a state back: tags are 0 and 1, and a child has the packet 0, a
+/// packet the child 0.
+pub fn rewritten(plain: &linduvar::State) -> linduvar::State {
+    let mut plain = *plain;
+    for place in &mut plain.entries {
+        *place = entry(&read_entry(place));
+    }
+    plain
+}
+
+pub fn way(way: &[Taken]) -> Way {
+    let none = Taken {
+        node: 0,
+        child: 0,
+        rank: 0,
+    };
+    let mut plain = Way {
+        taken: [none; MAX_STEPS],
+        count: way.len(),
+    };
+    plain.taken[..way.len()].copy_from_slice(way);
+    plain
 }

@@ -1,162 +1,81 @@
-//! Trees with disciplines as they cross the boundary to the Rattle library,
-//! laid out as C does. Rules and disciplines are the library's own.
+//! Trees of the second implementation written as the Rattle library has them at
+//! its boundary, and read from there. Rules and disciplines are the same on both
+//! sides.
 
-use crate::plain::PlainState;
+use crate::plain;
 use crate::queue_tree::State;
-use crate::scheduler::{self, Disciplines, Pair, Refusal, Rule, Rules, Tree};
+use crate::scheduler::{self, Pair, Refusal, Rule, Tree};
 use crate::topology::{SOURCE_NODES, TARGET_NODES};
-use std::mem::offset_of;
+use linduvar::{PairOpened, TreeOpened};
 
-#[repr(C)]
-#[derive(Clone, Copy)]
-pub struct PlainRules {
-    pub rules: Rules,
+/// No tree: what a refused opening gives.
+fn no_tree() -> linduvar::Tree {
+    let rule = Rule {
+        discipline: 0,
+        weight: 0,
+    };
+    linduvar::Tree {
+        state: plain::state(&State::NONE),
+        disciplines: scheduler::fresh(&[rule; TARGET_NODES]),
+    }
 }
 
-#[repr(C)]
-#[derive(Clone, Copy, Debug, PartialEq, Eq)]
-pub struct PlainTree {
-    pub state: PlainState,
-    pub disciplines: Disciplines,
+pub fn tree(tree: &Tree) -> linduvar::Tree {
+    linduvar::Tree {
+        state: plain::state(&tree.state()),
+        disciplines: tree.disciplines(),
+    }
 }
 
-/// 0 and the empty tree, or the refusal and zeros throughout.
-#[repr(C)]
-#[derive(Clone, Copy, PartialEq, Eq)]
-pub struct PlainTreeOpened {
-    pub tree: PlainTree,
-    pub refusal: u8,
+/// The state; no tree, which is ill formed, where there are more nodes or entries
+/// than there can be.
+fn state(plain: &linduvar::Tree) -> State {
+    plain::read(&plain.state).unwrap_or(State::NONE)
 }
 
-/// 0 or the refusal, with the packets held after a push, the packet that
-/// departs or the refusals counted.
-#[repr(C)]
-#[derive(Clone, Copy)]
-pub struct PlainTreeAnswer {
-    pub tree: PlainTree,
-    pub refusal: u8,
-    pub value: u32,
+pub fn read(plain: &linduvar::Tree) -> Result<Tree, Refusal> {
+    Tree::from_state(&state(plain), &plain.disciplines)
 }
 
-/// 0 and both empty trees with the least map between them, or the refusal and
-/// zeros throughout.
-#[repr(C)]
-#[derive(Clone, Copy, PartialEq, Eq)]
-pub struct PlainPairOpened {
-    pub source: PlainTree,
-    pub chip: PlainTree,
-    pub map: [u8; SOURCE_NODES],
-    pub refusal: u8,
+pub fn read_chip(plain: &linduvar::Tree, source: &[u8], map: &[u8]) -> Result<Tree, Refusal> {
+    Tree::on_chip(source, map, &state(plain), &plain.disciplines)
 }
 
-// The layouts that the library has.
-const _: () = {
-    assert!(offset_of!(Rule, discipline) == 0);
-    assert!(offset_of!(Rule, weight) == 1);
-    assert!(size_of::<Rule>() == 2);
+/// Packets held and refusals counted of a chip's tree.
+pub fn chip_counts(plain: &linduvar::Tree, source: &[u8]) -> Result<(usize, u32), Refusal> {
+    scheduler::chip_counts(source, &state(plain), &plain.disciplines)
+}
 
-    assert!(offset_of!(Disciplines, rules) == 0);
-    assert!(offset_of!(Disciplines, virtual_time) == 128);
-    assert!(offset_of!(Disciplines, finish) == 384);
-    assert!(size_of::<Disciplines>() == 640);
+/// As the library gives a tree back.
+pub fn rewritten(plain: &linduvar::Tree) -> linduvar::Tree {
+    linduvar::Tree {
+        state: plain::rewritten(&plain.state),
+        disciplines: plain.disciplines,
+    }
+}
 
-    assert!(offset_of!(PlainRules, rules) == 0);
-    assert!(size_of::<PlainRules>() == 128);
+pub fn opened(opened: &Result<Tree, Refusal>) -> TreeOpened {
+    let (tree, refusal) = match opened {
+        Ok(opened) => (tree(opened), 0),
+        Err(refusal) => (no_tree(), refusal.number()),
+    };
+    TreeOpened { tree, refusal }
+}
 
-    assert!(offset_of!(PlainTree, state) == 0);
-    assert!(offset_of!(PlainTree, disciplines) == 27_864);
-    assert!(size_of::<PlainTree>() == 28_504);
-
-    assert!(offset_of!(PlainTreeOpened, tree) == 0);
-    assert!(offset_of!(PlainTreeOpened, refusal) == 28_504);
-    assert!(size_of::<PlainTreeOpened>() == 28_512);
-
-    assert!(offset_of!(PlainTreeAnswer, tree) == 0);
-    assert!(offset_of!(PlainTreeAnswer, refusal) == 28_504);
-    assert!(offset_of!(PlainTreeAnswer, value) == 28_508);
-    assert!(size_of::<PlainTreeAnswer>() == 28_512);
-
-    assert!(offset_of!(PlainPairOpened, source) == 0);
-    assert!(offset_of!(PlainPairOpened, chip) == 28_504);
-    assert!(offset_of!(PlainPairOpened, map) == 57_008);
-    assert!(offset_of!(PlainPairOpened, refusal) == 57_040);
-    assert!(size_of::<PlainPairOpened>() == 57_048);
-};
-
-impl PlainTree {
-    /// No tree: what a refused opening gives.
-    fn none() -> PlainTree {
-        let rule = Rule {
-            discipline: 0,
-            weight: 0,
-        };
-        PlainTree {
-            state: PlainState::write(&State::NONE),
-            disciplines: Disciplines::fresh(&[rule; TARGET_NODES]),
+pub fn pair_opened(opened: &Result<Pair, Refusal>) -> PairOpened {
+    let mut plain = PairOpened {
+        source: no_tree(),
+        chip: no_tree(),
+        map: [0; SOURCE_NODES],
+        refusal: 0,
+    };
+    match opened {
+        Ok(pair) => {
+            plain.source = tree(&pair.source);
+            plain.chip = tree(&pair.chip);
+            plain.map[..pair.map.len()].copy_from_slice(&pair.map);
         }
+        Err(refusal) => plain.refusal = refusal.number(),
     }
-
-    pub fn write(tree: &Tree) -> PlainTree {
-        PlainTree {
-            state: PlainState::write(&tree.state()),
-            disciplines: tree.disciplines(),
-        }
-    }
-
-    /// The state; no tree, which is ill formed, where there are more nodes or
-    /// entries than there can be.
-    fn state(&self) -> State {
-        self.state.read().unwrap_or(State::NONE)
-    }
-
-    pub fn read(&self) -> Result<Tree, Refusal> {
-        Tree::from_state(&self.state(), &self.disciplines)
-    }
-
-    pub fn read_chip(&self, source: &[u8], map: &[u8]) -> Result<Tree, Refusal> {
-        Tree::on_chip(source, map, &self.state(), &self.disciplines)
-    }
-
-    /// Packets held and refusals counted of a chip's tree.
-    pub fn chip_counts(&self, source: &[u8]) -> Result<(usize, u32), Refusal> {
-        scheduler::chip_counts(source, &self.state(), &self.disciplines)
-    }
-
-    /// As the library gives a tree back.
-    pub fn rewritten(&self) -> PlainTree {
-        PlainTree {
-            state: self.state.rewritten(),
-            disciplines: self.disciplines,
-        }
-    }
-}
-
-impl PlainTreeOpened {
-    pub fn write(opened: &Result<Tree, Refusal>) -> PlainTreeOpened {
-        let (tree, refusal) = match opened {
-            Ok(tree) => (PlainTree::write(tree), 0),
-            Err(refusal) => (PlainTree::none(), refusal.number()),
-        };
-        PlainTreeOpened { tree, refusal }
-    }
-}
-
-impl PlainPairOpened {
-    pub fn write(opened: &Result<Pair, Refusal>) -> PlainPairOpened {
-        let mut plain = PlainPairOpened {
-            source: PlainTree::none(),
-            chip: PlainTree::none(),
-            map: [0; SOURCE_NODES],
-            refusal: 0,
-        };
-        match opened {
-            Ok(pair) => {
-                plain.source = PlainTree::write(&pair.source);
-                plain.chip = PlainTree::write(&pair.chip);
-                plain.map[..pair.map.len()].copy_from_slice(&pair.map);
-            }
-            Err(refusal) => plain.refusal = refusal.number(),
-        }
-        plain
-    }
+    plain
 }

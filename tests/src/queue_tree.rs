@@ -3,6 +3,7 @@
 //! only then made a tree.
 
 use crate::topology::{self, Topology, TARGET_NODES};
+pub use linduvar::{Step, Taken};
 
 pub const MOST_PACKETS: usize = 256;
 /// Each packet has at most 8 entries at inner nodes and one at a leaf.
@@ -45,21 +46,6 @@ pub enum Item {
 pub struct Entry {
     pub rank: u32,
     pub item: Item,
-}
-
-#[derive(Clone, Copy, Debug)]
-pub struct Step {
-    pub child: u8,
-    pub rank: u32,
-}
-
-/// What a pop takes at a node: the head of its queue, with the child that it
-/// names, or 0 at a leaf.
-#[derive(Clone, Copy, Debug, PartialEq, Eq)]
-pub struct Taken {
-    pub node: u8,
-    pub child: u8,
-    pub rank: u32,
 }
 
 /// A packet that departs, and what is taken on its way from the root on.

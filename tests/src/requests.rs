@@ -1,20 +1,18 @@
 //! Calls on a tree with disciplines, and random ones of every kind.
 
-use crate::plain::PlainPath;
-use crate::plain_tree::{PlainTree, PlainTreeAnswer};
 use crate::queue_tree;
 use crate::random::Random;
-use crate::rattle_chip::Behind;
-use crate::rattle_tree;
 use crate::scheduler::{Disciplines, Refusal, Tree, STRICT, WEIGHTED};
 use crate::states::{any_path, Habits};
 use crate::topology::Topology;
 use crate::translator::Path;
+use linduvar::chip::Behind;
+use linduvar::tree;
 
 #[derive(Clone, Debug)]
 pub enum Request {
     Push {
-        path: PlainPath,
+        path: linduvar::Path,
         packet: u32,
     },
     PushToLeaf {
@@ -51,7 +49,7 @@ impl Request {
     pub fn by_rust(&self, tree: &mut Tree) -> Answer {
         let value = match *self {
             Request::Push { path, packet } => {
-                let (steps, leaf_rank) = (path.read(), path.leaf_rank);
+                let (steps, leaf_rank) = (path.steps().to_vec(), path.leaf_rank);
                 let held = tree.push(&Path { steps, leaf_rank }, packet);
                 held.map(|held| held as u32)
             }
@@ -73,21 +71,21 @@ impl Request {
     }
 
     /// Makes the call on a tree by itself of the library.
-    pub fn by_rattle(&self, tree: &PlainTree) -> PlainTreeAnswer {
+    pub fn by_rattle(&self, tree: &linduvar::Tree) -> linduvar::TreeAnswer {
         match *self {
-            Request::Push { path, packet } => rattle_tree::push(tree, &path, packet),
+            Request::Push { path, packet } => tree::push(tree, &path, packet),
             Request::PushToLeaf {
                 leaf,
                 class,
                 length,
                 packet,
-            } => rattle_tree::push_to_leaf(tree, leaf, class, length, packet),
-            Request::Pop => rattle_tree::pop(tree),
+            } => tree::push_to_leaf(tree, leaf, class, length, packet),
+            Request::Pop => tree::pop(tree),
         }
     }
 
     /// Makes the call on a chip's tree of the library.
-    pub fn by_rattle_chip(&self, chip: Behind, tree: &PlainTree) -> PlainTreeAnswer {
+    pub fn by_rattle_chip(&self, chip: Behind, tree: &linduvar::Tree) -> linduvar::TreeAnswer {
         match *self {
             Request::Push { path, packet } => chip.push(tree, &path, packet),
             Request::PushToLeaf {

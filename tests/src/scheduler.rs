@@ -7,6 +7,7 @@ use crate::embedding::read_pair;
 use crate::queue_tree::{self, Departure, QueueTree, State, Step};
 use crate::topology::{Topology, SOURCE_NODES, TARGET_NODES};
 use crate::translator::{way_down, Path, Translator};
+pub use linduvar::{Disciplines, Rule, Rules};
 use std::collections::BTreeMap;
 
 pub const ARRIVAL: u8 = 0;
@@ -42,35 +43,14 @@ impl From<queue_tree::Refusal> for Refusal {
     }
 }
 
-/// A node's discipline by its number, and its weight under its parent.
-#[repr(C)]
-#[derive(Clone, Copy, Debug, PartialEq, Eq)]
-pub struct Rule {
-    pub discipline: u8,
-    pub weight: u8,
-}
-
-pub type Rules = [Rule; TARGET_NODES];
-
-/// Disciplines as they are handed in and out, by node of the drawing; a finish
-/// is that of a node under its parent. Only weighted nodes that are not passed
-/// over keep anything, and all other numbers stay as they came.
-#[repr(C)]
-#[derive(Clone, Copy, Debug, PartialEq, Eq)]
-pub struct Disciplines {
-    pub rules: Rules,
-    pub virtual_time: [u32; TARGET_NODES],
-    pub finish: [u32; TARGET_NODES],
-}
-
-impl Disciplines {
-    /// Nothing was popped and nothing finished.
-    pub fn fresh(rules: &Rules) -> Disciplines {
-        Disciplines {
-            rules: *rules,
-            virtual_time: [0; TARGET_NODES],
-            finish: [0; TARGET_NODES],
-        }
+/// Disciplines of which nothing was popped and nothing finished. Only weighted
+/// nodes that are not passed over keep anything, and all other numbers stay as
+/// they came.
+pub fn fresh(rules: &Rules) -> Disciplines {
+    Disciplines {
+        rules: *rules,
+        virtual_time: [0; TARGET_NODES],
+        finish: [0; TARGET_NODES],
     }
 }
 
@@ -239,7 +219,7 @@ impl Tree {
 
     /// A tree of empty queues whose disciplines go by a drawing.
     fn opened(queues: QueueTree, drawing: Topology, rules: &Rules) -> Result<Tree, Refusal> {
-        let fresh = Disciplines::fresh(rules);
+        let fresh = fresh(rules);
         let scheduler = Scheduler::new(drawing, &fresh).ok_or(Refusal::Rules)?;
         Ok(Tree {
             queues,

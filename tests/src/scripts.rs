@@ -40,7 +40,7 @@ fn shuffled_opening(
 /// comes while the steps are gathered, and leaves them.
 fn any_push(source: &[u8], habits: &Habits, random: &mut Random) -> Vec<Command> {
     let (path, _, _) = any_path(source, habits, random);
-    let mut steps = path.read();
+    let mut steps = path.steps().to_vec();
     // A ninth step would end the script.
     steps.truncate(MOST_STEPS_DOWN);
     let mut commands = push_along(&steps, habits.packet(random), path.leaf_rank);

@@ -2,7 +2,7 @@
 
 use crate::generate::{self, SHAPES};
 use crate::pairs;
-use crate::plain::{PlainEntry, PlainPath, PlainState, PlainStep};
+use crate::plain;
 use crate::queue_tree::{Entry, Item, QueueTree, State, Step, MOST_ENTRIES};
 use crate::random::Random;
 use crate::topology::{Topology, MOST_CHILDREN, MOST_STEPS_DOWN, TARGET_NODES};
@@ -140,7 +140,7 @@ pub fn any_path(
     topology: &[u8],
     habits: &Habits,
     random: &mut Random,
-) -> (PlainPath, &'static str, u8) {
+) -> (linduvar::Path, &'static str, u8) {
     let topology = Topology::read(topology, TARGET_NODES).expect("a valid tree");
     let (kind, answer) = match random.one_in(4) {
         true => random.pick(&PATHS),
@@ -149,7 +149,7 @@ pub fn any_path(
     let mut steps = right_path(&topology, habits, random);
     let right = steps.len();
     damage_path(&mut steps, kind, &topology, random);
-    let mut path = PlainPath::write(&steps, habits.rank(random));
+    let mut path = linduvar::Path::new(&steps, habits.rank(random));
     if kind == "right path and noise behind it" {
         noise_behind(&mut path, habits, random);
     }
@@ -162,9 +162,9 @@ pub fn any_path(
 }
 
 /// Fills the places past the last step.
-pub fn noise_behind(path: &mut PlainPath, habits: &Habits, random: &mut Random) {
+pub fn noise_behind(path: &mut linduvar::Path, habits: &Habits, random: &mut Random) {
     for place in path.steps.iter_mut().skip(path.count) {
-        *place = PlainStep {
+        *place = Step {
             child: random.within(1..=9) as u8,
             rank: habits.rank(random),
         };
@@ -215,9 +215,9 @@ pub const DRESSES: [&str; 7] = [
 ];
 
 /// A state, written in that way.
-pub fn dressed(state: &State, kind: &str, random: &mut Random) -> PlainState {
-    let mut plain = PlainState::write(state);
-    let (nodes, used) = (plain.frame.nodes, plain.used());
+pub fn dressed(state: &State, kind: &str, random: &mut Random) -> linduvar::State {
+    let mut plain = plain::state(state);
+    let (nodes, used) = (plain.frame.nodes, plain::used(&plain));
     for entry in &mut plain.entries[..used] {
         match (kind, entry.tag) {
             ("other tags of packets", 1) => entry.tag = random.within(1..=255) as u8,
@@ -227,7 +227,7 @@ pub fn dressed(state: &State, kind: &str, random: &mut Random) -> PlainState {
         }
     }
     match kind {
-        "noise behind the entries" => plain.entries[used..].fill_with(|| PlainEntry {
+        "noise behind the entries" => plain.entries[used..].fill_with(|| linduvar::Entry {
             rank: random.number() as u32,
             tag: random.below(256) as u8,
             child: random.below(256) as u8,
@@ -282,8 +282,8 @@ pub const DAMAGES: [&str; 24] = [
 
 /// Breaks one clause of a well formed state; None where that state gives no
 /// occasion for it.
-pub fn damage(state: &mut PlainState, kind: &str, random: &mut Random) -> Option<()> {
-    let (nodes, used) = (state.frame.nodes, state.used());
+pub fn damage(state: &mut linduvar::State, kind: &str, random: &mut Random) -> Option<()> {
+    let (nodes, used) = (state.frame.nodes, plain::used(state));
     let topology = state.frame.topology;
     let lengths = state.lengths;
     let children = |node: usize| usize::from(topology[node]);
@@ -333,7 +333,7 @@ pub fn damage(state: &mut PlainState, kind: &str, random: &mut Random) -> Option
             let packets = random.pick(&[limit + 1, 257, limit + 256, 512, MOST_ENTRIES]);
             (state.frame.topology[0], state.frame.nodes) = (0, 1);
             (state.frame.limit, state.lengths[0]) = (limit, packets as u16);
-            state.entries[..packets].fill(PlainEntry::write(&last(Item::Packet(1))));
+            state.entries[..packets].fill(plain::entry(&last(Item::Packet(1))));
         }
         "more entries than there can be" => {
             let (one, other) = (random.below(nodes), random.below(nodes));
@@ -387,12 +387,12 @@ pub fn damage(state: &mut PlainState, kind: &str, random: &mut Random) -> Option
             state.entries[inner_entry?].tag = random.pick(&[1, 2, 255]);
         }
         "packet more at an inner node" => {
-            state.append(inner_node?, &last(Item::Packet(1)))?;
+            plain::append(state, inner_node?, &last(Item::Packet(1)))?;
         }
         "child for a packet at a leaf" => state.entries[leaf_entry?].tag = 0,
         "child more at a leaf" => {
             let child = Item::Child(random.pick(&[0, 1, 2]));
-            state.append(leaf, &last(child))?;
+            plain::append(state, leaf, &last(child))?;
         }
         "child number 0" | "child number too large" => {
             let node = inner_node?;
@@ -405,7 +405,7 @@ pub fn damage(state: &mut PlainState, kind: &str, random: &mut Random) -> Option
                 let at = inner_entry?;
                 state.entries[at].child = past(owner(at), random);
             } else {
-                state.append(node, &last(Item::Child(past(node, random))))?;
+                plain::append(state, node, &last(Item::Child(past(node, random))))?;
             }
         }
         "another child" => {
@@ -416,25 +416,25 @@ pub fn damage(state: &mut PlainState, kind: &str, random: &mut Random) -> Option
             let node = inner_node?;
             let most = children(node) as u8;
             let any = random.within(1..=children(node)) as u8;
-            state.append(node, &last(Item::Child(random.pick(&[any, most]))))?;
+            plain::append(state, node, &last(Item::Child(random.pick(&[any, most]))))?;
         }
         "child 256 times more" => {
             let node = inner_node?;
             let child = Item::Child(random.within(1..=children(node)) as u8);
             for _ in 0..256 {
-                state.append(node, &last(child))?;
+                plain::append(state, node, &last(child))?;
             }
         }
         "child less" => {
             let at = inner_entry?;
-            state.remove(owner(at), at);
+            plain::remove(state, owner(at), at);
         }
         "packet more or less at a leaf" => {
             if random.one_in(2) {
                 let at = leaf_entry?;
-                state.remove(owner(at), at);
+                plain::remove(state, owner(at), at);
             } else {
-                state.append(leaf, &last(Item::Packet(1)))?;
+                plain::append(state, leaf, &last(Item::Packet(1)))?;
             }
         }
         _ => unreachable!("a kind of damage without a name"),

@@ -3,16 +3,16 @@
 //! every call all answers and all that is kept are compared. The first
 //! difference ends the run.
 
+use linduvar::chip::{self, Behind};
+use linduvar::tree;
 use linduvar_tests::embedding::read_pair;
 use linduvar_tests::generate;
 use linduvar_tests::kinds::Kinds;
 use linduvar_tests::pairs::{self, damaged_map, Drawn};
-use linduvar_tests::plain::{PlainAmount, PlainPath};
-use linduvar_tests::plain_tree::{PlainPairOpened, PlainTree, PlainTreeOpened};
+use linduvar_tests::plain;
+use linduvar_tests::plain_tree;
 use linduvar_tests::queue_tree::{Step, MOST_PACKETS};
 use linduvar_tests::random::{seeded, Random};
-use linduvar_tests::rattle_chip::{self, Behind};
-use linduvar_tests::rattle_tree;
 use linduvar_tests::requests::{
     any_push, passed_over, refused, Answer, Request, PASSED_OVER_KINDS,
 };
@@ -87,7 +87,7 @@ fn examples(kinds: &mut Kinds) {
             .iter()
             .map(|&(child, rank)| Step { child, rank })
             .collect();
-        let path = PlainPath::write(&steps, 0);
+        let path = linduvar::Path::new(&steps, 0);
         Request::Push { path, packet }
     };
     trees.answers(&path(&[(2, 9), (1, 700)], 1), (0, 1), kinds);
@@ -123,7 +123,7 @@ fn examples(kinds: &mut Kinds) {
 
     // 24 is about the rules as given.
     rules[3].weight = 0;
-    let opened = rattle_chip::open(&[1, 2, 1, 0, 0], &[2, 0, 0], 4, &rules);
+    let opened = chip::open_both(&[1, 2, 1, 0, 0], &[2, 0, 0], 4, &rules);
     assert_eq!(opened.refusal, 24);
     println!("examples: as worked by hand");
 }
@@ -149,9 +149,9 @@ fn openings(kinds: &mut Kinds, random: &mut Random) {
         let any = random.within(1..=256);
         let limit = random.pick(&[0, 257, usize::MAX, any, any, any, any]);
         let (rules, _) = any_rules(&drawn.source, random);
-        let rattle = rattle_chip::open(&drawn.source, &drawn.target, limit, &rules);
+        let rattle = chip::open_both(&drawn.source, &drawn.target, limit, &rules);
         let opened = Pair::open(&drawn.source, &drawn.target, limit, &rules);
-        let rust = PlainPairOpened::write(&opened);
+        let rust = plain_tree::pair_opened(&opened);
         let question = || format!("opening {:?} in {:?}", drawn.source, drawn.target);
         agree(question, rattle.refusal, rust.refusal);
         agree(question, rattle.map, rust.map);
@@ -163,9 +163,9 @@ fn openings(kinds: &mut Kinds, random: &mut Random) {
             _ => "",
         };
         kinds.meet(&format!("open: {}{of}", rust.refusal));
-        let alone = rattle_chip::open_chip(&drawn.source, &drawn.target, limit, &rules);
+        let alone = chip::open(&drawn.source, &drawn.target, limit, &rules);
         let tree = Tree::open_chip(&drawn.source, &drawn.target, limit, &rules);
-        let written = PlainTreeOpened::write(&tree);
+        let written = plain_tree::opened(&tree);
         agree(question, alone.refusal, written.refusal);
         agree(question, alone.tree, written.tree);
         kinds.meet(&format!("open a chip's: {}", written.refusal));
@@ -248,7 +248,7 @@ fn damaged_chip(trees: &Trees, kinds: &mut Kinds, random: &mut Random) {
 struct Damaged {
     source: Vec<u8>,
     map: Vec<u8>,
-    chip: PlainTree,
+    chip: linduvar::Tree,
     faults: Vec<&'static str>,
 }
 
@@ -289,7 +289,7 @@ impl Damaged {
         };
         let done = match kind {
             "another tree" => {
-                let other = rattle_tree::open(&any_topology(random), 3, &no_rules());
+                let other = tree::open(&any_topology(random), 3, &no_rules());
                 self.chip.state = other.tree.state;
                 Some(())
             }
@@ -311,17 +311,26 @@ fn no_rules() -> Rules {
 
 /// A call on a chip's tree, which may be none, on both sides; its answer. Counts
 /// are asked too.
-fn ask_chip(behind: Behind, chip: &PlainTree, request: &Request, kinds: &mut Kinds) -> Answer {
+fn ask_chip(behind: Behind, chip: &linduvar::Tree, request: &Request, kinds: &mut Kinds) -> Answer {
     let Behind { source, map } = behind;
     let rattle = request.by_rattle_chip(behind, chip);
     let answer = (rattle.refusal, rattle.value);
-    let question = || format!("{request:?} behind {behind:?} on {:?}", chip.state.read());
-    let mut after = chip.rewritten();
-    let rust = match chip.read_chip(source, map) {
+    let question = || {
+        format!(
+            "{request:?} behind {behind:?} on {:?}",
+            plain::read(&chip.state)
+        )
+    };
+    let mut after = plain_tree::rewritten(chip);
+    let rust = match plain_tree::read_chip(chip, source, map) {
         Err(refusal) => refused(refusal),
         Ok(mut tree) => {
             let answer = request.by_rust(&mut tree);
-            agree(question, rattle.tree.state.read(), Some(tree.state()));
+            agree(
+                question,
+                plain::read(&rattle.tree.state),
+                Some(tree.state()),
+            );
             after.disciplines = tree.disciplines();
             answer
         }
@@ -339,8 +348,8 @@ fn ask_chip(behind: Behind, chip: &PlainTree, request: &Request, kinds: &mut Kin
     answer
 }
 
-fn ask_counts(behind: Behind, chip: &PlainTree, kinds: &mut Kinds) {
-    let (held, refusals) = match chip.chip_counts(behind.source) {
+fn ask_counts(behind: Behind, chip: &linduvar::Tree, kinds: &mut Kinds) {
+    let (held, refusals) = match plain_tree::chip_counts(chip, behind.source) {
         Ok((held, refusals)) => ((0, held as u32), (0, refusals)),
         Err(refusal) => (refused(refusal), refused(refusal)),
     };
@@ -358,8 +367,8 @@ struct Trees {
     drawing: Vec<u8>,
     target: Vec<u8>,
     map: Vec<u8>,
-    source: PlainTree,
-    chip: PlainTree,
+    source: linduvar::Tree,
+    chip: linduvar::Tree,
     rust_source: Tree,
     rust_chip: Tree,
 }
@@ -367,7 +376,7 @@ struct Trees {
 impl Trees {
     /// Opens both with the least map.
     fn open(source: &[u8], target: &[u8], limit: usize, rules: &Rules) -> Trees {
-        let opened = rattle_chip::open(source, target, limit, rules);
+        let opened = chip::open_both(source, target, limit, rules);
         let pair = Pair::open(source, target, limit, rules);
         let pair = pair.expect("a pair with a map, and right rules");
         assert_eq!(opened.refusal, 0);
@@ -401,8 +410,8 @@ impl Trees {
     /// Takes the second implementation's trees from the library's.
     fn read_again(&mut self) {
         let (source, chip) = (
-            self.source.read(),
-            self.chip.read_chip(&self.drawing, &self.map),
+            plain_tree::read(&self.source),
+            plain_tree::read_chip(&self.chip, &self.drawing, &self.map),
         );
         self.rust_source = source.expect("a well formed tree");
         self.rust_chip = chip.expect("a well formed tree and a right map");
@@ -454,7 +463,7 @@ impl Trees {
             self.count_passed(&before.1, request, kinds);
         } else {
             for (before, after) in [(before.0, self.source), (before.1, self.chip)] {
-                let mut expected = before.rewritten();
+                let mut expected = plain_tree::rewritten(&before);
                 expected.state.refused = after.state.refused;
                 agree(|| self.words(request), after == expected, true);
             }
@@ -484,14 +493,11 @@ impl Trees {
         let (source, chip) = (&self.rust_source, &self.rust_chip);
         for (count, values) in [
             (
-                [rattle_tree::held(&self.source), behind.held(&self.chip)],
+                [tree::held(&self.source), behind.held(&self.chip)],
                 [source.held() as u32, chip.held() as u32],
             ),
             (
-                [
-                    rattle_tree::refusals(&self.source),
-                    behind.refusals(&self.chip),
-                ],
+                [tree::refusals(&self.source), behind.refusals(&self.chip)],
                 [source.refusals(), chip.refusals()],
             ),
         ] {
@@ -510,14 +516,17 @@ impl Trees {
             chip.disciplines(),
         ];
         agree(|| format!("kept after {what}"), kept, [kept[0]; 4]);
-        let rattle = [self.source.state.read(), self.chip.state.read()];
+        let rattle = [
+            plain::read(&self.source.state),
+            plain::read(&self.chip.state),
+        ];
         let rust = [Some(source.state()), Some(chip.state())];
         agree(|| format!("queues after {what}"), rattle, rust);
     }
 
     /// What a call moved of what the chip keeps, where the chip's number of the
     /// node is another or it has none.
-    fn count_moves(&self, before: &PlainTree, kinds: &mut Kinds) {
+    fn count_moves(&self, before: &linduvar::Tree, kinds: &mut Kinds) {
         let (old, new) = (&before.disciplines, &self.chip.disciplines);
         for (node, &image) in self.map.iter().enumerate() {
             let elsewhere = usize::from(image) != node;
@@ -535,7 +544,7 @@ impl Trees {
     }
 
     /// An accepted call, where nodes are passed over.
-    fn count_passed(&self, before: &PlainTree, request: &Request, kinds: &mut Kinds) {
+    fn count_passed(&self, before: &linduvar::Tree, request: &Request, kinds: &mut Kinds) {
         let drawing = Topology::read(&self.drawing, SOURCE_NODES).expect("a valid tree");
         for kind in passed_over(&drawing, &before.disciplines, request) {
             kinds.meet(kind);
@@ -546,7 +555,7 @@ impl Trees {
     }
 }
 
-fn of(amount: PlainAmount) -> Answer {
+fn of(amount: linduvar::Amount) -> Answer {
     (amount.refusal, amount.value)
 }
 

@@ -2,13 +2,11 @@
 //! tree and its chip tree behind carried paths, beside the second
 //! implementation's. The first difference ends the run.
 
+use linduvar::{maps, queue};
 use linduvar_tests::both_trees::BothTrees;
 use linduvar_tests::pairs::{self, Drawn};
-use linduvar_tests::plain::{PlainAmount, PlainAnswer, PlainState};
 use linduvar_tests::queue_tree::{Refusal, MOST_PACKETS};
 use linduvar_tests::random::{seeded, Random};
-use linduvar_tests::rattle_queue_tree as rattle;
-use linduvar_tests::rattle_translator;
 use linduvar_tests::reduced::Reduced;
 use linduvar_tests::states::{any_path, Habits};
 use linduvar_tests::topology::{Topology, SOURCE_NODES, TARGET_NODES};
@@ -88,8 +86,8 @@ struct Trees {
     drawing: Vec<u8>,
     target: Vec<u8>,
     map: Vec<u8>,
-    source: PlainState,
-    chip: PlainState,
+    source: linduvar::State,
+    chip: linduvar::State,
     rust: BothTrees,
 }
 
@@ -97,7 +95,7 @@ impl Trees {
     fn open(drawn: Drawn, limit: usize) -> Trees {
         let map = drawn.map.expect("a pair made from a map");
         let state = |topology: &[u8]| {
-            let opened = rattle::open(topology, limit);
+            let opened = queue::open(topology, limit);
             assert_eq!(opened.refusal, 0);
             opened.state
         };
@@ -136,16 +134,16 @@ impl Trees {
     fn push(&mut self, habits: &Habits, random: &mut Random) -> Answer {
         let (path, _, _) = any_path(&self.drawing, habits, random);
         let packet = habits.packet(random);
-        let source = taken(&mut self.source, |state| rattle::push(state, &path, packet));
-        let carried = rattle_translator::carry(&self.drawing, &self.target, &self.map, &path);
+        let source = taken(&mut self.source, |state| queue::push(state, &path, packet));
+        let carried = maps::carry(&self.drawing, &self.target, &self.map, &path);
         let chip = match carried.refusal {
             0 => taken(&mut self.chip, |state| {
-                rattle::push(state, &carried.path, packet)
+                queue::push(state, &carried.path, packet)
             }),
             refusal => (refusal, 0),
         };
         let drawn = Path {
-            steps: path.read(),
+            steps: path.steps().to_vec(),
             leaf_rank: path.leaf_rank,
         };
         let rust = match self.rust.push(&drawn, packet) {
@@ -156,7 +154,7 @@ impl Trees {
     }
 
     fn pop(&mut self) -> Answer {
-        let popped = |state: &PlainState| rattle::pop(state).answer;
+        let popped = |state: &linduvar::State| queue::pop(state).answer;
         let source = taken(&mut self.source, popped);
         let chip = taken(&mut self.chip, popped);
         let rust = match self.rust.pop() {
@@ -169,8 +167,8 @@ impl Trees {
     /// Packets held and refusals counted.
     fn compare_counts(&self) {
         for (what, count, rust) in [
-            ("held", rattle::held as Count, self.rust.held() as u32),
-            ("refusals", rattle::refusals, self.rust.refusals()),
+            ("held", queue::held as Count, self.rust.held() as u32),
+            ("refusals", queue::refusals, self.rust.refusals()),
         ] {
             let of = |state| {
                 let amount = count(state);
@@ -198,10 +196,13 @@ impl Trees {
 /// count that 15 returns, or 0.
 type Answer = (u8, u32);
 
-type Count = fn(&PlainState) -> PlainAmount;
+type Count = fn(&linduvar::State) -> linduvar::Amount;
 
 /// Makes a call and keeps the state that it leaves.
-fn taken(state: &mut PlainState, call: impl Fn(&PlainState) -> PlainAnswer) -> Answer {
+fn taken(
+    state: &mut linduvar::State,
+    call: impl Fn(&linduvar::State) -> linduvar::Answer,
+) -> Answer {
     let answer = call(state);
     *state = answer.state;
     (answer.refusal, answer.value)

@@ -1,11 +1,11 @@
 //! Puts the same questions to the Rattle library and to the second
 //! implementation. The first difference ends the run.
 
+use linduvar_tests::generate;
 use linduvar_tests::random::{seeded, Random};
 use linduvar_tests::topology::{
     branch, Topology, MOST_CHILDREN, MOST_STEPS_DOWN, SOURCE_NODES, TARGET_NODES,
 };
-use linduvar_tests::{generate, rattle};
 use std::fmt;
 
 const RANDOM_STRINGS: usize = 200_000;
@@ -27,7 +27,11 @@ fn examples(seed: u64) {
     let mut comparison = Comparison::new(seed);
     let mut read = |bytes: &[u8], limit: usize, answer: u8| {
         comparison.read(bytes, limit);
-        assert_eq!(rattle::read(bytes, limit), answer, "{bytes:?} to {limit}");
+        assert_eq!(
+            linduvar::topology::read(bytes, limit),
+            answer,
+            "{bytes:?} to {limit}"
+        );
     };
 
     for limit in [SOURCE_NODES, TARGET_NODES] {
@@ -54,14 +58,14 @@ fn examples(seed: u64) {
     // Node 0 has the children 1 and 3, node 1 has the child 2.
     let bytes = &[2, 1, 0, 0];
     comparison.every_node(bytes);
-    assert_eq!(rattle::branch(bytes, 0), (0, 4));
-    assert_eq!(rattle::branch(bytes, 1), (0, 2));
-    assert_eq!(rattle::branch(bytes, 3), (0, 1));
-    assert_eq!(rattle::branch(bytes, 4), (19, 0));
-    assert_eq!(rattle::branch(&[2, 0], 4), (1, 0));
-    assert_eq!(rattle::branch_byte(bytes, 1, 0), 1);
-    assert_eq!(rattle::branch_byte(bytes, 1, 1), 0);
-    assert_eq!(rattle::branch_byte(bytes, 1, 2), 255);
+    assert_eq!(linduvar::topology::branch(bytes, 0), (0, 4));
+    assert_eq!(linduvar::topology::branch(bytes, 1), (0, 2));
+    assert_eq!(linduvar::topology::branch(bytes, 3), (0, 1));
+    assert_eq!(linduvar::topology::branch(bytes, 4), (19, 0));
+    assert_eq!(linduvar::topology::branch(&[2, 0], 4), (1, 0));
+    assert_eq!(linduvar::topology::branch_byte(bytes, 1, 0), 1);
+    assert_eq!(linduvar::topology::branch_byte(bytes, 1, 1), 0);
+    assert_eq!(linduvar::topology::branch_byte(bytes, 1, 2), 255);
     println!("examples: as the paper has them");
 }
 
@@ -69,10 +73,10 @@ fn examples(seed: u64) {
 fn long_strings() {
     const LENGTH: usize = 1_000_000;
     let chain = vec![1; LENGTH];
-    assert_eq!(rattle::read(&chain, TARGET_NODES), 5);
+    assert_eq!(linduvar::topology::read(&chain, TARGET_NODES), 5);
 
     let crowd = vec![255; LENGTH];
-    assert_eq!(rattle::read(&crowd, TARGET_NODES), 4);
+    assert_eq!(linduvar::topology::read(&crowd, TARGET_NODES), 4);
     println!("long strings: answered");
 }
 
@@ -183,7 +187,7 @@ impl Comparison {
     }
 
     fn read(&mut self, bytes: &[u8], limit: usize) {
-        let rattle = rattle::read(bytes, limit);
+        let rattle = linduvar::topology::read(bytes, limit);
         let rust = match Topology::read(bytes, limit) {
             Ok(_) => 0,
             Err(refusal) => refusal as u8,
@@ -196,10 +200,10 @@ impl Comparison {
     /// complete exactly where the debt is 0: one plus the child counts read so
     /// far, less the number of bytes read. The first byte at fault decides.
     fn debts(&self, bytes: &[u8], limit: usize) {
-        let whole = rattle::read(bytes, limit);
+        let whole = linduvar::topology::read(bytes, limit);
         let mut debt = 1;
         for length in 0..=bytes.len() {
-            let part = rattle::read(&bytes[..length], limit);
+            let part = linduvar::topology::read(&bytes[..length], limit);
             let expected = if part > 1 { whole } else { u8::from(debt != 0) };
             let question = format_args!("read {length} bytes, limit {limit}");
             self.agree(question, bytes, part, expected);
@@ -217,13 +221,13 @@ impl Comparison {
             Err(refusal) => (refusal as u8, Vec::new()),
         };
         let question = format_args!("refusal and length of branch {node}");
-        let rattle = rattle::branch(bytes, node);
+        let rattle = linduvar::topology::branch(bytes, node);
         self.agree(question, bytes, rattle, (refusal, branch.len()));
         self.branch_answers.meet(refusal);
 
         for at in (0..=branch.len()).chain([usize::MAX]) {
             let question = format_args!("byte {at} of branch {node}");
-            let rattle = rattle::branch_byte(bytes, node, at);
+            let rattle = linduvar::topology::branch_byte(bytes, node, at);
             let rust = branch.get(at).copied().unwrap_or(255);
             self.agree(question, bytes, rattle, rust);
         }

@@ -12,10 +12,13 @@ const SCRIPTS: u64 = 400;
 const PAIRS: u64 = 400;
 
 /// The notes of sheets, without their numbers; a sheet with a map has none.
-const NOTES: [&str; 13] = [
+const NOTES: [&str; 16] = [
     "",
     "nothing to draw",
     "no  ",
+    "no  : node  needs  levels above it, the chip has ",
+    "no  : the branch of node  has  leaves, a chip branch where it may go at most ",
+    "no  : the branches below node  do not fit side by side",
     "no  : the source ends before it is complete",
     "no  : the source is complete before node ",
     "no  : node  of the source is one too many",

@@ -1,11 +1,11 @@
 //! Puts the same pairs and maps to the Rattle library and to the second
 //! implementation. The first difference ends the run.
 
+use linduvar::maps;
 use linduvar_tests::embedding::{self, read_pair};
 use linduvar_tests::generate::{self, all_trees, chain};
 use linduvar_tests::pairs::{self, damaged_map, Drawn};
 use linduvar_tests::random::{seeded, Random};
-use linduvar_tests::rattle_embedding;
 use linduvar_tests::reduced::{Reduced, PASSED_OVER};
 use linduvar_tests::topology::{Topology, SOURCE_NODES, TARGET_NODES};
 use std::collections::BTreeMap;
@@ -35,7 +35,7 @@ fn examples(seed: u64) {
     let mut search = |source: &[u8], target: &[u8], answer: u8, least: &[u8]| {
         comparison.small_pair(source, target);
         let mut map = [238; SOURCE_NODES];
-        let rattle = rattle_embedding::search(source, target, &mut map);
+        let rattle = maps::search(source, target, &mut map);
         assert_eq!(rattle, answer, "{source:?} in {target:?}");
         assert_eq!(map[..least.len()], *least, "{source:?} in {target:?}");
         let rest = if answer == 0 { 0 } else { 238 };
@@ -124,7 +124,7 @@ fn examples(seed: u64) {
 
     let mut check = |source: &[u8], target: &[u8], map: &[u8], answer: u8| {
         comparison.check(source, target, map);
-        let rattle = rattle_embedding::check(source, target, map);
+        let rattle = maps::check(source, target, map);
         assert_eq!(rattle, answer, "{map:?} of {source:?} in {target:?}");
     };
     // The chip's node 1 has the leaves 2 and 3, node 4 has node 5 with the
@@ -184,11 +184,11 @@ fn examples(seed: u64) {
     // trees are read first.
     let mut map = [238; SOURCE_NODES + 8];
     let short = &mut map[..SOURCE_NODES - 1];
-    assert_eq!(rattle_embedding::search(&[0], &[0], short), 255);
-    assert_eq!(rattle_embedding::search(&[0], &[], &mut []), 1);
-    assert_eq!(rattle_embedding::search(&[2, 0, 0], &[1, 0], &mut []), 12);
+    assert_eq!(maps::search(&[0], &[0], short), 255);
+    assert_eq!(maps::search(&[0], &[], &mut []), 1);
+    assert_eq!(maps::search(&[2, 0, 0], &[1, 0], &mut []), 12);
     assert_eq!(map, [238; SOURCE_NODES + 8]);
-    assert_eq!(rattle_embedding::search(&[0], &[0], &mut map), 0);
+    assert_eq!(maps::search(&[0], &[0], &mut map), 0);
     assert_eq!(map[..SOURCE_NODES], [0; SOURCE_NODES]);
     assert_eq!(map[SOURCE_NODES..], [238; 8]);
     println!("examples: as the paper has them");
@@ -219,7 +219,7 @@ fn hard_pairs(seed: u64) {
     let mut pair = |source: &[u8], target: &[u8], answer: u8| {
         comparison.large_pair(source, target);
         let mut map = [238; SOURCE_NODES];
-        let rattle = rattle_embedding::search(source, target, &mut map);
+        let rattle = maps::search(source, target, &mut map);
         assert_eq!(rattle, answer, "{source:?} in {target:?}");
     };
     pair(&bunch(8, 1), &bunch(7, 3), 12);
@@ -245,11 +245,11 @@ fn long_strings() {
     const LENGTH: usize = 1_000_000;
     let (ones, zeros) = (vec![1; LENGTH], vec![0; LENGTH]);
     let mut map = [238; SOURCE_NODES];
-    assert_eq!(rattle_embedding::search(&ones, &zeros, &mut map), 5);
-    assert_eq!(rattle_embedding::search(&[0], &zeros, &mut map), 2);
-    assert_eq!(rattle_embedding::check(&ones, &[0], &zeros), 5);
-    assert_eq!(rattle_embedding::check(&[0], &ones, &zeros), 5);
-    assert_eq!(rattle_embedding::check(&[0], &[0], &zeros), 6);
+    assert_eq!(maps::search(&ones, &zeros, &mut map), 5);
+    assert_eq!(maps::search(&[0], &zeros, &mut map), 2);
+    assert_eq!(maps::check(&ones, &[0], &zeros), 5);
+    assert_eq!(maps::check(&[0], &ones, &zeros), 5);
+    assert_eq!(maps::check(&[0], &[0], &zeros), 6);
     println!("long strings: answered");
 }
 
@@ -375,7 +375,7 @@ impl Comparison {
     }
 
     fn check(&mut self, source: &[u8], target: &[u8], map: &[u8]) {
-        let rattle = rattle_embedding::check(source, target, map);
+        let rattle = maps::check(source, target, map);
         let rust = embedding::check(source, target, map);
         self.agree(
             format_args!("check of {map:?}"),
@@ -392,7 +392,7 @@ impl Comparison {
     fn search(&mut self, source: &[u8], target: &[u8]) -> (u8, [u8; SOURCE_NODES]) {
         // No image has this number: it stays where a search is refused.
         let mut map = [238; SOURCE_NODES];
-        let rattle = rattle_embedding::search(source, target, &mut map);
+        let rattle = maps::search(source, target, &mut map);
         let (rust, least) = embedding::search(source, target);
         let written = if rust == 0 {
             least

@@ -2,16 +2,15 @@
 //! implementation, and compares the answers and the states. The first
 //! difference ends the run.
 
+use linduvar::queue;
 use linduvar_tests::generate;
 use linduvar_tests::kinds::Kinds;
-use linduvar_tests::plain::{
-    PlainAmount, PlainAnswer, PlainPath, PlainPopped, PlainState, PlainWay,
-};
+use linduvar_tests::plain;
 use linduvar_tests::queue_tree::{
     self, QueueTree, Refusal, Step, Taken, MOST_ENTRIES, MOST_PACKETS,
 };
 use linduvar_tests::random::{seeded, Random};
-use linduvar_tests::rattle_queue_tree;
+use linduvar_tests::rounds;
 use linduvar_tests::states::{
     any_path, any_topology, any_tree, damage, dressed, Course, Habits, DAMAGES, DRESSES, LIMITS,
     PATHS,
@@ -129,12 +128,12 @@ fn examples() {
 
 /// A tree on Rattle's side alone, for answers that are known.
 struct Literal {
-    state: PlainState,
+    state: linduvar::State,
 }
 
 impl Literal {
     fn open(topology: &[u8], limit: usize) -> Literal {
-        let opened = rattle_queue_tree::open(topology, limit);
+        let opened = queue::open(topology, limit);
         assert_eq!(opened.refusal, 0);
         Literal {
             state: opened.state,
@@ -146,24 +145,24 @@ impl Literal {
             .iter()
             .map(|&(child, rank)| Step { child, rank })
             .collect();
-        let path = PlainPath::write(&steps, leaf_rank);
-        let rattle = rattle_queue_tree::push(&self.state, &path, packet);
+        let path = linduvar::Path::new(&steps, leaf_rank);
+        let rattle = queue::push(&self.state, &path, packet);
         let met = (rattle.refusal, rattle.value);
         assert_eq!(met, answer, "push of {packet} along {path:?}");
         self.state = rattle.state;
     }
 
     fn pop(&mut self, answer: (u8, u32), way: &[(u8, u8, u32)]) {
-        let PlainPopped {
+        let linduvar::Popped {
             answer: rattle,
             way: met,
-        } = rattle_queue_tree::pop(&self.state);
+        } = queue::pop(&self.state);
         assert_eq!((rattle.refusal, rattle.value), answer, "pop");
         let way: Vec<Taken> = way
             .iter()
             .map(|&(node, child, rank)| Taken { node, child, rank })
             .collect();
-        assert_eq!(met, PlainWay::write(&way), "the way of a pop");
+        assert_eq!(met, plain::way(&way), "the way of a pop");
         self.state = rattle.state;
     }
 }
@@ -171,7 +170,7 @@ impl Literal {
 /// Strings far beyond any limit still get an answer.
 fn long_strings() {
     let long = vec![1; 1_000_000];
-    assert_eq!(rattle_queue_tree::open(&long, 0).refusal, 5);
+    assert_eq!(queue::open(&long, 0).refusal, 5);
     println!("long strings: answered");
 }
 
@@ -207,7 +206,7 @@ fn every_short_list(comparison: &mut Comparison) {
                     })
                     .collect();
                 calls.push(Call::Push {
-                    path: PlainPath::write(&steps, rank(path.len())),
+                    path: linduvar::Path::new(&steps, rank(path.len())),
                     packet: calls.len() as u32,
                 });
             }
@@ -320,11 +319,10 @@ fn many_rounds(comparison: &mut Comparison) {
         let rounds = random.within(0..=40) as u32;
 
         let mut after = sides.clone();
-        after.plain = rattle_queue_tree::rounds(&sides.plain, &first, &second, rounds);
-        let paths = [first.read(), second.read()];
+        after.plain = rounds::queue(&sides.plain, &first, &second, rounds);
         let paths = [
-            (&paths[0][..], first.leaf_rank),
-            (&paths[1][..], second.leaf_rank),
+            (first.steps(), first.leaf_rank),
+            (second.steps(), second.leaf_rank),
         ];
         queue_tree::rounds(&mut after.tree, paths, rounds);
         let earlier = Earlier(&sides.plain);
@@ -341,7 +339,7 @@ fn many_rounds(comparison: &mut Comparison) {
 
 #[derive(Clone, Debug)]
 enum Call {
-    Push { path: PlainPath, packet: u32 },
+    Push { path: linduvar::Path, packet: u32 },
     Pop,
 }
 
@@ -349,24 +347,24 @@ enum Call {
 /// it.
 #[derive(Clone)]
 struct Sides {
-    plain: PlainState,
+    plain: linduvar::State,
     tree: QueueTree,
 }
 
 impl Sides {
-    fn read(plain: PlainState) -> Result<Sides, Refusal> {
-        let state = plain.read().ok_or(Refusal::IllFormed)?;
+    fn read(plain: linduvar::State) -> Result<Sides, Refusal> {
+        let state = plain::read(&plain).ok_or(Refusal::IllFormed)?;
         let tree = QueueTree::from_state(&state)?;
         Ok(Sides { plain, tree })
     }
 }
 
 /// A state in plain numbers, read only when a difference is printed.
-struct Earlier<'a>(&'a PlainState);
+struct Earlier<'a>(&'a linduvar::State);
 
 impl fmt::Debug for Earlier<'_> {
     fn fmt(&self, to: &mut fmt::Formatter) -> fmt::Result {
-        self.0.read().fmt(to)
+        plain::read(self.0).fmt(to)
     }
 }
 
@@ -427,7 +425,7 @@ impl Comparison {
     fn agree<T: PartialEq + fmt::Debug>(
         &self,
         question: fmt::Arguments,
-        before: Option<&PlainState>,
+        before: Option<&linduvar::State>,
         rattle: T,
         rust: T,
     ) {
@@ -447,7 +445,7 @@ impl Comparison {
     }
 
     fn open(&mut self, topology: &[u8], limit: usize) -> Option<Sides> {
-        let rattle = rattle_queue_tree::open(topology, limit);
+        let rattle = queue::open(topology, limit);
         let opened = QueueTree::open(topology, limit);
         let rust = match &opened {
             Ok(_) => 0,
@@ -462,7 +460,7 @@ impl Comparison {
             Err(_) => queue_tree::State::NONE,
         };
         let question = format_args!("state, {question}");
-        self.agree(question, None, plain, PlainState::write(&state));
+        self.agree(question, None, plain, plain::state(&state));
         match opened {
             Ok(tree) => {
                 let sides = Sides { plain, tree };
@@ -471,7 +469,7 @@ impl Comparison {
             }
             Err(_) => {
                 // No call serves what an opening that was refused gave.
-                self.refuses_all(&plain, &PlainPath::write(&[], 0), "a refused opening");
+                self.refuses_all(&plain, &linduvar::Path::new(&[], 0), "a refused opening");
                 None
             }
         }
@@ -498,14 +496,14 @@ impl Comparison {
         let refused = sides.tree.refusals();
         let limit = sides.tree.limit();
 
-        let PlainPopped { answer, way } = match call {
-            Call::Push { path, packet } => PlainPopped {
-                answer: rattle_queue_tree::push(&before, path, *packet),
-                way: PlainWay::write(&[]),
+        let linduvar::Popped { answer, way } = match call {
+            Call::Push { path, packet } => linduvar::Popped {
+                answer: queue::push(&before, path, *packet),
+                way: plain::way(&[]),
             },
-            Call::Pop => rattle_queue_tree::pop(&before),
+            Call::Pop => queue::pop(&before),
         };
-        let PlainAnswer { refusal, value, .. } = answer;
+        let linduvar::Answer { refusal, value, .. } = answer;
         sides.plain = answer.state;
         let rust = make(&mut sides.tree, call);
         self.agree(
@@ -518,7 +516,7 @@ impl Comparison {
 
         // A refusal leaves every entry, and all else but the count of a full tree.
         if refusal != 0 {
-            let mut expected = before.rewritten();
+            let mut expected = plain::rewritten(&before);
             if refusal == 15 {
                 expected.refused = value;
             }
@@ -557,12 +555,12 @@ impl Comparison {
     /// What is held, what was refused, and every queue.
     fn compare_state(&self, sides: &Sides, question: fmt::Arguments) {
         let plain = Some(&sides.plain);
-        let count = |value: u32| PlainAmount { refusal: 0, value };
+        let count = |value: u32| linduvar::Amount { refusal: 0, value };
         let held = count(sides.tree.held() as u32);
-        let rattle = rattle_queue_tree::held(&sides.plain);
+        let rattle = queue::held(&sides.plain);
         self.agree(format_args!("held, {question}"), plain, rattle, held);
         let refusals = count(sides.tree.refusals());
-        let rattle = rattle_queue_tree::refusals(&sides.plain);
+        let rattle = queue::refusals(&sides.plain);
         self.agree(
             format_args!("refusals, {question}"),
             plain,
@@ -570,44 +568,44 @@ impl Comparison {
             refusals,
         );
         let state = Some(sides.tree.state());
-        let rattle = sides.plain.read();
+        let rattle = plain::read(&sides.plain);
         self.agree(format_args!("state, {question}"), plain, rattle, state);
     }
 
     /// Every call on an ill formed state is answered by 18, whatever else is
     /// at fault, and alters nothing; so do rounds of calls.
-    fn refuses_all(&mut self, before: &PlainState, path: &PlainPath, kind: &str) {
+    fn refuses_all(&mut self, before: &linduvar::State, path: &linduvar::Path, kind: &str) {
         for (call, rattle) in [
-            ("held", rattle_queue_tree::held(before)),
-            ("refusals", rattle_queue_tree::refusals(before)),
+            ("held", queue::held(before)),
+            ("refusals", queue::refusals(before)),
         ] {
             let question = format_args!("{call} on an ill formed state: {kind}");
-            let eighteen = PlainAmount {
+            let eighteen = linduvar::Amount {
                 refusal: 18,
                 value: 0,
             };
             self.agree(question, Some(before), rattle, eighteen);
             self.meet(18);
         }
-        let popped = rattle_queue_tree::pop(before);
+        let popped = queue::pop(before);
         let question = format_args!("the way of a pop on an ill formed state: {kind}");
-        self.agree(question, Some(before), popped.way, PlainWay::write(&[]));
+        self.agree(question, Some(before), popped.way, plain::way(&[]));
         for (call, rattle) in [
-            ("push", rattle_queue_tree::push(before, path, 0)),
+            ("push", queue::push(before, path, 0)),
             ("pop", popped.answer),
         ] {
             let question = format_args!("{call} on an ill formed state: {kind}");
-            let same = rattle.state == before.rewritten();
+            let same = rattle.state == plain::rewritten(before);
             let answer = (rattle.refusal, rattle.value, same);
             self.agree(question, Some(before), answer, (18, 0, true));
             self.meet(18);
         }
-        let after_rounds = rattle_queue_tree::rounds(before, path, path, 1);
+        let after_rounds = rounds::queue(before, path, path, 1);
         let question = format_args!("is it as before after a round on an ill formed state: {kind}");
         self.agree(
             question,
             Some(before),
-            after_rounds == before.rewritten(),
+            after_rounds == plain::rewritten(before),
             true,
         );
     }
@@ -638,10 +636,10 @@ impl Comparison {
 
 /// Makes the call on this side; its answer's number and value, and the way of a
 /// pop.
-fn make(tree: &mut QueueTree, call: &Call) -> (u8, u32, PlainWay) {
+fn make(tree: &mut QueueTree, call: &Call) -> (u8, u32, linduvar::Way) {
     let answer = match call {
         Call::Push { path, packet } => tree
-            .push(&path.read(), path.leaf_rank, *packet)
+            .push(path.steps(), path.leaf_rank, *packet)
             .map(|held| (held as u32, Vec::new())),
         Call::Pop => tree
             .pop()
@@ -652,5 +650,5 @@ fn make(tree: &mut QueueTree, call: &Call) -> (u8, u32, PlainWay) {
         Err(Refusal::Full(count)) => (15, count, Vec::new()),
         Err(refusal) => (refusal.number(), 0, Vec::new()),
     };
-    (number, value, PlainWay::write(&way))
+    (number, value, plain::way(&way))
 }

@@ -2,11 +2,11 @@
 //! the second implementation, and asks the searches of both about complete trees
 //! of that depth and of every smaller one. The first difference ends the run.
 
+use linduvar::maps;
 use linduvar_tests::embedding::Pair;
 use linduvar_tests::generate::{self, all_trees, chain, deepest, steep};
 use linduvar_tests::pairs::drawing;
 use linduvar_tests::random::{seeded, Random};
-use linduvar_tests::rattle_embedding;
 use linduvar_tests::reduced::PASSED_OVER;
 use linduvar_tests::regular::{complete, least_depth, size, CHILDREN, NO_SUCH_CHIP};
 use linduvar_tests::topology::{Topology, SOURCE_NODES, TARGET_NODES};
@@ -201,7 +201,7 @@ impl Comparison {
         // No depth has this number: it stays where the call is refused.
         const UNTOUCHED: usize = 238;
         let mut depth = UNTOUCHED;
-        let rattle = match rattle_embedding::least_depth(source, d, &mut depth) {
+        let rattle = match maps::least_depth(source, d, &mut depth) {
             0 => Ok(depth),
             refusal => {
                 assert_eq!(depth, UNTOUCHED, "{source:?}, {d}");
@@ -240,7 +240,7 @@ impl Comparison {
                 continue;
             }
             let mut map = [0; SOURCE_NODES];
-            let answer = rattle_embedding::search(source, &complete(d, depth), &mut map);
+            let answer = maps::search(source, &complete(d, depth), &mut map);
             let expected = if depth == least { 0 } else { 12 };
             assert_eq!(answer, expected, "{source:?}, {d}, depth {depth}");
             match answer {

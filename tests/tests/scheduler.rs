@@ -2,19 +2,20 @@
 //! stands by itself, and to the second implementation, and compares the
 //! answers, the queues and all that is kept. The first difference ends the run.
 
+use linduvar::tree;
 use linduvar_tests::generate;
 use linduvar_tests::history::History;
 use linduvar_tests::kinds::Kinds;
 use linduvar_tests::pairs;
-use linduvar_tests::plain::{PlainAmount, PlainPath, PlainState};
-use linduvar_tests::plain_tree::{PlainTree, PlainTreeOpened};
+use linduvar_tests::plain;
+use linduvar_tests::plain_tree;
 use linduvar_tests::queue_tree::Step;
 use linduvar_tests::random::{seeded, Random};
-use linduvar_tests::rattle_tree;
 use linduvar_tests::reduced::Reduced;
 use linduvar_tests::requests::{
     any_push, length, passed_over, some_leaf, Answer, Request, LEAVES, PASSED_OVER_KINDS,
 };
+use linduvar_tests::rounds;
 use linduvar_tests::rules::{any_rules, break_rules, keep_anything, right_rules, RULE_FAULTS};
 use linduvar_tests::scheduler::{self, Disciplines, Rule, Rules, Tree, ARRIVAL, STRICT, WEIGHTED};
 use linduvar_tests::states::{
@@ -175,7 +176,7 @@ fn examples() {
         tree.tree.disciplines.finish[1] = u32::MAX;
         tree.push_to_leaf(1, 9, u16::MAX, 1, (0, 1));
         tree.push_to_leaf(1, 3, u16::MAX, 2, (0, 2));
-        let state = tree.tree.state.read().expect("a state");
+        let state = plain::read(&tree.tree.state).expect("a state");
         assert!(state.queues[0].iter().all(|entry| entry.rank == 0));
         tree.pop((0, 2));
         tree.pop((0, 1));
@@ -184,19 +185,19 @@ fn examples() {
         tree.keeps(&[5], &[(1, u32::MAX)]);
     }
     // 24 is about the rules as given.
-    let opened = rattle_tree::open(&[1, 0], 1, &rules(&[(WEIGHTED, 0), (ARRIVAL, 0)]));
+    let opened = tree::open(&[1, 0], 1, &rules(&[(WEIGHTED, 0), (ARRIVAL, 0)]));
     assert_eq!(opened.refusal, 24);
     println!("examples: as worked by hand");
 }
 
 /// A tree on Rattle's side alone, for answers that are known.
 struct Literal {
-    tree: PlainTree,
+    tree: linduvar::Tree,
 }
 
 impl Literal {
     fn open(topology: &[u8], limit: usize, first: &[(u8, u8)]) -> Literal {
-        let opened = rattle_tree::open(topology, limit, &rules(first));
+        let opened = tree::open(topology, limit, &rules(first));
         assert_eq!(opened.refusal, 0);
         Literal { tree: opened.tree }
     }
@@ -218,7 +219,7 @@ impl Literal {
             .iter()
             .map(|&(child, rank)| Step { child, rank })
             .collect();
-        let path = PlainPath::write(&steps, leaf_rank);
+        let path = linduvar::Path::new(&steps, leaf_rank);
         self.answers(&Request::Push { path, packet }, answer);
     }
 
@@ -293,7 +294,7 @@ fn histories(seed: u64) {
 fn by_history(request: &Request, history: &mut History) -> Answer {
     let value = match *request {
         Request::Push { path, packet } => {
-            let (steps, leaf_rank) = (path.read(), path.leaf_rank);
+            let (steps, leaf_rank) = (path.steps().to_vec(), path.leaf_rank);
             history.push(&Path { steps, leaf_rank }, packet)
         }
         Request::PushToLeaf {
@@ -526,7 +527,7 @@ fn states(comparison: &mut Comparison) {
 
 /// A well formed tree that holds packets and keeps any numbers, and its
 /// drawing.
-fn any_plain_tree(habits: &Habits, random: &mut Random) -> (PlainTree, Topology) {
+fn any_plain_tree(habits: &Habits, random: &mut Random) -> (linduvar::Tree, Topology) {
     let tree = any_tree(random, habits);
     let drawing = Topology::read(tree.topology(), TARGET_NODES).expect("a valid tree");
     let mut state = tree.state();
@@ -534,12 +535,12 @@ fn any_plain_tree(habits: &Habits, random: &mut Random) -> (PlainTree, Topology)
     if dress == "limit as many as held" {
         state.limit = tree.held().max(1);
     }
-    let mut disciplines = Disciplines::fresh(&right_rules(&drawing, random));
+    let mut disciplines = scheduler::fresh(&right_rules(&drawing, random));
     if !random.one_in(4) {
         keep_anything(&mut disciplines, random);
     }
-    let state: PlainState = dressed(&state, dress, random);
-    (PlainTree { state, disciplines }, drawing)
+    let state: linduvar::State = dressed(&state, dress, random);
+    (linduvar::Tree { state, disciplines }, drawing)
 }
 
 /// Packets whose finish is just the largest, or one above it.
@@ -637,7 +638,7 @@ fn damaged_trees(comparison: &mut Comparison) {
         if broken.is_none() {
             continue;
         }
-        match plain.read() {
+        match plain_tree::read(&plain) {
             Err(refusal) => {
                 assert_eq!(refusal.number(), 18);
                 comparison.kinds.meet(kind);
@@ -666,12 +667,12 @@ fn many_rounds(comparison: &mut Comparison) {
         let rounds = random.within(0..=40) as u32;
         if trial % 2 == 0 {
             let (leaf, length) = (some_leaf(&drawing, random), length(random));
-            sides.plain = rattle_tree::rounds(&plain, leaf, 7, length, rounds);
+            sides.plain = rounds::to_leaf(&plain, leaf, 7, length, rounds);
             scheduler::rounds(&mut sides.tree, leaf, 7, length, rounds);
         } else {
             let (path, ..) = any_path(&before.topology, &habits, random);
-            let (steps, leaf_rank) = (path.read(), path.leaf_rank);
-            sides.plain = rattle_tree::path_rounds(&plain, &path, rounds);
+            let (steps, leaf_rank) = (path.steps().to_vec(), path.leaf_rank);
+            sides.plain = rounds::by_path(&plain, &path, rounds);
             scheduler::path_rounds(&mut sides.tree, &Path { steps, leaf_rank }, rounds);
         }
         comparison.compare(&sides, format_args!("after {rounds} rounds"));
@@ -685,14 +686,14 @@ fn many_rounds(comparison: &mut Comparison) {
 /// it.
 #[derive(Clone)]
 struct Sides {
-    plain: PlainTree,
+    plain: linduvar::Tree,
     tree: Tree,
 }
 
 impl Sides {
     /// The tree is well formed.
-    fn read(plain: PlainTree) -> Sides {
-        let tree = plain.read().expect("a well formed tree");
+    fn read(plain: linduvar::Tree) -> Sides {
+        let tree = plain_tree::read(&plain).expect("a well formed tree");
         Sides { plain, tree }
     }
 }
@@ -773,9 +774,9 @@ impl Comparison {
     }
 
     fn open(&mut self, topology: &[u8], limit: usize, rules: &Rules) -> Option<Sides> {
-        let rattle = rattle_tree::open(topology, limit, rules);
+        let rattle = tree::open(topology, limit, rules);
         let opened = Tree::open(topology, limit, rules);
-        let rust = PlainTreeOpened::write(&opened);
+        let rust = plain_tree::opened(&opened);
         let question = format_args!("opening {topology:?}, limit {limit}, {rules:?}");
         self.agree(question, rattle.refusal, rust.refusal);
         self.agree(question, rattle.tree, rust.tree);
@@ -785,7 +786,7 @@ impl Comparison {
             Ok(tree) => Some(Sides { plain, tree }),
             Err(_) => {
                 // No call serves what an opening that was refused gave.
-                let path = PlainPath::write(&[], 0);
+                let path = linduvar::Path::new(&[], 0);
                 let push = Request::Push { path, packet: 0 };
                 self.refuses_all(&plain, &push, "a refused opening");
                 None
@@ -820,7 +821,7 @@ impl Comparison {
 
         // A refusal leaves all but the count of a full tree.
         if answer.0 != 0 {
-            let mut expected = before.rewritten();
+            let mut expected = plain_tree::rewritten(&before);
             if answer.0 == 15 {
                 expected.state.refused = answer.1;
             }
@@ -842,7 +843,7 @@ impl Comparison {
     }
 
     /// What an accepted call moved of what is kept.
-    fn count_moves(&mut self, before: &PlainTree, after: &PlainTree, request: &Request) {
+    fn count_moves(&mut self, before: &linduvar::Tree, after: &linduvar::Tree, request: &Request) {
         let (old, new) = (&before.disciplines, &after.disciplines);
         let bytes = &before.state.frame.topology[..before.state.frame.nodes];
         let drawing = Topology::read(bytes, TARGET_NODES).expect("a valid tree");
@@ -906,14 +907,14 @@ impl Comparison {
 
     /// What is held, what was refused, every queue and all that is kept.
     fn compare(&self, sides: &Sides, question: fmt::Arguments) {
-        let count = |value: u32| PlainAmount { refusal: 0, value };
+        let count = |value: u32| linduvar::Amount { refusal: 0, value };
         let held = count(sides.tree.held() as u32);
-        let rattle = rattle_tree::held(&sides.plain);
+        let rattle = tree::held(&sides.plain);
         self.agree(format_args!("held, {question}"), rattle, held);
         let refusals = count(sides.tree.refusals());
-        let rattle = rattle_tree::refusals(&sides.plain);
+        let rattle = tree::refusals(&sides.plain);
         self.agree(format_args!("refusals, {question}"), rattle, refusals);
-        let (state, rattle) = (Some(sides.tree.state()), sides.plain.state.read());
+        let (state, rattle) = (Some(sides.tree.state()), plain::read(&sides.plain.state));
         self.agree(format_args!("queues, {question}"), rattle, state);
         let (kept, rattle) = (sides.tree.disciplines(), sides.plain.disciplines);
         self.agree(format_args!("kept, {question}"), rattle, kept);
@@ -921,32 +922,36 @@ impl Comparison {
 
     /// Every call on an ill formed tree is answered by 18, whatever else is at
     /// fault, and alters nothing; so do rounds of calls.
-    fn refuses_all(&mut self, before: &PlainTree, push: &Request, kind: &str) {
-        let eighteen = PlainAmount {
+    fn refuses_all(&mut self, before: &linduvar::Tree, push: &Request, kind: &str) {
+        let eighteen = linduvar::Amount {
             refusal: 18,
             value: 0,
         };
         for (call, rattle) in [
-            ("held", rattle_tree::held(before)),
-            ("refusals", rattle_tree::refusals(before)),
+            ("held", tree::held(before)),
+            ("refusals", tree::refusals(before)),
         ] {
             self.agree(format_args!("{call}: {kind}"), rattle, eighteen);
             self.meet(call, 18);
         }
         for request in [push, &Request::Pop] {
             let rattle = request.by_rattle(before);
-            let same = rattle.tree == before.rewritten();
+            let same = rattle.tree == plain_tree::rewritten(before);
             let answer = (rattle.refusal, rattle.value, same);
             self.agree(format_args!("{request:?}: {kind}"), answer, (18, 0, true));
             self.meet(request.name(), 18);
         }
-        let path = PlainPath::write(&[], 0);
+        let path = linduvar::Path::new(&[], 0);
         for after_rounds in [
-            rattle_tree::rounds(before, 0, 0, 0, 1),
-            rattle_tree::path_rounds(before, &path, 1),
+            rounds::to_leaf(before, 0, 0, 0, 1),
+            rounds::by_path(before, &path, 1),
         ] {
             let question = format_args!("is it as before after a round: {kind}");
-            self.agree(question, after_rounds == before.rewritten(), true);
+            self.agree(
+                question,
+                after_rounds == plain_tree::rewritten(before),
+                true,
+            );
         }
     }
 
@@ -976,11 +981,11 @@ impl Comparison {
 }
 
 /// A tree in plain numbers, read only when a difference is printed.
-struct Earlier<'a>(&'a PlainTree);
+struct Earlier<'a>(&'a linduvar::Tree);
 
 impl fmt::Debug for Earlier<'_> {
     fn fmt(&self, to: &mut fmt::Formatter) -> fmt::Result {
-        let PlainTree { state, disciplines } = self.0;
-        write!(to, "{:?} with {disciplines:?}", state.read())
+        let linduvar::Tree { state, disciplines } = self.0;
+        write!(to, "{:?} with {disciplines:?}", plain::read(state))
     }
 }

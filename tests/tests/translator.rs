@@ -1,13 +1,12 @@
 //! Puts the same pairs, maps and paths to the Rattle library and to the second
 //! implementation. The first difference ends the run.
 
+use linduvar::{maps, MAX_STEPS};
 use linduvar_tests::embedding::{self, read_pair};
 use linduvar_tests::generate::{self, all_trees, chain};
 use linduvar_tests::pairs::{self, damaged_map, Drawn};
-use linduvar_tests::plain::{PlainCarried, PlainPath, PlainStep, MOST_STEPS};
 use linduvar_tests::queue_tree::Step;
 use linduvar_tests::random::{seeded, Random};
-use linduvar_tests::rattle_translator;
 use linduvar_tests::reduced::PASSED_OVER;
 use linduvar_tests::states::{any_path, noise_behind, Habits, PATHS};
 use linduvar_tests::topology::{Topology, MOST_STEPS_DOWN, SOURCE_NODES, TARGET_NODES};
@@ -161,48 +160,45 @@ fn examples(seed: u64) {
     println!("examples: as worked by hand");
 }
 
-fn plain_path(steps: &[(u8, u32)]) -> PlainPath {
+fn plain_path(steps: &[(u8, u32)]) -> linduvar::Path {
     let steps: Vec<Step> = steps
         .iter()
         .map(|&(child, rank)| Step { child, rank })
         .collect();
-    PlainPath::write(&steps, 1_000_000_007)
+    linduvar::Path::new(&steps, 1_000_000_007)
 }
 
 /// All that comes back: a carried path has zeros past its last step, and a
 /// refused one is as it came. A count above nine reads as nine.
 fn whole_paths() {
     let (source, target, map) = (&[2, 0, 0], &[2, 1, 0, 0], &[0, 2, 3]);
-    let path = |count: usize| PlainPath {
-        steps: [1, 2, 3, 4, 5, 6, 7, 8, 9].map(|at| PlainStep {
+    let path = |count: usize| linduvar::Path {
+        steps: [1, 2, 3, 4, 5, 6, 7, 8, 9].map(|at| Step {
             child: at,
             rank: 100 + u32::from(at),
         }),
         count,
         leaf_rank: 77,
     };
-    let mut steps = [PlainStep { child: 0, rank: 0 }; MOST_STEPS];
-    steps[..2].fill(PlainStep {
+    let mut steps = [Step { child: 0, rank: 0 }; MAX_STEPS];
+    steps[..2].fill(Step {
         child: 1,
         rank: 101,
     });
-    let carried = PlainCarried {
-        path: PlainPath {
+    let carried = linduvar::Carried {
+        path: linduvar::Path {
             steps,
             count: 2,
             leaf_rank: 77,
         },
         refusal: 0,
     };
-    assert_eq!(
-        rattle_translator::carry(source, target, map, &path(1)),
-        carried
-    );
+    assert_eq!(maps::carry(source, target, map, &path(1)), carried);
 
     let refused = |map: &[u8], count: usize, refusal: u8| {
         let path = path(count);
-        let answer = rattle_translator::carry(source, target, map, &path);
-        assert_eq!(answer, PlainCarried { path, refusal });
+        let answer = maps::carry(source, target, map, &path);
+        assert_eq!(answer, linduvar::Carried { path, refusal });
     };
     refused(map, 0, 14);
     for count in [2, 8, 9, 10, 256, 257, 1 << 32, (1 << 32) + 1, usize::MAX] {
@@ -220,9 +216,9 @@ fn long_strings() {
     const LENGTH: usize = 1_000_000;
     let (ones, zeros) = (vec![1; LENGTH], vec![0; LENGTH]);
     let refused = |source: &[u8], target: &[u8], map: &[u8], refusal: u8| {
-        let path = PlainPath::write(&[], 7);
-        let answer = rattle_translator::carry(source, target, map, &path);
-        assert_eq!(answer, PlainCarried { path, refusal });
+        let path = linduvar::Path::new(&[], 7);
+        let answer = maps::carry(source, target, map, &path);
+        assert_eq!(answer, linduvar::Carried { path, refusal });
     };
     refused(&ones, &zeros, &zeros, 5);
     refused(&[0], &zeros, &zeros, 2);
@@ -242,7 +238,7 @@ fn every_chain(seed: u64) {
                 let path = plain_path(&vec![(1, 5); steps]);
                 let carried = comparison.carry(&chain(nodes), &target, &map, &path);
                 if carried.refusal == 0 {
-                    assert!(carried.path.read().iter().all(|step| step.rank == 0));
+                    assert!(carried.path.steps().iter().all(|step| step.rank == 0));
                 }
             }
         }
@@ -346,9 +342,9 @@ impl Comparison {
         source: &[u8],
         target: &[u8],
         map: &[u8],
-        path: &PlainPath,
-    ) -> PlainCarried {
-        let rattle = rattle_translator::carry(source, target, map, path);
+        path: &linduvar::Path,
+    ) -> linduvar::Carried {
+        let rattle = maps::carry(source, target, map, path);
         let rust = by_rust(source, target, map, path);
         if rattle != rust {
             panic!(
@@ -361,7 +357,7 @@ impl Comparison {
         rust
     }
 
-    fn count(&mut self, source: &[u8], path: &PlainPath, carried: &PlainCarried) {
+    fn count(&mut self, source: &[u8], path: &linduvar::Path, carried: &linduvar::Carried) {
         self.paths += 1;
         let of = match carried.refusal {
             1..=5 if Topology::read(source, SOURCE_NODES).is_ok() => "target",
@@ -386,7 +382,7 @@ impl Comparison {
         let met = [
             carried.refusal == 0 && noise,
             carried.refusal != 0 && noise,
-            carried.refusal == 13 && path.count > MOST_STEPS,
+            carried.refusal == 13 && path.count > MAX_STEPS,
             carried.refusal == 0 && passing,
             carried.refusal == 0 && lone_leaf && length > 0,
             [13, 14].contains(&carried.refusal) && passing,
@@ -440,7 +436,7 @@ fn require<K: Ord + fmt::Debug>(what: &str, counts: &BTreeMap<K, usize>, key: K)
 
 /// A path for a source, mostly a right one and half of them with noise behind
 /// the steps, and its kind and answer in `PATHS`.
-fn path(source: &[u8], random: &mut Random) -> (PlainPath, &'static str, u8) {
+fn path(source: &[u8], random: &mut Random) -> (linduvar::Path, &'static str, u8) {
     let habits = Habits::any(random);
     let (mut path, kind, answer) = any_path(source, &habits, random);
     if random.one_in(2) {
@@ -450,17 +446,17 @@ fn path(source: &[u8], random: &mut Random) -> (PlainPath, &'static str, u8) {
 }
 
 /// All that comes back, by the second implementation.
-fn by_rust(source: &[u8], target: &[u8], map: &[u8], path: &PlainPath) -> PlainCarried {
+fn by_rust(source: &[u8], target: &[u8], map: &[u8], path: &linduvar::Path) -> linduvar::Carried {
     let whole = Path {
-        steps: path.read(),
+        steps: path.steps().to_vec(),
         leaf_rank: path.leaf_rank,
     };
     match translator::carry(source, target, map, &whole) {
-        Ok(carried) => PlainCarried {
-            path: PlainPath::write(&carried.steps, carried.leaf_rank),
+        Ok(carried) => linduvar::Carried {
+            path: linduvar::Path::new(&carried.steps, carried.leaf_rank),
             refusal: 0,
         },
-        Err(refusal) => PlainCarried {
+        Err(refusal) => linduvar::Carried {
             path: *path,
             refusal,
         },

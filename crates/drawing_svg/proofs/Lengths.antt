@@ -18,6 +18,7 @@ use Rattle.text_templates.specs.Template.{bytes, filled}
 use Rattle.text_templates.proofs.Lengths.{filled-most}
 use Rattle.topology.specs.Tree.{size}
 use Rattle.topology.specs.Reader.{fault, tree}
+use Rattle.topology.specs.Branch.{branchEnd}
 use Rattle.topology.proofs.Lookup.{valid-length, valid-size}
 use Rattle.topology_reduction.specs.Reduced.{passedOver}
 use Rattle.topology_places.specs.Places.{depth, parent, childNumber, trunkFrom}
@@ -30,6 +31,10 @@ use Rattle.embedding_model.specs.Least.{searchMap}
 use Rattle.embedding_search.specs.Outcomes.{outcome}
 use Rattle.embedding_search.specs.declared.Outcome.{Outcome}
 use Rattle.embedding_search.specs.declared.Outcome.the-variants.{Map, NoMap, Refused as AtFault}
+use Rattle.embedding_diagnosis.specs.Diagnosis.{diagnosis}
+use Rattle.embedding_diagnosis.specs.declared.Diagnosis.{Diagnosis}
+use Rattle.embedding_diagnosis.specs.declared.Diagnosis.the-variants.{Loads, Refused as TreeFault, TooDeep, TooManyLeaves, NotTogether}
+use Rattle.embedding_diagnosis.proofs.Lacks.{Small, diagnosis-small}
 use Rattle.pair_state.specs.Opening.{bothFault}
 use Rattle.embedding_search.proofs.FoundSimulated.{faultless, images-pass}
 use Rattle.pair_state.proofs.Truncated.{both-found}
@@ -38,9 +43,9 @@ use Rattle.script_setup.specs.Gathering.{gathered}
 use Rattle.script_setup.proofs.Endings.{Inside, ends-inside}
 use Rattle.script_setup.specs.declared.Ending.{Ending}
 use Rattle.script_setup.specs.declared.Ending.the-variants.{End, Refused, Compile}
-use Rattle.drawing_svg.specs.Elements.{row, opening, head, edge, numbered, mark, join, legend, note, noteEnd, faultStart, faultLead, faultWords, faultText}
+use Rattle.drawing_svg.specs.Elements.{row, opening, head, edge, numbered, mark, join, legend, note, noteEnd, faultStart, faultLead, faultWords, faultText, depthText, leavesText, roomText}
 use Rattle.drawing_svg.specs.Sheet.{column, each, edgeOf, className, leftOf, labelOf, roleIn, nodeOf, treeOf, joinOf, joinsOf, pairOf}
-use Rattle.drawing_svg.specs.Sheet.{foot, refusedEnd, refusal, sideName, faultNote, faultOf, faultSheet, refusedSheet, nothing, sheet, limitIn, sheetBy, scriptSheet}
+use Rattle.drawing_svg.specs.Sheet.{foot, refusedEnd, refusal, sideName, faultNote, faultOf, faultSheet, markedOf, misfitSheet, refusedSheet, nothing, sheet, limitIn, sheetBy, scriptSheet}
 use Rattle.drawing_svg.proofs.Sheet.{unmapped-trees, sheet-mapped, sheet-refused}
 
 -- ---- the elements at their largest numbers
@@ -100,9 +105,12 @@ record Largest : Type 0 where
   text-5 : length (filled (bytes " lies 9 steps down") (64 ∷ []) 0) ≡ 18
   lead-tree : length (filled (bytes ": the ") (64 ∷ []) 0) ≡ 6
   lead-node : length (filled (bytes ": node # of the ") (64 ∷ []) 0) ≡ 17
+  depth-is : length (depthText 32 32 64) ≡ 51
+  leaves-is : length (leavesText 32 32 64) ≡ 79
+  room-is : length (roomText 32) ≡ 52
 
 largest : Largest
-unfolding opening edge numbered join note filled decimal decimalLast
+unfolding opening edge numbered join note depthText leavesText roomText filled decimal decimalLast
 largest =
     record {
       opening-is = refl;
@@ -120,6 +128,9 @@ largest =
       text-5 = refl;
       lead-tree = refl;
       lead-node = refl;
+      depth-is = refl;
+      leaves-is = refl;
+      room-is = refl;
     }
 
 legend-most : (rows : ℕ) → rows ≤ 65 → length (legend rows) ≤ 558
@@ -391,6 +402,60 @@ fault-sheet-length source target number offset small h = by-test (eqb (fault 32 
               (part-length false 32 source number offset (omega arith) small h)),
         )
 
+-- ---- a pair without a map
+
+three-most : (template : List ℕ) (node needed there : ℕ) → node ≤ 32 → needed ≤ 32 → there ≤ 64
+    → length (filled template (node ∷ needed ∷ there ∷ []) 0) ≤ length (filled template (32 ∷ 32 ∷ 64 ∷ []) 0)
+three-most template node needed there a b c = filled-most template (node ∷ needed ∷ there ∷ []) (32 ∷ 32 ∷ 64 ∷ []) (a, (b, (c, tt))) 0
+
+depth-length : (node needed there : ℕ) → node ≤ 32 → needed ≤ 32 → there ≤ 64 → length (depthText node needed there) ≤ length (depthText 32 32 64)
+unfolding depthText
+depth-length node needed there a b c = three-most _ node needed there a b c
+
+leaves-length : (node needed there : ℕ) → node ≤ 32 → needed ≤ 32 → there ≤ 64 → length (leavesText node needed there) ≤ length (leavesText 32 32 64)
+unfolding leavesText
+leaves-length node needed there a b c = three-most _ node needed there a b c
+
+room-length : (node : ℕ) → node ≤ 32 → length (roomText node) ≤ length (roomText 32)
+unfolding roomText
+room-length node a = filled-most _ (node ∷ []) (32 ∷ []) (a, tt) 0
+
+module _ (source target : List ℕ) (number offset : ℕ) (s : length source ≤ 32) (t : length target ≤ 64) (n : number ≤ 22) (h : offset < 65536) where
+  -- the two trees, and 44 bytes for the start of the note
+  marked-length : (node : ℕ) → length (markedOf source target node number offset) ≤ 18908
+  unfolding markedOf
+  marked-length node =
+      let pair = pairOf source target [] node (branchEnd source node) in
+      omega (
+        arith,
+        length-append pair (note number offset),
+        pair-length source target [] (omega (arith, s)) (omega (arith, t)) (omega arith) (λ a l m. absurd (not-suc-le-zero l)) node (branchEnd source node),
+        note-most number offset n (omega arith),
+        largest .note-is,
+      )
+
+  reason-length : (node : ℕ) (text : List ℕ) → length text ≤ 79
+      → length (markedOf source target node number offset ++ (text ++ noteEnd)) ≤ 19002
+  reason-length node text g =
+      omega (
+        arith,
+        length-append (markedOf source target node number offset) (text ++ noteEnd),
+        length-append text noteEnd,
+        marked-length node,
+      )
+
+  misfit-length : (d : Diagnosis) → Small (length source) (length target) d → length (misfitSheet d source target number offset) ≤ 19002
+  misfit-length Loads small = omega (arith, refusal-length number offset n h)
+  misfit-length (TreeFault f) small = omega (arith, refusal-length number offset n h)
+  misfit-length (TooDeep node needed there) small =
+      let text = depth-length node needed there (omega (arith, small, s)) (omega (arith, small, s)) (omega (arith, small, t)) in
+      reason-length node (depthText node needed there) (omega (arith, text, largest .depth-is))
+  misfit-length (TooManyLeaves node needed there) small =
+      let text = leaves-length node needed there (omega (arith, small, s)) (omega (arith, small, s)) (omega (arith, small, t)) in
+      reason-length node (leavesText node needed there) (omega (arith, text, largest .leaves-is))
+  misfit-length (NotTogether node) small =
+      reason-length node (roomText node) (omega (arith, room-length node (omega (arith, small, s)), largest .room-is))
+
 nothing-length : length nothing ≤ 793
 unfolding nothing
 nothing-length = rw length-append (omega (arith, head-length 0 (omega arith)))
@@ -417,16 +482,12 @@ module _ (source target : List ℕ) (limit offset : ℕ) (h : offset < 65536) wh
       )
 
   unmapped-length : (number : ℕ) → number ≤ 22 → outcome source target ≡ NoMap
-      → length (pairOf source target [] 0 0 ++ refusedEnd number offset) ≤ 23735
+      → length (misfitSheet (diagnosis source target) source target number offset) ≤ 23735
   unmapped-length number n q =
       let fine = unmapped-trees source target q in
-      omega (
-        arith,
-        length-append (pairOf source target [] 0 0) (refusedEnd number offset),
-        pair-length source target [] (omega (arith, valid-length 32 source (fine .0))) (omega (arith, valid-length 64 target (fine .1))) (omega arith)
-            (λ a l n. absurd (not-suc-le-zero l)) 0 0,
-        refused-length number offset n h,
-      )
+      let s = valid-length 32 source (fine .0) in
+      let t = valid-length 64 target (fine .1) in
+      omega (arith, misfit-length source target number offset s t n h (diagnosis source target) (diagnosis-small source target))
 
   sheet-length : length (sheet source target limit offset) ≤ 23735
   sheet-length = by-number (bothFault source target limit) refl

@@ -1,5 +1,5 @@
 -- Which sheet an 04 gets, by the number that refuses it and by the outcome of the search; and that the trees that are drawn are small.
-use mathlib.Core.Path.{_≡_, refl, sym, _∙_}
+use mathlib.Core.Path.{_≡_, refl, sym, ap, _∙_}
 use mathlib.Core.Logic.{_≢_}
 use Prim.Native.Nat.{ℕ, zero, suc, _≤_}
 use native.Mathlib.Omega.{arith}
@@ -20,13 +20,15 @@ use Rattle.embedding_search.specs.declared.Outcome.{Outcome}
 use Rattle.embedding_search.specs.declared.Outcome.the-variants.{Map, NoMap, Refused as AtFault}
 use Rattle.pair_state.specs.Opening.{bothFault}
 use Rattle.pair_state.proofs.Truncated.{outcome-kept, both-kept, both-trees, both-whole}
+use Rattle.embedding_diagnosis.specs.Diagnosis.{diagnosis}
+use Rattle.embedding_diagnosis.specs.declared.Diagnosis.{Diagnosis}
 use Rattle.script_setup.specs.Gathering.{gathered, limitOf, Draws}
 use Rattle.script_setup.specs.declared.Drawing.{Drawing}
 use Rattle.script_setup.specs.declared.Ending.{Ending}
 use Rattle.script_setup.specs.declared.Ending.the-variants.{End, Refused, Compile}
 use Rattle.script_setup.proofs.WithLimit.{limited}
 use Rattle.drawing_svg.proofs.FaultCases.{fault-kept}
-use Rattle.drawing_svg.specs.Sheet.{pairOf, foot, refusal, refusedSheet, nothing, sheet, limitIn, sheetBy, scriptSheet}
+use Rattle.drawing_svg.specs.Sheet.{pairOf, foot, refusal, misfitSheet, refusedSheet, nothing, sheet, limitIn, sheetBy, scriptSheet}
 
 -- the lengths of trees that are drawn
 pub record Small (source target : List ℕ) : Type 0 where
@@ -61,6 +63,11 @@ module _ (source target : List ℕ) (limit number : ℕ) (e : number ≡ bothFau
       → refusedSheet o source target number offset ≡ sheet source target limit offset
   unfolding sheet
   sheet-refused offset n o q = rw (ne-eqb (bothFault source target limit) 0 (λ z. n (e ∙ z)), q, e) refl
+
+-- without a map the sheet is that of the case of the diagnosis
+pub misfit-is : (source target : List ℕ) (number offset : ℕ) (r d : Diagnosis) → r ≡ diagnosis source target → r ≡ d
+    → misfitSheet d source target number offset ≡ misfitSheet (diagnosis source target) source target number offset
+misfit-is source target number offset r d e q = ap (λ (x : Diagnosis). misfitSheet x source target number offset) (sym q ∙ e)
 
 -- The drawings as they are kept give the same sheet as the whole ones: a drawing that is
 -- drawn whole is kept whole, a drawing at fault is drawn as far as it was read, and a refusal has the same number.

@@ -83,3 +83,14 @@ faultLead number node = filled (faultStart number) (node ∷ []) 0
 
 unfoldable pub faultText : ℕ → ℕ → List ℕ
 faultText number node = filled (faultWords number) (node ∷ []) 0
+
+-- What the branch under a node lacks that fits nowhere on the chip: depth for a leaf, leaves, or room for the branches below it.
+unfoldable pub depthText : ℕ → ℕ → ℕ → List ℕ
+depthText node needed there = filled (bytes ": node # needs # levels above it, the chip has #") (node ∷ needed ∷ there ∷ []) 0
+
+unfoldable pub leavesText : ℕ → ℕ → ℕ → List ℕ
+leavesText node needed there =
+    filled (bytes ": the branch of node # has # leaves, a chip branch where it may go at most #") (node ∷ needed ∷ there ∷ []) 0
+
+unfoldable pub roomText : ℕ → List ℕ
+roomText node = filled (bytes ": the branches below node # do not fit side by side") (node ∷ []) 0

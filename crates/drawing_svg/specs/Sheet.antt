@@ -7,6 +7,7 @@ use mathlib.Core.Option.{Option, none, some}
 use lib.ListN.{length, getD, take}
 use lib.Dec.{eqb, leb, ltb}
 use Rattle.topology.specs.Reader.{fault}
+use Rattle.topology.specs.Branch.{branchEnd}
 use Rattle.topology_reduction.specs.Reduced.{passedOver}
 use Rattle.embedding_model.specs.Least.{searchMap}
 use Rattle.embedding_search.specs.Outcomes.{outcome}
@@ -17,11 +18,14 @@ use Rattle.topology_places.specs.Places.{depth, parent, childNumber, trunkFrom,
 use Rattle.topology_places.specs.declared.Role.{Role}
 use Rattle.topology_places.specs.declared.Role.the-variants.{Plain, Passed, Image, Between, Unused}
 use Rattle.topology_reading.specs.Accepted.{acceptedBytes}
+use Rattle.embedding_diagnosis.specs.Diagnosis.{diagnosis}
+use Rattle.embedding_diagnosis.specs.declared.Diagnosis.{Diagnosis}
+use Rattle.embedding_diagnosis.specs.declared.Diagnosis.the-variants.{Loads, Refused as TreeFault, TooDeep, TooManyLeaves, NotTogether}
 use Rattle.script_setup.specs.Gathering.{Given, gathered}
 use Rattle.script_setup.specs.declared.Ending.{Ending}
 use Rattle.script_setup.specs.declared.Ending.the-variants.{End, Refused, Compile}
 use Rattle.text_templates.specs.Template.{bytes}
-use Rattle.drawing_svg.specs.Elements.{row, head, edge, mark, join, legend, note, noteEnd, faultLead, faultText}
+use Rattle.drawing_svg.specs.Elements.{row, head, edge, mark, join, legend, note, noteEnd, faultLead, faultText, depthText, leavesText, roomText}
 
 -- the column of a node in the tree whose root is at `left`
 abbrev pub column : ℕ → List ℕ → ℕ → ℕ
@@ -129,11 +133,25 @@ faultSheet source target number offset =
     let chip = faultOf true 64 target number offset in
     cond (eqb (fault 32 source) 0) chip (faultOf false 32 source number offset)
 
--- The sheet of a refused 04, by the outcome of the search: without a map both trees and the refusal, for a tree at fault that tree, else the refusal
--- alone.
+-- Both trees without a map, with a branch of the source marked, and the start of the note.
+unfoldable pub markedOf : List ℕ → List ℕ → ℕ → ℕ → ℕ → List ℕ
+markedOf source target node number offset = pairOf source target [] node (branchEnd source node) ++ note number offset
+
+-- Both trees without a map: the branch that fits nowhere is marked, and the note says what it lacks. The first two cases do not occur without a map.
+abbrev pub misfitSheet : Diagnosis → List ℕ → List ℕ → ℕ → ℕ → List ℕ
+misfitSheet Loads source target number offset = refusal number offset
+misfitSheet (TreeFault n) source target number offset = refusal number offset
+misfitSheet (TooDeep node needed there) source target number offset =
+    markedOf source target node number offset ++ (depthText node needed there ++ noteEnd)
+misfitSheet (TooManyLeaves node needed there) source target number offset =
+    markedOf source target node number offset ++ (leavesText node needed there ++ noteEnd)
+misfitSheet (NotTogether node) source target number offset = markedOf source target node number offset ++ (roomText node ++ noteEnd)
+
+-- The sheet of a refused 04, by the outcome of the search: without a map both trees and why there is none, for a tree at fault that tree, else the
+-- refusal alone.
 abbrev pub refusedSheet : Outcome → List ℕ → List ℕ → ℕ → ℕ → List ℕ
 refusedSheet Map source target number offset = refusal number offset
-refusedSheet NoMap source target number offset = pairOf source target [] 0 0 ++ refusedEnd number offset
+refusedSheet NoMap source target number offset = misfitSheet (diagnosis source target) source target number offset
 refusedSheet (AtFault n) source target number offset = faultSheet source target number offset
 
 -- The sheet of the 04 at `offset`: both trees with the least map, or its refusal.

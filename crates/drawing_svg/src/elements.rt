@@ -4,7 +4,7 @@ use text_templates::put_filled;
 ghost use mathlib.Core.Path.{_≡_};
 ghost use Prim.Native.Nat.{_<_};
 ghost use Rattle.text.specs.Text.{Puts};
-ghost use Rattle.drawing_svg.specs.Elements.{row, head, edge, mark, join, legend, note, faultLead, faultText};
+ghost use Rattle.drawing_svg.specs.Elements.{row, head, edge, mark, join, legend, note, faultLead, faultText, depthText, leavesText, roomText};
 
 // The row of a node.
 pub(crate) fn row_of(node: usize) -> usize
@@ -206,4 +206,52 @@ pub(crate) fn put_fault_text(out: &mut [u8], at: usize, number: u8, node: usize)
         return put_filled(out, at, b" has more than 8 children", &[node]);
     }
     put_filled(out, at, b" lies 9 steps down", &[node])
+}
+
+// What a leaf lacks that fits nowhere on the chip.
+pub(crate) fn put_depth_text(
+    out: &mut [u8],
+    at: usize,
+    node: usize,
+    needed: usize,
+    there: usize,
+) -> usize
+    ensures { λ r. ⌜ Puts (now (out .entry)) at (depthText node needed there) (now (out .exit)) r ⌝ }
+{
+    put_filled(
+        out,
+        at,
+        b": node # needs # levels above it, the chip has #",
+        &[node, needed, there],
+    )
+}
+
+// What a branch lacks that has too many leaves.
+pub(crate) fn put_leaves_text(
+    out: &mut [u8],
+    at: usize,
+    node: usize,
+    needed: usize,
+    there: usize,
+) -> usize
+    ensures { λ r. ⌜ Puts (now (out .entry)) at (leavesText node needed there) (now (out .exit)) r ⌝ }
+{
+    put_filled(
+        out,
+        at,
+        b": the branch of node # has # leaves, a chip branch where it may go at most #",
+        &[node, needed, there],
+    )
+}
+
+// What another branch lacks that fits nowhere.
+pub(crate) fn put_room_text(out: &mut [u8], at: usize, node: usize) -> usize
+    ensures { λ r. ⌜ Puts (now (out .entry)) at (roomText node) (now (out .exit)) r ⌝ }
+{
+    put_filled(
+        out,
+        at,
+        b": the branches below node # do not fit side by side",
+        &[node],
+    )
 }

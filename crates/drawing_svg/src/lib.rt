@@ -2,15 +2,20 @@
 // each node number and a column for each step below the root. On either side `chip` says whether it is the chip's.
 mod elements;
 
+use elements::put_depth_text;
 use elements::put_edge;
 use elements::put_fault_lead;
 use elements::put_fault_text;
 use elements::put_head;
 use elements::put_join;
+use elements::put_leaves_text;
 use elements::put_legend;
 use elements::put_mark;
 use elements::put_note;
+use elements::put_room_text;
 use elements::row_of;
+use embedding_diagnosis::Diagnosis;
+use embedding_diagnosis::why;
 use embedding_search::Outcome;
 use script_setup::Drawing;
 use script_setup::Ending;
@@ -18,6 +23,7 @@ use text::put_word;
 use topology::Reading;
 use topology::read;
 use topology::wide;
+use topology_branches::branch_end;
 use topology_places::Role;
 use topology_places::child_number;
 use topology_places::depth;
@@ -33,9 +39,10 @@ ghost use mathlib.Core.Bool.{_&&_};
 ghost use lib.ListN.{length, take};
 ghost use lib.Dec.{leb, ltb};
 ghost use Rattle.text.specs.Text.{Puts};
-ghost use Rattle.drawing_svg.specs.Elements.{mark};
+ghost use Rattle.drawing_svg.specs.Elements.{mark, noteEnd};
 ghost use Rattle.drawing_svg.specs.Sheet.{column, each, edgeOf, className, leftOf, labelOf, roleIn, nodeOf, treeOf, joinOf, joinsOf, pairOf};
-ghost use Rattle.drawing_svg.specs.Sheet.{refusedEnd, refusal, nothing, sideName, faultNote, faultOf, faultSheet, sheet, scriptSheet};
+ghost use Rattle.drawing_svg.specs.Sheet.{refusedEnd, refusal, nothing, sideName, faultNote, faultOf, faultSheet, markedOf, misfitSheet, sheet, scriptSheet};
+ghost use Rattle.embedding_diagnosis.specs.Diagnosis.{diagnosis};
 
 // Where a node's column is in the tree whose root is at `left`.
 fn column_of(left: usize, bytes: &[u8], node: usize) -> usize
@@ -264,12 +271,19 @@ fn put_pair(
     put_legend(out, right, rows)
 }
 
+// The end of a note and of the sheet.
+fn put_note_end(out: &mut [u8], at: usize) -> usize
+    ensures { λ r. ⌜ Puts (now (out .entry)) at noteEnd (now (out .exit)) r ⌝ }
+{
+    put_word(out, at, b"</text>\n</svg>\n")
+}
+
 // The end of a sheet, with a refusal before it.
 fn put_refused(out: &mut [u8], at: usize, number: u8, offset: usize) -> usize
     ensures { λ r. ⌜ Puts (now (out .entry)) at (refusedEnd number offset) (now (out .exit)) r ⌝ }
 {
     let note = put_note(out, at, number as usize, offset);
-    put_word(out, note, b"</text>\n</svg>\n")
+    put_note_end(out, note)
 }
 
 // A refusal alone: its number, and the offset of the command refused.
@@ -317,7 +331,7 @@ fn put_fault_note(
     let lead = put_fault_lead(out, note, number, node);
     let side = put_side(out, lead, chip);
     let text = put_fault_text(out, side, number, node);
-    put_word(out, text, b"</text>\n</svg>\n")
+    put_note_end(out, text)
 }
 
 // A tree at fault, as far as it was read, with the byte at fault marked, and the refusal in words.
@@ -358,8 +372,59 @@ fn draw_fault(
     }
 }
 
+// Both trees without a map, with the branch under a node of the source marked, and the start of the note.
+fn put_marked(
+    out: &mut [u8],
+    at: usize,
+    source: &[u8],
+    target: &[u8],
+    node: usize,
+    number: u8,
+    offset: usize,
+) -> usize
+    requires { ⌜ (length (now source) ≤ 65) × (length (now target) ≤ 65) ⌝ }
+    ensures { λ r. ⌜ Puts (now (out .entry)) at (markedOf (now (source .entry)) (now (target .entry)) node number offset) (now (out .exit)) r ⌝ }
+{
+    let end = branch_end(source, node);
+    let pair = put_pair(out, at, source, target, &source[..0], node, end);
+    put_note(out, pair, number as usize, offset)
+}
+
+// The sheet of a pair without a map: both trees, the branch that fits nowhere marked, and what it lacks.
+fn draw_misfit(
+    source: &[u8],
+    target: &[u8],
+    number: u8,
+    offset: usize,
+    out: &mut [u8],
+    at: usize,
+) -> usize
+    requires { ⌜ (length (now source) ≤ 65) × (length (now target) ≤ 65) ⌝ }
+    ensures { λ r. ⌜ Puts (now (out .entry)) at (misfitSheet (diagnosis (now (source .entry)) (now (target .entry))) (now (source .entry)) (now (target .entry)) number offset) (now (out .exit)) r ⌝ }
+{
+    match why(source, target) {
+        Diagnosis::Loads => draw_refusal(number, offset, out, at),
+        Diagnosis::Refused(_) => draw_refusal(number, offset, out, at),
+        Diagnosis::TooDeep(node, needed, there) => {
+            let marked = put_marked(out, at, source, target, node, number, offset);
+            let text = put_depth_text(out, marked, node, needed, there);
+            put_note_end(out, text)
+        }
+        Diagnosis::TooManyLeaves(node, needed, there) => {
+            let marked = put_marked(out, at, source, target, node, number, offset);
+            let text = put_leaves_text(out, marked, node, needed, there);
+            put_note_end(out, text)
+        }
+        Diagnosis::NotTogether(node) => {
+            let marked = put_marked(out, at, source, target, node, number, offset);
+            let text = put_room_text(out, marked, node);
+            put_note_end(out, text)
+        }
+    }
+}
+
 // The sheet of an 04 at `offset`, for a source and a target with a packet limit: both trees with the least map between them; without a map the trees
-// and the refusal; for a tree at fault that tree and the refusal; for any other refusal that alone.
+// and why there is none; for a tree at fault that tree and the refusal; for any other refusal that alone.
 fn draw(
     source: &[u8],
     target: &[u8],
@@ -381,10 +446,7 @@ fn draw(
     let outcome = both.outcome;
     match outcome {
         Outcome::Map => draw_refusal(number, offset, out, at),
-        Outcome::NoMap => {
-            let pair = put_pair(out, at, source, target, &source[..0], 0, 0);
-            put_refused(out, pair, number, offset)
-        }
+        Outcome::NoMap => draw_misfit(source, target, number, offset, out, at),
         Outcome::Refused(_) => draw_fault(source, target, number, offset, out, at),
     }
 }

@@ -44,9 +44,9 @@ meets-tests s t m e =
       r4 = and-parts (rule3 s t n m) x4 e3 .1;
     }
 
-pub tests-obeys : (s t m : List ℕ) → RulesMet s t m → meetsRules s t m ≡ true
+pub tests-meet : (s t m : List ℕ) → RulesMet s t m → meetsRules s t m ≡ true
 unfolding meetsRules
-tests-obeys s t m r = rw (r .nodes, r .r1, r .r2, r .r3, r .r4)
+tests-meet s t m r = rw (r .nodes, r .r1, r .r2, r .r3, r .r4)
 
 module _ (s t f r : List ℕ) where
   shorter : length f ≤ length (f ++ r)
@@ -90,7 +90,7 @@ front-2 s (x ∷ f) r e = e
 pub front-meets : (s t f r : List ℕ) → meetsRules s t (f ++ r) ≡ true → meetsRules s t f ≡ true
 front-meets s t f r e =
     let w = meets-tests s t (f ++ r) e in
-    tests-obeys s t f (record {
+    tests-meet s t f (record {
       nodes = front-nodes s t f r (w .nodes);
       r1 = front-1 s t f r (w .r1);
       r2 = front-2 s f r (w .r2);
@@ -114,7 +114,7 @@ module _ (S T : Topo) (m : List ℕ) where
   pub embeds-meets : Embeds S T m → meetsRules (code S) (code T) m ≡ true
   embeds-meets p =
       let l = p .long in
-      tests-obeys (code S) (code T) m (record {
+      tests-meet (code S) (code T) m (record {
         nodes = rw l (nodes-to S T m (p .within));
         r1 = rw l (once-to S T m (p .once));
         r2 = root-to S T m (p .root);

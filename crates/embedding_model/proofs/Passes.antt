@@ -38,7 +38,7 @@ width-reduced (node ts) n = width-joined (reducedAll ts) (λ e. n (sym (same ts)
 
 -- the top node has the number 0
 mutual
-  top-place : (t : Topo) → place (code t) (num t (descent t)) ≡ 0
+  pub top-place : (t : Topo) → place (code t) (num t (descent t)) ≡ 0
   top-place (node ts) = top-places ts
 
   top-places : (ts : Forest) → place (count ts ∷ codes ts) (num (node ts) (descentIn ts)) ≡ 0

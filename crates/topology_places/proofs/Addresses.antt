@@ -30,7 +30,7 @@ use Rattle.topology.proofs.Reader.{drawn, within}
 use Rattle.topology_places.specs.Places.{counted, depth, parent, childNumber}
 use Rattle.topology_places.proofs.Passes.{counted-same, counted-still, counted-next, last-is}
 
-same-answer : (b c : Bool) → (b ≡ true → c ≡ true) → (c ≡ true → b ≡ true) → b ≡ c
+pub same-answer : (b c : Bool) → (b ≡ true → c ≡ true) → (c ≡ true → b ≡ true) → b ≡ c
 same-answer true c f g = sym (f refl)
 same-answer false true f g = g refl
 same-answer false false f g = refl
@@ -90,7 +90,7 @@ module _ (t : Topo) where
         ∙ add-one (counted test (p .node))
         ∙ ap suc (counted-same test upper (p .node) alike)
 
-  depth-code : (k : ℕ) → k < size t → depth (code t) k ≡ length (addr t k)
+  pub depth-code : (k : ℕ) → k < size t → depth (code t) k ≡ length (addr t k)
   unfolding depth
   depth-code k h = upTo (suc k) k (omega arith) h
     where

@@ -62,7 +62,7 @@ counted-most test (suc n) = by-test (test n) (counted-most test n)
     by-test true h = omega arith
     by-test false h = omega arith
 
-last-most : (test : ℕ → Bool) (n : ℕ) → lastOf test n ≤ n
+pub last-most : (test : ℕ → Bool) (n : ℕ) → lastOf test n ≤ n
 last-most test zero = omega arith
 last-most test (suc n) = by-test (test n) (last-most test n)
   where

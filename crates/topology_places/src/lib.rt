@@ -18,7 +18,7 @@ pub enum Role {
 }
 
 // 1 for a test that holds, else 0.
-fn one_if(test: bool) -> usize
+pub fn one_if(test: bool) -> usize
     ensures { λ r. ⌜ (r ≡ cond test 1 0) × (r ≤ 1) ⌝ }
 {
     if test { 1 } else { 0 }

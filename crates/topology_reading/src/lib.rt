@@ -1,9 +1,8 @@
 // How far a topology is read before its fault.
 use topology::Reading;
 use topology::read;
+use topology_places::one_if;
 ghost use mathlib.Core.Path.{_≡_};
-ghost use Prim.Native.Nat.{_≤_};
-ghost use mathlib.Core.Bool.{cond};
 ghost use lib.Dec.{leb};
 ghost use Rattle.topology.specs.Reader.{fault};
 ghost use Rattle.topology_reading.specs.Accepted.{acceptedBytes};
@@ -16,13 +15,6 @@ fn is_accepted(bytes: &[u8], limit: usize) -> bool
         Reading::Tree => true,
         Reading::Refused(number) => number <= 1,
     }
-}
-
-// 1 for a test that holds, else 0.
-fn one_if(test: bool) -> usize
-    ensures { λ r. ⌜ (r ≡ cond test 1 0) × (r ≤ 1) ⌝ }
-{
-    if test { 1 } else { 0 }
 }
 
 // How many bytes of a topology of at most `limit` nodes are accepted.

@@ -17,11 +17,8 @@ put-side-requires c κs = search needs
 put-fault-text-requires : tie.Need-put-fault-text-requires
 put-fault-text-requires c κs = search needs
 
-slice-aggregate-put-word : tie.Need-slice-aggregate-put-word
-slice-aggregate-put-word c = search needs
-
-put-word-requires : tie.Need-put-word-requires
-put-word-requires c κs = search needs
+put-note-end-requires : tie.Need-put-note-end-requires
+put-note-end-requires c κs = search needs
 
 same-length : tie.Need-same-length
 same-length c = search needs
@@ -30,13 +27,13 @@ returns : tie.Need-returns
 unfolding faultNote
 returns c =
     let end = c .before .before in
-    let text = end .before .before .before .before .before in
+    let text = end .before .before .before .before in
     let side = text .before .before .before .before in
     let lead = side .before .before .before .before in
     let start = lead .before .before .before .before in
     puts-then (start .put-note .ensures)
     (puts-then (lead .put-fault-lead .ensures)
-    (puts-then (side .put-side .ensures) (puts-then (text .put-fault-text .ensures) (end .put-word .ensures))))
+    (puts-then (side .put-side .ensures) (puts-then (text .put-fault-text .ensures) (end .put-note-end .ensures))))
 
 pub put-fault-note-spec : {M : Type 1} → statement M
 put-fault-note-spec =
@@ -46,7 +43,6 @@ put-fault-note-spec =
     put-fault-lead-requires
     put-side-requires
     put-fault-text-requires
-    slice-aggregate-put-word
-    put-word-requires
+    put-note-end-requires
     same-length
     returns)

@@ -1,10 +1,12 @@
 //! The search and the check, on pairs of several kinds.
 
+use linduvar::maps;
+use linduvar_tests::embedding;
 use linduvar_tests::generate::chain;
+use linduvar_tests::laborious;
 use linduvar_tests::pairs;
 use linduvar_tests::random::Random;
 use linduvar_tests::topology::{SOURCE_NODES, TARGET_NODES};
-use linduvar_tests::{embedding, rattle_embedding};
 use std::hint::black_box;
 
 const PAIRS: usize = 200;
@@ -52,8 +54,7 @@ pub fn run(random: &mut Random) {
     let fork = [vec![7], fan(8).repeat(5), fan(4), vec![0]].concat();
     let forks = [vec![2; 6], fork, vec![0; 6]].concat();
     search("stars, forks", &[(stars, forks)]);
-    let source = [vec![8], fan(8), fan(8), fan(7), vec![0; 5]].concat();
-    let few = [vec![8], fan(7).repeat(6), fan(8), vec![1; 5], vec![0]].concat();
+    let (source, few) = laborious::hard_pair();
     let enough = [vec![8], fan(7).repeat(5), fan(8), vec![0, 1], fan(8)].concat();
     search("fans, none", &[(source.clone(), few)]);
     search("fans, a map", &[(source, enough)]);
@@ -81,7 +82,7 @@ fn fan(children: usize) -> Vec<u8> {
 fn search(kind: &str, pairs: &[Pair]) {
     let rattle_search = |source: &[u8], target: &[u8]| {
         let mut map = [0; SOURCE_NODES];
-        let answer = rattle_embedding::search(source, target, &mut map);
+        let answer = maps::search(source, target, &mut map);
         (answer, map)
     };
     let mut found = 0;
@@ -116,7 +117,7 @@ fn check(kind: &str, pairs: &[Pair]) {
     };
     report(
         &format!("check, {kind}"),
-        time(rattle_embedding::check),
+        time(maps::check),
         time(embedding::check),
     );
 }

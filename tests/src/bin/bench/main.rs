@@ -1,6 +1,8 @@
 //! Times the Rattle library beside Rust, and counts its copies and its stack.
 
+mod calls;
 mod copies;
+mod diagnosis;
 mod embedding;
 mod queue_tree;
 mod regular;
@@ -25,11 +27,12 @@ fn main() {
     println!("and in brackets the time of Rattle over that of Rust");
     topology::run(&mut random);
     embedding::run(&mut random);
+    diagnosis::run(&mut random);
     regular::run(&mut random);
     queue_tree::run(&mut random);
     scheduler::run();
     translator::run(&mut random);
-    stack::run(&mut random);
+    calls::run(&mut random);
     copies::run();
     whole_scripts::run();
 }

@@ -5,10 +5,11 @@
 //! alone. A state goes in and comes out by value, so that the time of one copy
 //! of a state stands first.
 
-use linduvar_tests::plain::{PlainAnswer, PlainPath, PlainPopped, PlainState};
+use linduvar::queue;
+use linduvar_tests::plain;
 use linduvar_tests::queue_tree::{self, QueueTree, Step, MOST_PACKETS};
 use linduvar_tests::random::Random;
-use linduvar_tests::rattle_queue_tree;
+use linduvar_tests::rounds;
 use std::hint::black_box;
 
 const CHAINS: usize = 4;
@@ -17,7 +18,7 @@ pub const CALLS: u32 = 100;
 pub const ROUNDS: usize = 400;
 const SINGLES: usize = 2_000;
 /// The bytes of a Rattle state, which are as many as those of its plain form.
-pub const STATE: usize = size_of::<PlainState>();
+pub const STATE: usize = size_of::<linduvar::State>();
 
 pub fn run(random: &mut Random) {
     println!("a copy of the {STATE} bytes of a state  {:.1}", copy());
@@ -31,7 +32,10 @@ pub fn run(random: &mut Random) {
                 queue_tree::rounds(&mut tree, [(first, 1), (second, 2)], calls);
                 tree
             };
-            assert_eq!(filled.rounds(CALLS).read(), Some(in_rust(CALLS).state()));
+            assert_eq!(
+                plain::read(&filled.rounds(CALLS)),
+                Some(in_rust(CALLS).state())
+            );
             let rattle = time(|calls| _ = black_box(filled.rounds(calls)));
             let rust = time(|calls| _ = black_box(in_rust(calls)));
             println!(
@@ -57,10 +61,10 @@ pub fn run(random: &mut Random) {
 pub struct Filled {
     tree: QueueTree,
     paths: [Vec<Step>; 2],
-    pub state: PlainState,
+    pub state: linduvar::State,
     /// The same with one packet less.
-    less: PlainState,
-    plain: [PlainPath; 2],
+    less: linduvar::State,
+    plain: [linduvar::Path; 2],
 }
 
 impl Filled {
@@ -85,30 +89,30 @@ impl Filled {
         let mut less = tree.clone();
         less.pop().expect("a packet is held");
         Filled {
-            state: PlainState::write(&tree.state()),
-            less: PlainState::write(&less.state()),
+            state: plain::state(&tree.state()),
+            less: plain::state(&less.state()),
             plain: [
-                PlainPath::write(&paths[0], 1),
-                PlainPath::write(&paths[1], 2),
+                linduvar::Path::new(&paths[0], 1),
+                linduvar::Path::new(&paths[1], 2),
             ],
             tree,
             paths,
         }
     }
 
-    pub fn rounds(&self, rounds: u32) -> PlainState {
+    pub fn rounds(&self, rounds: u32) -> linduvar::State {
         let [first, second] = &self.plain;
-        rattle_queue_tree::rounds(black_box(&self.state), first, second, rounds)
+        rounds::queue(black_box(&self.state), first, second, rounds)
     }
 
     /// A pop that departs.
-    pub fn pop(&self) -> PlainPopped {
-        rattle_queue_tree::pop(black_box(&self.state))
+    pub fn pop(&self) -> linduvar::Popped {
+        queue::pop(black_box(&self.state))
     }
 
     /// A push that is accepted.
-    pub fn push(&self) -> PlainAnswer {
-        rattle_queue_tree::push(black_box(&self.less), &self.plain[0], 0)
+    pub fn push(&self) -> linduvar::Answer {
+        queue::push(black_box(&self.less), &self.plain[0], 0)
     }
 }
 

@@ -1,10 +1,11 @@
 //! The least depth, on drawings of 32 nodes.
 
+use linduvar::maps;
 use linduvar_tests::generate::{self, Shape};
 use linduvar_tests::random::Random;
+use linduvar_tests::regular;
 use linduvar_tests::regular::CHILDREN;
 use linduvar_tests::topology::{MOST_CHILDREN, MOST_STEPS_DOWN, SOURCE_NODES};
-use linduvar_tests::{rattle_embedding, regular};
 use std::hint::black_box;
 
 const DRAWINGS: usize = 200;
@@ -43,7 +44,7 @@ fn depths(kind: &str, drawings: &[Vec<u8>]) {
 
 fn rattle_depth(source: &[u8], d: usize) -> Result<usize, u8> {
     let mut depth = 0;
-    match rattle_embedding::least_depth(source, d, &mut depth) {
+    match maps::least_depth(source, d, &mut depth) {
         0 => Ok(depth),
         refusal => Err(refusal),
     }

@@ -7,10 +7,11 @@
 //! two differ by what the disciplines take.
 
 use crate::queue_tree::{single, time, CALLS, ROUNDS};
-use linduvar_tests::plain::PlainPath;
-use linduvar_tests::plain_tree::{PlainTree, PlainTreeAnswer};
+use linduvar::tree;
+use linduvar_tests::plain;
+use linduvar_tests::plain_tree;
 use linduvar_tests::queue_tree::{Step, MOST_PACKETS};
-use linduvar_tests::rattle_tree;
+use linduvar_tests::rounds;
 use linduvar_tests::scheduler::{self, Rule, Tree, ARRIVAL, WEIGHTED};
 use linduvar_tests::topology::TARGET_NODES;
 use linduvar_tests::translator::Path;
@@ -47,7 +48,7 @@ pub fn run() {
 fn rounds(
     name: &str,
     weighted: &Weighted,
-    rattle: impl Fn(&Weighted, u32) -> PlainTree,
+    rattle: impl Fn(&Weighted, u32) -> linduvar::Tree,
     rust: impl Fn(&mut Tree, u32),
 ) -> f64 {
     let in_rust = |calls: u32| {
@@ -56,7 +57,7 @@ fn rounds(
         tree
     };
     let (after_rounds, expected) = (rattle(weighted, CALLS), in_rust(CALLS));
-    assert_eq!(after_rounds.state.read(), Some(expected.state()));
+    assert_eq!(plain::read(&after_rounds.state), Some(expected.state()));
     assert_eq!(after_rounds.disciplines, expected.disciplines());
     let by_rattle = time(|calls| _ = black_box(rattle(weighted, calls)));
     let by_rust = time(|calls| _ = black_box(in_rust(calls)));
@@ -84,10 +85,10 @@ pub struct Weighted {
     tree: Tree,
     leaf: usize,
     path: Path,
-    pub plain: PlainTree,
+    pub plain: linduvar::Tree,
     /// The same with one packet less.
-    less: PlainTree,
-    plain_path: PlainPath,
+    less: linduvar::Tree,
+    plain_path: linduvar::Path,
 }
 
 impl Weighted {
@@ -120,9 +121,9 @@ impl Weighted {
         };
         let steps: Vec<Step> = (0..depth).map(step).collect();
         Weighted {
-            plain: PlainTree::write(&tree),
-            less: PlainTree::write(&less),
-            plain_path: PlainPath::write(&steps, 0),
+            plain: plain_tree::tree(&tree),
+            less: plain_tree::tree(&less),
+            plain_path: linduvar::Path::new(&steps, 0),
             tree,
             leaf: COMBS * comb.len(),
             path: Path {
@@ -132,26 +133,26 @@ impl Weighted {
         }
     }
 
-    pub fn rounds(&self, rounds: u32) -> PlainTree {
-        rattle_tree::rounds(black_box(&self.plain), self.leaf, 0, LENGTH, rounds)
+    pub fn rounds(&self, rounds: u32) -> linduvar::Tree {
+        rounds::to_leaf(black_box(&self.plain), self.leaf, 0, LENGTH, rounds)
     }
 
-    pub fn path_rounds(&self, rounds: u32) -> PlainTree {
-        rattle_tree::path_rounds(black_box(&self.plain), &self.plain_path, rounds)
+    pub fn path_rounds(&self, rounds: u32) -> linduvar::Tree {
+        rounds::by_path(black_box(&self.plain), &self.plain_path, rounds)
     }
 
     /// A push to a leaf that is accepted.
-    pub fn push_to_leaf(&self) -> PlainTreeAnswer {
-        rattle_tree::push_to_leaf(black_box(&self.less), self.leaf, 0, LENGTH, 0)
+    pub fn push_to_leaf(&self) -> linduvar::TreeAnswer {
+        tree::push_to_leaf(black_box(&self.less), self.leaf, 0, LENGTH, 0)
     }
 
     /// A push by path that is accepted.
-    pub fn push(&self) -> PlainTreeAnswer {
-        rattle_tree::push(black_box(&self.less), &self.plain_path, 0)
+    pub fn push(&self) -> linduvar::TreeAnswer {
+        tree::push(black_box(&self.less), &self.plain_path, 0)
     }
 
     /// A pop that departs.
-    pub fn pop(&self) -> PlainTreeAnswer {
-        rattle_tree::pop(black_box(&self.plain))
+    pub fn pop(&self) -> linduvar::TreeAnswer {
+        tree::pop(black_box(&self.plain))
     }
 }

@@ -1,4 +1,4 @@
-//! The stack that each call of the Rattle library takes.
+//! The stack that a call of the Rattle library takes.
 //!
 //! A call is made on a thread whose stack was painted before, and what has
 //! another colour after it was taken: by the arguments that go by value and by
@@ -6,17 +6,6 @@
 //! counted. Give or take a few words: the painting itself has two of the first,
 //! and the Rust function that makes a call safe takes some.
 
-use crate::queue_tree::Filled;
-use crate::scheduler::Weighted;
-use linduvar_tests::plain::PlainPath;
-use linduvar_tests::queue_tree::{Step, MOST_PACKETS};
-use linduvar_tests::random::Random;
-use linduvar_tests::rattle_chip::Behind;
-use linduvar_tests::scheduler::{Rule, STRICT};
-use linduvar_tests::topology::{MOST_STEPS_DOWN, SOURCE_NODES, TARGET_NODES};
-use linduvar_tests::{embedding, laborious};
-use linduvar_tests::{rattle, rattle_embedding, rattle_queue_tree, rattle_translator};
-use linduvar_tests::{rattle_chip, rattle_tree};
 use std::hint::black_box;
 use std::thread;
 
@@ -24,74 +13,9 @@ use std::thread;
 const PAINTED: usize = 1 << 20;
 const PAINT: u8 = 0xA5;
 
-pub fn run(random: &mut Random) {
-    println!("the stack that a call takes, with its arguments, in bytes:");
-    let (source, target) = laborious::largest_pair();
-    let (_, map) = embedding::search(&source, &target);
-    let map = &map[..source.len()];
-    let path = PlainPath::write(&[Step { child: 1, rank: 1 }; 2], 1);
-    report("read", &|| rattle::read(&target, TARGET_NODES));
-    report("branch", &|| rattle::branch(&target, 1));
-    report("branch_byte", &|| rattle::branch_byte(&target, 1, 1));
-    report("check", &|| rattle_embedding::check(&source, &target, map));
-    report("search", &|| {
-        rattle_embedding::search(&source, &target, &mut [0; SOURCE_NODES])
-    });
-    report("carry", &|| {
-        rattle_translator::carry(&source, &target, map, &path)
-    });
-    let filled = Filled::new(MOST_STEPS_DOWN, MOST_PACKETS, random);
-    report("open", &|| rattle_queue_tree::open(&target, MOST_PACKETS));
-    report("held", &|| rattle_queue_tree::held(&filled.state));
-    report("refusals", &|| rattle_queue_tree::refusals(&filled.state));
-    report("push", &|| filled.push());
-    report("pop", &|| filled.pop());
-    report("rounds", &|| filled.rounds(2));
-    trees();
-    chips(&source, &target, map);
-}
-
-/// The calls on a tree with disciplines.
-fn trees() {
-    let weighted = Weighted::new(MOST_STEPS_DOWN, MOST_PACKETS);
-    let tree = &weighted.plain;
-    let (topology, rules) = (&tree.state.frame.topology, &tree.disciplines.rules);
-    let topology = &topology[..tree.state.frame.nodes];
-    report("tree_open", &|| {
-        rattle_tree::open(topology, MOST_PACKETS, rules)
-    });
-    report("tree_held", &|| rattle_tree::held(tree));
-    report("tree_push", &|| weighted.push());
-    report("tree_push_to_leaf", &|| weighted.push_to_leaf());
-    report("tree_pop", &|| weighted.pop());
-}
-
-/// The calls on a chip's tree behind a map.
-fn chips(source: &[u8], target: &[u8], map: &[u8]) {
-    let rule = Rule {
-        discipline: STRICT,
-        weight: 1,
-    };
-    let rules = &[rule; TARGET_NODES];
-    let chip = rattle_chip::open(source, target, MOST_PACKETS, rules).chip;
-    let behind = Behind { source, map };
-    let leaf = source.len() - 1;
-    let pushed = behind.push_to_leaf(&chip, leaf, 1, 1, 1);
-    assert_eq!((pushed.refusal, pushed.value), (0, 1));
-    let path = PlainPath::write(&[Step { child: 1, rank: 1 }; 2], 1);
-    report("pair_open", &|| {
-        rattle_chip::open(source, target, MOST_PACKETS, rules)
-    });
-    report("chip_held", &|| behind.held(&pushed.tree));
-    report("chip_push", &|| behind.push(&pushed.tree, &path, 1));
-    report("chip_push_to_leaf", &|| {
-        behind.push_to_leaf(&pushed.tree, leaf, 1, 1, 1)
-    });
-    report("chip_pop", &|| behind.pop(&pushed.tree));
-}
-
-fn report<T>(name: &str, call: &(dyn Fn() -> T + Sync)) {
-    let taken = thread::scope(|scope| {
+/// How many bytes a call takes.
+pub fn taken<T>(call: &(dyn Fn() -> T + Sync)) -> usize {
+    thread::scope(|scope| {
         thread::Builder::new()
             .stack_size(2 * PAINTED)
             .spawn_scoped(scope, || {
@@ -102,8 +26,7 @@ fn report<T>(name: &str, call: &(dyn Fn() -> T + Sync)) {
             .expect("a thread starts")
             .join()
             .expect("the call ends")
-    });
-    println!("stack, {name:17} {taken:7}");
+    })
 }
 
 /// Paints the stack below the caller's frame, and answers where that ends.

@@ -5,7 +5,6 @@
 
 use linduvar_tests::generate::{self, Shape};
 use linduvar_tests::random::Random;
-use linduvar_tests::rattle;
 use linduvar_tests::topology::{
     branch, Topology, MOST_CHILDREN, MOST_STEPS_DOWN, SOURCE_NODES, TARGET_NODES,
 };
@@ -30,20 +29,25 @@ pub fn run(random: &mut Random) {
             .collect();
         for (bytes, node) in &inputs {
             assert_eq!(scan(bytes, TARGET_NODES), 0);
-            assert_eq!(scan(bytes, SOURCE_NODES), rattle::read(bytes, SOURCE_NODES));
+            assert_eq!(
+                scan(bytes, SOURCE_NODES),
+                linduvar::topology::read(bytes, SOURCE_NODES)
+            );
             let branch = scan_branch(bytes, *node).map(|branch| branch.len());
-            assert_eq!(branch, Ok(rattle::branch(bytes, *node).1));
+            assert_eq!(branch, Ok(linduvar::topology::branch(bytes, *node).1));
         }
 
         report(
             &format!("read, {name}"),
-            time(&inputs, |bytes, _| rattle::read(bytes, TARGET_NODES)),
+            time(&inputs, |bytes, _| {
+                linduvar::topology::read(bytes, TARGET_NODES)
+            }),
             time(&inputs, |bytes, _| Topology::read(bytes, TARGET_NODES)),
             time(&inputs, |bytes, _| scan(bytes, TARGET_NODES)),
         );
         report(
             &format!("branch, {name}"),
-            time(&inputs, rattle::branch),
+            time(&inputs, linduvar::topology::branch),
             time(&inputs, branch),
             time(&inputs, |bytes, node| {
                 scan_branch(bytes, node).map(|branch| branch.len())

@@ -1,10 +1,9 @@
 //! The carrying of a path, with the check of its map.
 
+use linduvar::maps;
 use linduvar_tests::pairs;
-use linduvar_tests::plain::PlainPath;
 use linduvar_tests::queue_tree::Step;
 use linduvar_tests::random::Random;
-use linduvar_tests::rattle_translator;
 use linduvar_tests::topology::{Topology, SOURCE_NODES, TARGET_NODES};
 use linduvar_tests::translator::{self, Path};
 use std::hint::black_box;
@@ -43,7 +42,7 @@ struct Input {
     target: Vec<u8>,
     map: Vec<u8>,
     path: Path,
-    plain: PlainPath,
+    plain: linduvar::Path,
 }
 
 impl Input {
@@ -54,7 +53,7 @@ impl Input {
             map: drawn.map.expect("a pair made from a map"),
             source: drawn.source,
             target: drawn.target,
-            plain: PlainPath::write(&steps, 1),
+            plain: linduvar::Path::new(&steps, 1),
             path: Path {
                 steps,
                 leaf_rank: 1,
@@ -64,7 +63,7 @@ impl Input {
 
     fn by_rattle(&self) -> u8 {
         let (source, target, map) = (&self.source, &self.target, &self.map);
-        let carried = rattle_translator::carry(source, target, map, &self.plain);
+        let carried = maps::carry(source, target, map, &self.plain);
         black_box(carried).refusal
     }
 

@@ -1,9 +1,8 @@
-//! A chip's tree behind a map, with the disciplines of the source's drawing, in
-//! the Rattle library, made safe to call.
+//! A chip's tree behind a map, with the disciplines of the source. Paths, leaves
+//! and rules are those of the source.
 
-use crate::plain::{PlainAmount, PlainPath};
-use crate::plain_tree::{PlainPairOpened, PlainRules, PlainTree, PlainTreeAnswer, PlainTreeOpened};
-use crate::scheduler::Rules;
+use crate::structs::RulesByValue;
+use crate::{Amount, PairOpened, Path, Rules, Tree, TreeAnswer, TreeOpened};
 
 mod boundary {
     use super::*;
@@ -11,61 +10,58 @@ mod boundary {
     extern "C" {
         pub fn linduvar_pair_open(
             source: *const u8,
-            source_len: usize,
+            source_length: usize,
             target: *const u8,
-            target_len: usize,
+            target_length: usize,
             limit: usize,
-            rules: PlainRules,
-        ) -> PlainPairOpened;
+            rules: RulesByValue,
+        ) -> PairOpened;
         pub fn linduvar_chip_open(
             source: *const u8,
-            source_len: usize,
+            source_length: usize,
             target: *const u8,
-            target_len: usize,
+            target_length: usize,
             limit: usize,
-            rules: PlainRules,
-        ) -> PlainTreeOpened;
+            rules: RulesByValue,
+        ) -> TreeOpened;
         pub fn linduvar_chip_push(
             source: *const u8,
-            source_len: usize,
+            source_length: usize,
             map: *const u8,
-            map_len: usize,
-            tree: PlainTree,
-            path: PlainPath,
+            map_length: usize,
+            tree: Tree,
+            path: Path,
             packet: u32,
-        ) -> PlainTreeAnswer;
+        ) -> TreeAnswer;
         pub fn linduvar_chip_push_to_leaf(
             source: *const u8,
-            source_len: usize,
+            source_length: usize,
             map: *const u8,
-            map_len: usize,
-            tree: PlainTree,
+            map_length: usize,
+            tree: Tree,
             leaf: usize,
             class: u8,
             length: u16,
             packet: u32,
-        ) -> PlainTreeAnswer;
+        ) -> TreeAnswer;
         pub fn linduvar_chip_pop(
             source: *const u8,
-            source_len: usize,
+            source_length: usize,
             map: *const u8,
-            map_len: usize,
-            tree: PlainTree,
-        ) -> PlainTreeAnswer;
-        pub fn linduvar_chip_held(
-            source: *const u8,
-            source_len: usize,
-            tree: PlainTree,
-        ) -> PlainAmount;
+            map_length: usize,
+            tree: Tree,
+        ) -> TreeAnswer;
+        pub fn linduvar_chip_held(source: *const u8, source_length: usize, tree: Tree) -> Amount;
         pub fn linduvar_chip_refusals(
             source: *const u8,
-            source_len: usize,
-            tree: PlainTree,
-        ) -> PlainAmount;
+            source_length: usize,
+            tree: Tree,
+        ) -> Amount;
     }
 }
 
-/// The bytes of a source, and a map from it to the chip.
+/// The bytes of a source, and a map from it to the chip: what every call on a
+/// chip's tree goes by.
 #[derive(Clone, Copy, Debug)]
 pub struct Behind<'a> {
     pub source: &'a [u8],
@@ -76,8 +72,10 @@ pub struct Behind<'a> {
 // of one slice, which outlives the call, and the library only reads from it.
 // Trees, paths and rules go in and come out by value, laid out as C does.
 
-pub fn open(source: &[u8], target: &[u8], limit: usize, rules: &Rules) -> PlainPairOpened {
-    let rules = PlainRules { rules: *rules };
+/// The source's own tree and the chip's tree, both empty, with one packet limit,
+/// a rule for each node of the source, and the least map.
+pub fn open_both(source: &[u8], target: &[u8], limit: usize, rules: &Rules) -> PairOpened {
+    let rules = RulesByValue { rules: *rules };
     unsafe {
         boundary::linduvar_pair_open(
             source.as_ptr(),
@@ -91,8 +89,8 @@ pub fn open(source: &[u8], target: &[u8], limit: usize, rules: &Rules) -> PlainP
 }
 
 /// The chip's tree alone, which goes by no map.
-pub fn open_chip(source: &[u8], target: &[u8], limit: usize, rules: &Rules) -> PlainTreeOpened {
-    let rules = PlainRules { rules: *rules };
+pub fn open(source: &[u8], target: &[u8], limit: usize, rules: &Rules) -> TreeOpened {
+    let rules = RulesByValue { rules: *rules };
     unsafe {
         boundary::linduvar_chip_open(
             source.as_ptr(),
@@ -106,7 +104,8 @@ pub fn open_chip(source: &[u8], target: &[u8], limit: usize, rules: &Rules) -> P
 }
 
 impl Behind<'_> {
-    pub fn push(&self, tree: &PlainTree, path: &PlainPath, packet: u32) -> PlainTreeAnswer {
+    /// Pushes a packet along a path of the source.
+    pub fn push(&self, tree: &Tree, path: &Path, packet: u32) -> TreeAnswer {
         let Behind { source, map } = self;
         unsafe {
             boundary::linduvar_chip_push(
@@ -121,14 +120,15 @@ impl Behind<'_> {
         }
     }
 
+    /// Pushes a packet to a leaf of the source, with its class and its length.
     pub fn push_to_leaf(
         &self,
-        tree: &PlainTree,
+        tree: &Tree,
         leaf: usize,
         class: u8,
         length: u16,
         packet: u32,
-    ) -> PlainTreeAnswer {
+    ) -> TreeAnswer {
         let Behind { source, map } = self;
         unsafe {
             boundary::linduvar_chip_push_to_leaf(
@@ -145,7 +145,8 @@ impl Behind<'_> {
         }
     }
 
-    pub fn pop(&self, tree: &PlainTree) -> PlainTreeAnswer {
+    /// Pops the packet at the head.
+    pub fn pop(&self, tree: &Tree) -> TreeAnswer {
         let Behind { source, map } = self;
         unsafe {
             boundary::linduvar_chip_pop(
@@ -158,11 +159,13 @@ impl Behind<'_> {
         }
     }
 
-    pub fn held(&self, tree: &PlainTree) -> PlainAmount {
+    /// How many packets the tree holds.
+    pub fn held(&self, tree: &Tree) -> Amount {
         unsafe { boundary::linduvar_chip_held(self.source.as_ptr(), self.source.len(), *tree) }
     }
 
-    pub fn refusals(&self, tree: &PlainTree) -> PlainAmount {
+    /// How many pushes the tree has refused by 15.
+    pub fn refusals(&self, tree: &Tree) -> Amount {
         unsafe { boundary::linduvar_chip_refusals(self.source.as_ptr(), self.source.len(), *tree) }
     }
 }
