@@ -13,7 +13,7 @@ const STYLE: [&str; 6] = [
     ".label,.note{font-size:12px}.label,.note,.joins text,.legend text{text-anchor:start}",
     ".joins g{color:midnightblue}.joins g:nth-child(3n){color:maroon}.joins g:nth-child(3n+1){color:darkgreen}",
     ".joins path{stroke:currentColor}.joins text{fill:currentColor}",
-    ".passed{stroke-dasharray:1 2}.image{fill:lightblue;stroke-width:2}.between{stroke-dasharray:4 2}.unused{fill:lightgrey;stroke:none}",
+    ".passed{stroke-dasharray:1 2}.image{fill:lightcyan;stroke-width:2}.between{stroke-dasharray:4 2}.unused{fill:lightgrey;stroke:none}",
     ".fault{fill:firebrick;stroke:none}.fault+text{fill:white}.legend text{fill:black}",
 ];
 
@@ -196,7 +196,7 @@ fn pair(source: &[u8], target: &[u8], images: &[u8], marked: Option<usize>) -> S
 fn join(source: &Topology, target: &Topology, node: usize, image: usize) -> String {
     let (x, y) = (column(SOURCE, source, node), row(node));
     let (over, down) = (column(CHIP, target, image), row(image));
-    let line = format!("<path d='M{x},{y}m38,0H304L430,{down}H{over}'/>");
+    let line = format!("<path d='M{x},{y}m40,0H304L430,{down}H{over}'/>");
     let beside_node = format!("<text x='{x}' y='{y}' dx='12' dy='4'>at {image}</text>");
     let beside_image = format!("<text x='{over}' y='{down}' dx='12' dy='4'>for {node}</text>");
     format!("<g>{line}{beside_node}{beside_image}</g>\n")

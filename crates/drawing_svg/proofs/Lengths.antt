@@ -70,7 +70,7 @@ join-most : (x y over down node image : ℕ) → x ≤ 984 → y ≤ 560 → ove
     → length (join x y over down node image) ≤ length (join 984 560 2366 1072 32 64)
 unfolding join
 join-most x y over down node image a b c d e f =
-    let line = bytes "<g><path d='M#,#m38,0H304L430,#H#'/><text x='#' y='#' dx='12' dy='4'>at #</text>" in
+    let line = bytes "<g><path d='M#,#m40,0H304L430,#H#'/><text x='#' y='#' dx='12' dy='4'>at #</text>" in
     let beside = bytes "<text x='#' y='#' dx='12' dy='4'>for #</text></g>\n" in
     let from : List ℕ = x ∷ y ∷ down ∷ over ∷ x ∷ y ∷ image ∷ [] in
     let to : List ℕ = over ∷ down ∷ node ∷ [] in

@@ -23,7 +23,7 @@ head rows =
     ++ (bytes ".label,.note{font-size:12px}.label,.note,.joins text,.legend text{text-anchor:start}\n"
     ++ (bytes ".joins g{color:midnightblue}.joins g:nth-child(3n){color:maroon}.joins g:nth-child(3n+1){color:darkgreen}\n"
     ++ (bytes ".joins path{stroke:currentColor}.joins text{fill:currentColor}\n"
-    ++ (bytes ".passed{stroke-dasharray:1 2}.image{fill:lightblue;stroke-width:2}.between{stroke-dasharray:4 2}.unused{fill:lightgrey;stroke:none}\n"
+    ++ (bytes ".passed{stroke-dasharray:1 2}.image{fill:lightcyan;stroke-width:2}.between{stroke-dasharray:4 2}.unused{fill:lightgrey;stroke:none}\n"
     ++ bytes ".fault{fill:firebrick;stroke:none}.fault+text{fill:white}.legend text{fill:black}</style><rect width='100%' height='100%' fill='white'/>\n")))))
 
 -- The edge to a node in row y: from row `from` down the trunk at x, and right to the node; and the node's child number at it.
@@ -44,7 +44,7 @@ mark class x y node = bytes "<ellipse class='" ++ (class ++ numbered x y node)
 -- number beside the image.
 unfoldable pub join : ℕ → ℕ → ℕ → ℕ → ℕ → ℕ → List ℕ
 join x y over down node image =
-    filled (bytes "<g><path d='M#,#m38,0H304L430,#H#'/><text x='#' y='#' dx='12' dy='4'>at #</text>") (x ∷ y ∷ down ∷ over ∷ x ∷ y ∷ image ∷ []) 0
+    filled (bytes "<g><path d='M#,#m40,0H304L430,#H#'/><text x='#' y='#' dx='12' dy='4'>at #</text>") (x ∷ y ∷ down ∷ over ∷ x ∷ y ∷ image ∷ []) 0
     ++ filled (bytes "<text x='#' y='#' dx='12' dy='4'>for #</text></g>\n") (over ∷ down ∷ node ∷ []) 0
 
 -- the looks of nodes with their words, behind the last row

@@ -48,7 +48,7 @@ pub(crate) fn put_head(out: &mut [u8], at: usize, rows: usize) -> usize
     let looks = put_word(
         out,
         colours,
-        b".passed{stroke-dasharray:1 2}.image{fill:lightblue;stroke-width:2}.between{stroke-dasharray:4 2}.unused{fill:lightgrey;stroke:none}\n",
+        b".passed{stroke-dasharray:1 2}.image{fill:lightcyan;stroke-width:2}.between{stroke-dasharray:4 2}.unused{fill:lightgrey;stroke:none}\n",
     );
     put_word(
         out,
@@ -113,7 +113,7 @@ pub(crate) fn put_join(
     let line = put_filled(
         out,
         at,
-        b"<g><path d='M#,#m38,0H304L430,#H#'/><text x='#' y='#' dx='12' dy='4'>at #</text>",
+        b"<g><path d='M#,#m40,0H304L430,#H#'/><text x='#' y='#' dx='12' dy='4'>at #</text>",
         &[x, y, down, over, x, y, image],
     );
     put_filled(

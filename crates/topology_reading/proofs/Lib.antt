@@ -1,2 +1,3 @@
 pub mod ReadCases
 pub mod FirstFault
+pub mod Examples
