@@ -12,9 +12,9 @@ const STYLE: [&str; 6] = [
     "text{font:10px sans-serif;text-anchor:middle}path{fill:none;stroke:black}ellipse{fill:white;stroke:black}",
     ".label,.note{font-size:12px}.label,.note,.joins text,.legend text{text-anchor:start}",
     ".joins g{color:midnightblue}.joins g:nth-child(3n){color:maroon}.joins g:nth-child(3n+1){color:darkgreen}",
-    ".joins path{stroke:currentColor}.joins text{fill:currentColor}",
+    ".joins path{stroke:currentColor}.joins text{fill:currentColor}.fault{fill:firebrick;stroke:none}.fault+text{fill:white}",
     ".passed{stroke-dasharray:1 2}.image{fill:lightcyan;stroke-width:2}.between{stroke-dasharray:4 2}.unused{fill:lightgrey;stroke:none}",
-    ".fault{fill:firebrick;stroke:none}.fault+text{fill:white}.legend text{fill:black}",
+    ".legend text{fill:black}",
 ];
 
 /// The classes with their words, and where each begins in the legend.
@@ -104,7 +104,8 @@ fn at_fault(side: Side, bytes: &[u8], limit: usize, number: u8) -> (String, Stri
     if read_as_far(&mut part, bytes, limit, None, 0) && part.node_count() < bytes.len() {
         part.add(None);
     }
-    let (rows, last) = (part.node_count(), part.node_count().wrapping_sub(1));
+    let rows = part.node_count();
+    let last = rows.saturating_sub(1);
     let name = side.label;
     let words = match number {
         1 => format!("the {name} ends before it is complete"),

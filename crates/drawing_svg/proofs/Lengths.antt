@@ -43,9 +43,11 @@ use Rattle.script_setup.specs.Gathering.{gathered}
 use Rattle.script_setup.proofs.Endings.{Inside, ends-inside}
 use Rattle.script_setup.specs.declared.Ending.{Ending}
 use Rattle.script_setup.specs.declared.Ending.the-variants.{End, Refused, Compile}
-use Rattle.drawing_svg.specs.Elements.{row, opening, head, edge, numbered, mark, join, legend, note, noteEnd, faultStart, faultLead, faultWords, faultText, depthText, leavesText, roomText}
+use Rattle.drawing_svg.specs.Elements.{row, opening, head, edge, numbered, mark, join, legend, note, noteEnd}
+use Rattle.drawing_svg.specs.Elements.{faultStart, faultLead, faultWords, faultText, depthText, leavesText, roomText}
 use Rattle.drawing_svg.specs.Sheet.{column, each, edgeOf, className, leftOf, labelOf, roleIn, nodeOf, treeOf, joinOf, joinsOf, pairOf}
-use Rattle.drawing_svg.specs.Sheet.{foot, refusedEnd, refusal, sideName, faultNote, faultOf, faultSheet, markedOf, misfitSheet, refusedSheet, nothing, sheet, limitIn, sheetBy, scriptSheet}
+use Rattle.drawing_svg.specs.Sheet.{foot, refusedEnd, refusal, sideName, faultNote, faultOf, faultSheet, markedOf, misfitSheet}
+use Rattle.drawing_svg.specs.Sheet.{refusedSheet, nothing, sheet, limitIn, sheetBy, scriptSheet}
 use Rattle.drawing_svg.proofs.Sheet.{unmapped-trees, sheet-mapped, sheet-refused}
 
 -- ---- the elements at their largest numbers
@@ -165,8 +167,8 @@ each-length text most zero h = omega arith
 each-length text most (suc n) h =
     omega (arith, length-append (each text n) (text n), each-length text most n (λ k l. h k (omega arith)), h n (omega arith))
 
--- A tree with no node behind node `last`: the edge to a node takes at most `line` bytes, and its ellipse with its number at most `spot`, where 23 bytes
--- are the ellipse's start with the longest class.
+-- A tree with no node behind node `last`: the edge to a node takes at most `line` bytes, and its ellipse with its number at most `spot`, where 23
+-- bytes are the ellipse's start with the longest class.
 module _ (chip : Bool) (last line spot : ℕ) (tree images : List ℕ) (from to : ℕ) (few : length tree ≤ suc last)
     (l : length (edge (leftOf chip + 30 * last) (row last) (row last) last) ≡ line)
     (s : length (numbered (leftOf chip + 30 * last) (row last) last) + 23 ≡ spot) where
@@ -177,15 +179,15 @@ module _ (chip : Bool) (last line spot : ℕ) (tree images : List ℕ) (from to 
   unfolding edgeOf
   edge-length k h = by-test (eqb (depth tree k) 0)
     where
-      by-test : (b : Bool) → length (cond b [] (edge (column (leftOf chip) tree (parent tree k)) (row (trunkFrom tree k)) (row k) (childNumber tree k)))
-          ≤ line
+      by-test : (b : Bool)
+          → length (cond b [] (edge (column (leftOf chip) tree (parent tree k)) (row (trunkFrom tree k)) (row k) (childNumber tree k))) ≤ line
       by-test true = omega arith
       by-test false =
           omega (
             arith,
             edge-most (leftOf chip + 30 * last) (row last) last (column (leftOf chip) tree (parent tree k)) (row (trunkFrom tree k)) (row k)
-                (childNumber tree k) (column-most (parent tree k) (omega (arith, parent-most tree k))) (omega (arith, trunk-most tree k)) (omega arith)
-                (omega (arith, number-most tree k)),
+                (childNumber tree k) (column-most (parent tree k) (omega (arith, parent-most tree k))) (omega (arith, trunk-most tree k))
+                (omega arith) (omega (arith, number-most tree k)),
             l,
           )
 
@@ -366,8 +368,8 @@ module _ (chip : Bool) (limit : ℕ) (tree : List ℕ) (number offset : ℕ) (fe
   part-length : length (take (suc (acceptedBytes limit tree)) tree) ≤ suc limit
   part-length = omega (arith, length-take (suc (acceptedBytes limit tree)) tree, accepted-few limit tree)
 
-  fault-length : (most : ℕ) → length (treeOf chip (take (suc (acceptedBytes limit tree)) tree) [] (acceptedBytes limit tree) (suc (acceptedBytes limit tree)))
-      ≤ most
+  fault-length : (most : ℕ)
+      → length (treeOf chip (take (suc (acceptedBytes limit tree)) tree) [] (acceptedBytes limit tree) (suc (acceptedBytes limit tree))) ≤ most
       → length (faultOf chip limit tree number offset) ≤ 1397 + most
   unfolding faultOf
   fault-length most t =
@@ -429,7 +431,8 @@ module _ (source target : List ℕ) (number offset : ℕ) (s : length source ≤
       omega (
         arith,
         length-append pair (note number offset),
-        pair-length source target [] (omega (arith, s)) (omega (arith, t)) (omega arith) (λ a l m. absurd (not-suc-le-zero l)) node (branchEnd source node),
+        pair-length source target [] (omega (arith, s)) (omega (arith, t)) (omega arith) (λ a l m. absurd (not-suc-le-zero l)) node
+            (branchEnd source node),
         note-most number offset n (omega arith),
         largest .note-is,
       )

@@ -38,7 +38,8 @@ pub record Small (source target : List ℕ) : Type 0 where
 -- where there is no map, both are trees
 pub unmapped-trees : (source target : List ℕ) → outcome source target ≡ NoMap → (fault 32 source ≡ 0) × (fault 64 target ≡ 0)
 unfolding outcome
-unmapped-trees source target e = orElse-none (fault 32 source) (fault 64 target) (by-fault (orElse (fault 32 source) (fault 64 target)) (leastOf source target) e)
+unmapped-trees source target e =
+    orElse-none (fault 32 source) (fault 64 target) (by-fault (orElse (fault 32 source) (fault 64 target)) (leastOf source target) e)
   where
     by-fault : (f : ℕ) (a : Option (List ℕ)) → outcomeBy f a ≡ NoMap → f ≡ 0
     by-fault zero a q = refl

@@ -22,9 +22,9 @@ head rows =
     ++ (bytes "text{font:10px sans-serif;text-anchor:middle}path{fill:none;stroke:black}ellipse{fill:white;stroke:black}\n"
     ++ (bytes ".label,.note{font-size:12px}.label,.note,.joins text,.legend text{text-anchor:start}\n"
     ++ (bytes ".joins g{color:midnightblue}.joins g:nth-child(3n){color:maroon}.joins g:nth-child(3n+1){color:darkgreen}\n"
-    ++ (bytes ".joins path{stroke:currentColor}.joins text{fill:currentColor}\n"
+    ++ (bytes ".joins path{stroke:currentColor}.joins text{fill:currentColor}.fault{fill:firebrick;stroke:none}.fault+text{fill:white}\n"
     ++ (bytes ".passed{stroke-dasharray:1 2}.image{fill:lightcyan;stroke-width:2}.between{stroke-dasharray:4 2}.unused{fill:lightgrey;stroke:none}\n"
-    ++ bytes ".fault{fill:firebrick;stroke:none}.fault+text{fill:white}.legend text{fill:black}</style><rect width='100%' height='100%' fill='white'/>\n")))))
+    ++ bytes ".legend text{fill:black}</style><rect width='100%' height='100%' fill='white'/>\n")))))
 
 -- The edge to a node in row y: from row `from` down the trunk at x, and right to the node; and the node's child number at it.
 unfoldable pub edge : ℕ → ℕ → ℕ → ℕ → List ℕ

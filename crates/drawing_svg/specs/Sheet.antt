@@ -25,7 +25,8 @@ use Rattle.script_setup.specs.Gathering.{Given, gathered}
 use Rattle.script_setup.specs.declared.Ending.{Ending}
 use Rattle.script_setup.specs.declared.Ending.the-variants.{End, Refused, Compile}
 use Rattle.text_templates.specs.Template.{bytes}
-use Rattle.drawing_svg.specs.Elements.{row, head, edge, mark, join, legend, note, noteEnd, faultLead, faultText, depthText, leavesText, roomText}
+use Rattle.drawing_svg.specs.Elements.{row, head, edge, mark, join, legend}
+use Rattle.drawing_svg.specs.Elements.{note, noteEnd, faultLead, faultText, depthText, leavesText, roomText}
 
 -- the column of a node in the tree whose root is at `left`
 abbrev pub column : ℕ → List ℕ → ℕ → ℕ
@@ -79,7 +80,7 @@ treeOf chip tree images from to =
 -- the line from a source node to its image; none from a node that is passed over
 unfoldable pub joinOf : List ℕ → List ℕ → ℕ → ℕ → List ℕ
 joinOf source target a image =
-    cond (eqb image passedOver) [] (join (column 24 source a) (row a) (column 446 target image) (row image) a image)
+    cond (eqb image passedOver) [] (join (column (leftOf false) source a) (row a) (column (leftOf true) target image) (row image) a image)
 
 unfoldable pub joinsOf : List ℕ → List ℕ → List ℕ → List ℕ
 joinsOf source target images =
@@ -123,9 +124,7 @@ unfoldable pub faultOf : Bool → ℕ → List ℕ → ℕ → ℕ → List ℕ
 faultOf chip limit tree number offset =
     let n = acceptedBytes limit tree in
     let part = take (suc n) tree in
-    head (length part)
-    ++ (treeOf chip part [] n (suc n)
-    ++ (legend (length part) ++ faultNote chip number offset n))
+    head (length part) ++ (treeOf chip part [] n (suc n) ++ (legend (length part) ++ faultNote chip number offset n))
 
 -- the sheet of the tree at fault, the source first
 abbrev pub faultSheet : List ℕ → List ℕ → ℕ → ℕ → List ℕ

@@ -4,7 +4,8 @@ use text_templates::put_filled;
 ghost use mathlib.Core.Path.{_≡_};
 ghost use Prim.Native.Nat.{_<_};
 ghost use Rattle.text.specs.Text.{Puts};
-ghost use Rattle.drawing_svg.specs.Elements.{row, head, edge, mark, join, legend, note, faultLead, faultText, depthText, leavesText, roomText};
+ghost use Rattle.drawing_svg.specs.Elements.{row, head, edge, mark, join, legend};
+ghost use Rattle.drawing_svg.specs.Elements.{note, faultLead, faultText, depthText, leavesText, roomText};
 
 // The row of a node.
 pub(crate) fn row_of(node: usize) -> usize
@@ -43,7 +44,7 @@ pub(crate) fn put_head(out: &mut [u8], at: usize, rows: usize) -> usize
     let colours = put_word(
         out,
         joins,
-        b".joins path{stroke:currentColor}.joins text{fill:currentColor}\n",
+        b".joins path{stroke:currentColor}.joins text{fill:currentColor}.fault{fill:firebrick;stroke:none}.fault+text{fill:white}\n",
     );
     let looks = put_word(
         out,
@@ -53,7 +54,7 @@ pub(crate) fn put_head(out: &mut [u8], at: usize, rows: usize) -> usize
     put_word(
         out,
         looks,
-        b".fault{fill:firebrick;stroke:none}.fault+text{fill:white}.legend text{fill:black}</style><rect width='100%' height='100%' fill='white'/>\n",
+        b".legend text{fill:black}</style><rect width='100%' height='100%' fill='white'/>\n",
     )
 }
 

@@ -41,8 +41,14 @@ ghost use lib.Dec.{leb, ltb};
 ghost use Rattle.text.specs.Text.{Puts};
 ghost use Rattle.drawing_svg.specs.Elements.{mark, noteEnd};
 ghost use Rattle.drawing_svg.specs.Sheet.{column, each, edgeOf, className, leftOf, labelOf, roleIn, nodeOf, treeOf, joinOf, joinsOf, pairOf};
-ghost use Rattle.drawing_svg.specs.Sheet.{refusedEnd, refusal, nothing, sideName, faultNote, faultOf, faultSheet, markedOf, misfitSheet, sheet, scriptSheet};
+ghost use Rattle.drawing_svg.specs.Sheet.{refusedEnd, refusal, nothing, sideName, faultNote, faultOf, faultSheet, markedOf, misfitSheet};
+ghost use Rattle.drawing_svg.specs.Sheet.{sheet, scriptSheet};
 ghost use Rattle.embedding_diagnosis.specs.Diagnosis.{diagnosis};
+
+// Where the root of the source and of the chip stands.
+const SOURCE_LEFT: usize = 24;
+
+const CHIP_LEFT: usize = 446;
 
 // Where a node's column is in the tree whose root is at `left`.
 fn column_of(left: usize, bytes: &[u8], node: usize) -> usize
@@ -98,7 +104,7 @@ fn put_role(out: &mut [u8], at: usize, role: Role, x: usize, y: usize, node: usi
 fn left_of(chip: bool) -> usize
     ensures { λ r. ⌜ (r ≡ leftOf chip) × (r ≤ 446) ⌝ }
 {
-    if chip { 446 } else { 24 }
+    if chip { CHIP_LEFT } else { SOURCE_LEFT }
 }
 
 // The role of a node on its side of the sheet.
@@ -216,10 +222,10 @@ fn put_join_of(
     if image == PASSED_OVER {
         return put_word(out, at, &source[..0]);
     }
-    let x = column_of(24, source, node);
+    let x = column_of(SOURCE_LEFT, source, node);
     let y = row_of(node);
     let chip_node = wide(image);
-    let over = column_of(446, target, chip_node);
+    let over = column_of(CHIP_LEFT, target, chip_node);
     let down = row_of(chip_node);
     put_join(out, at, x, y, over, down, node, chip_node)
 }

@@ -1,6 +1,6 @@
 -- What the number of accepted bytes means. So many bytes are accepted (`accepted-first`), within the limit (`accepted-few`). If a byte follows them,
--- it is the first at fault, and the bytes up to it have the fault of all (`fault-next`). So it does not matter how many bytes behind the limit are kept
--- (`accepted-kept`).
+-- it is the first at fault, and the bytes up to it have the fault of all (`fault-next`). So it does not matter how many bytes behind the limit are
+-- kept (`accepted-kept`).
 --
 -- A beginning of accepted bytes is accepted. So the test that is counted holds for the shorter beginnings and, from some length on, no more.
 use mathlib.Core.Path.{_≡_, refl, sym, ap, _∙_}
@@ -81,7 +81,8 @@ module _ (limit : ℕ) (bytes : List ℕ) where
   parts : Parted passes (length bytes)
   parts =
       parted passes (length bytes)
-      (λ a b l g e. le-leb (fault limit (take (suc a) bytes)) 1 (shorter (suc a) (suc b) (omega arith) (leb-true (fault limit (take (suc b) bytes)) 1 e)))
+      (λ a b l g e. le-leb (fault limit (take (suc a) bytes)) 1
+      (shorter (suc a) (suc b) (omega arith) (leb-true (fault limit (take (suc b) bytes)) 1 e)))
 
   accepted-length : acceptedBytes limit bytes ≤ length bytes
   unfolding acceptedBytes

@@ -34,8 +34,11 @@ put-pair-requires c κs =
     let both = c .before .before .before .before .before in
     let source = now (both .before .before .before .before .args .source) in
     let opened = opens-both _ _ _ _ (both .«open» .ensures) in
-    let fits = mapped-small _ _ _ _ (opened .refusal) (c .before .before .before .before .if1 .taken) in
-    (omega (arith, fits .source-fits), omega (arith, fits .target-fits), omega (arith, fits .source-fits, length-take (length source) (both .«open» .result .pair .map)))
+    let fits = mapped-small _ _ _ _ (opened .refusal) (c .before .before .before .before .if1 .taken) in (
+      omega (arith, fits .source-fits),
+      omega (arith, fits .target-fits),
+      omega (arith, fits .source-fits, length-take (length source) (both .«open» .result .pair .map)),
+    )
 
 slice-aggregate-put-word : tie.Need-slice-aggregate-put-word
 slice-aggregate-put-word c = search needs
@@ -86,7 +89,8 @@ returns-2 c =
     let told = end .before .before in
     let tested = told .before .before in
     let opened = opens-both _ _ _ _ (tested .before .«open» .ensures) in
-    puts-as (sheet-refused _ _ _ _ (opened .refusal) _ (tested .if1 .left) _ (sym (opened .outcome) ∙ told .enum-told .given .1)) (end .draw-refusal .ensures)
+    puts-as (sheet-refused _ _ _ _ (opened .refusal) _ (tested .if1 .left) _ (sym (opened .outcome) ∙ told .enum-told .given .1))
+    (end .draw-refusal .ensures)
 
 same-length-3 : tie.Need-same-length-3
 same-length-3 c = search needs
@@ -97,7 +101,8 @@ returns-3 c =
     let told = end .before .before in
     let tested = told .before .before in
     let opened = opens-both _ _ _ _ (tested .before .«open» .ensures) in
-    puts-as (sheet-refused _ _ _ _ (opened .refusal) _ (tested .if1 .left) _ (sym (opened .outcome) ∙ told .enum-told2 .given .1)) (end .draw-misfit .ensures)
+    puts-as (sheet-refused _ _ _ _ (opened .refusal) _ (tested .if1 .left) _ (sym (opened .outcome) ∙ told .enum-told2 .given .1))
+    (end .draw-misfit .ensures)
 
 same-length-4 : tie.Need-same-length-4
 same-length-4 c = search needs
@@ -108,7 +113,8 @@ returns-4 c =
     let told = end .before .before in
     let tested = told .before .before in
     let opened = opens-both _ _ _ _ (tested .before .«open» .ensures) in
-    puts-as (sheet-refused _ _ _ _ (opened .refusal) _ (tested .if1 .left) _ (sym (opened .outcome) ∙ told .enum-told3 .given .1)) (end .draw-fault .ensures)
+    puts-as (sheet-refused _ _ _ _ (opened .refusal) _ (tested .if1 .left) _ (sym (opened .outcome) ∙ told .enum-told3 .given .1))
+    (end .draw-fault .ensures)
 
 pub draw-spec : {M : Type 1} → statement M
 draw-spec =

@@ -1,4 +1,5 @@
--- `put_edge_of` meets its contract: nothing, or the edge from the numbers found. The parent, and the node before it on the trunk, have smaller numbers.
+-- `put_edge_of` meets its contract: nothing, or the edge from the numbers found. The parent, and the node before it on the trunk, have smaller
+-- numbers.
 use denote.Ref.{now}
 use native.Mathlib.Omega.{arith}
 use Rattle.topology_places.proofs.Counted.{parent-most, trunk-most}

@@ -29,12 +29,14 @@ put-tree-requires c κs =
 
 put-tree-requires-2 : tie.Need-put-tree-requires-2
 put-tree-requires-2 c κs =
-    let start = c .before .before .before .before .before .before .before .before .before .before .before .before .before .before .before .before .before .before in
+    let left = c .before .before .before in
+    let start = left .before .before .before .before .before .before .before .before .before .before .before .before .before .before .before in
     start .pre .1
 
 put-legend-requires : tie.Need-put-legend-requires
 put-legend-requires c κs =
-    let rows = c .before .before .before .before .before .before .before .before .before .before .before .before .before .before .before .before .before in
+    let right = c .before .before .before in
+    let rows = right .before .before .before .before .before .before .before .before .before .before .before .before .before .before in
     let start = rows .before .before .before .before .before in
     omega (arith, rows .larger .ensures, start .pre .0, start .pre .1)
 
