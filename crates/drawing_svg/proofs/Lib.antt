@@ -1,3 +1,4 @@
 pub mod Each
+pub mod FaultCases
 pub mod Sheet
 pub mod Lengths

@@ -1,5 +1,5 @@
 -- Which sheet an 04 gets, by the number that refuses it and by the outcome of the search; and that the trees that are drawn are small.
-use mathlib.Core.Path.{_≡_, refl, sym, _∙_}
+use mathlib.Core.Path.{_≡_, refl, sym, ap, _∙_}
 use mathlib.Core.Logic.{_≢_}
 use Prim.Native.Nat.{ℕ, zero, suc, _≤_}
 use native.Mathlib.Omega.{arith}
@@ -20,12 +20,15 @@ use Rattle.embedding_search.specs.declared.Outcome.{Outcome}
 use Rattle.embedding_search.specs.declared.Outcome.the-variants.{Map, NoMap, Refused as AtFault}
 use Rattle.pair_state.specs.Opening.{bothFault}
 use Rattle.pair_state.proofs.Truncated.{outcome-kept, both-kept, both-trees, both-whole}
+use Rattle.embedding_diagnosis.specs.Diagnosis.{diagnosis}
+use Rattle.embedding_diagnosis.specs.declared.Diagnosis.{Diagnosis}
 use Rattle.script_setup.specs.Gathering.{gathered, limitOf, Draws}
 use Rattle.script_setup.specs.declared.Drawing.{Drawing}
 use Rattle.script_setup.specs.declared.Ending.{Ending}
 use Rattle.script_setup.specs.declared.Ending.the-variants.{End, Refused, Compile}
 use Rattle.script_setup.proofs.WithLimit.{limited}
-use Rattle.drawing_svg.specs.Sheet.{pairOf, foot, refusal, refusedSheet, nothing, sheet, limitIn, sheetBy, scriptSheet}
+use Rattle.drawing_svg.proofs.FaultCases.{fault-kept}
+use Rattle.drawing_svg.specs.Sheet.{pairOf, foot, refusal, misfitSheet, refusedSheet, nothing, sheet, limitIn, sheetBy, scriptSheet}
 
 -- the lengths of trees that are drawn
 pub record Small (source target : List ℕ) : Type 0 where
@@ -35,7 +38,8 @@ pub record Small (source target : List ℕ) : Type 0 where
 -- where there is no map, both are trees
 pub unmapped-trees : (source target : List ℕ) → outcome source target ≡ NoMap → (fault 32 source ≡ 0) × (fault 64 target ≡ 0)
 unfolding outcome
-unmapped-trees source target e = orElse-none (fault 32 source) (fault 64 target) (by-fault (orElse (fault 32 source) (fault 64 target)) (leastOf source target) e)
+unmapped-trees source target e =
+    orElse-none (fault 32 source) (fault 64 target) (by-fault (orElse (fault 32 source) (fault 64 target)) (leastOf source target) e)
   where
     by-fault : (f : ℕ) (a : Option (List ℕ)) → outcomeBy f a ≡ NoMap → f ≡ 0
     by-fault zero a q = refl
@@ -52,7 +56,7 @@ module _ (source target : List ℕ) (limit number : ℕ) (e : number ≡ bothFau
   mapped-small z = small source target (both-trees source target limit (sym e ∙ z))
 
   pub sheet-mapped : (offset : ℕ) → number ≡ 0 → (m : List ℕ) → m ≡ searchMap source target
-      → pairOf source target (take (length source) m) ++ foot ≡ sheet source target limit offset
+      → pairOf source target (take (length source) m) 0 0 ++ foot ≡ sheet source target limit offset
   unfolding sheet
   sheet-mapped offset z m f = rw (eq-eqb (bothFault source target limit) 0 (sym e ∙ z), f)
 
@@ -61,7 +65,13 @@ module _ (source target : List ℕ) (limit number : ℕ) (e : number ≡ bothFau
   unfolding sheet
   sheet-refused offset n o q = rw (ne-eqb (bothFault source target limit) 0 (λ z. n (e ∙ z)), q, e) refl
 
--- The drawings as they are kept give the same sheet as the whole ones: a drawing that is drawn is whole, and a refusal has the same number.
+-- without a map the sheet is that of the case of the diagnosis
+pub misfit-is : (source target : List ℕ) (number offset : ℕ) (r d : Diagnosis) → r ≡ diagnosis source target → r ≡ d
+    → misfitSheet d source target number offset ≡ misfitSheet (diagnosis source target) source target number offset
+misfit-is source target number offset r d e q = ap (λ (x : Diagnosis). misfitSheet x source target number offset) (sym q ∙ e)
+
+-- The drawings as they are kept give the same sheet as the whole ones: a drawing that is
+-- drawn whole is kept whole, a drawing at fault is drawn as far as it was read, and a refusal has the same number.
 pub sheet-kept : (s t : List ℕ) (limit offset : ℕ) → sheet (take 33 s) (take 65 t) limit offset ≡ sheet s t limit offset
 sheet-kept s t limit offset = by-number (bothFault s t limit) refl
   where
@@ -79,7 +89,7 @@ sheet-kept s t limit offset = by-number (bothFault s t limit) refl
     by-outcome : (n : ℕ) → bothFault s t limit ≡ suc n → (o : Outcome) → outcome s t ≡ o → Same
     by-outcome n e Map k = refused-kept n e Map k refl
     by-outcome n e NoMap k = let f = unmapped-trees s t k in rw (prefix-whole 32 s (f .0), prefix-whole 64 t (f .1)) refl
-    by-outcome n e (AtFault m) k = refused-kept n e (AtFault m) k refl
+    by-outcome n e (AtFault m) k = refused-kept n e (AtFault m) k (fault-kept s t (suc n) offset)
 
     by-number : (n : ℕ) → bothFault s t limit ≡ n → Same
     by-number zero e = let all = both-whole s t limit e in rw (all .0, all .1) refl

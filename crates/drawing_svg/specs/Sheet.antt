@@ -2,42 +2,47 @@
 -- chip on the right, a row for each node number and a column for each step below the root.
 use Prim.Native.Nat.{ℕ, zero, suc, _+_, _*_, max}
 use mathlib.Core.List.{List, [], _++_}
-use mathlib.Core.Bool.{cond}
+use mathlib.Core.Bool.{Bool, true, false, _&&_, cond}
 use mathlib.Core.Option.{Option, none, some}
 use lib.ListN.{length, getD, take}
-use lib.Dec.{eqb}
+use lib.Dec.{eqb, leb, ltb}
+use Rattle.topology.specs.Reader.{fault}
+use Rattle.topology.specs.Branch.{branchEnd}
 use Rattle.topology_reduction.specs.Reduced.{passedOver}
 use Rattle.embedding_model.specs.Least.{searchMap}
 use Rattle.embedding_search.specs.Outcomes.{outcome}
 use Rattle.embedding_search.specs.declared.Outcome.{Outcome}
 use Rattle.embedding_search.specs.declared.Outcome.the-variants.{Map, NoMap, Refused as AtFault}
 use Rattle.pair_state.specs.Opening.{bothFault}
-use Rattle.topology_places.specs.Places.{depth, parent, childNumber, sourceRole, roleOf}
+use Rattle.topology_places.specs.Places.{depth, parent, childNumber, trunkFrom, sourceRole, roleOf}
 use Rattle.topology_places.specs.declared.Role.{Role}
 use Rattle.topology_places.specs.declared.Role.the-variants.{Plain, Passed, Image, Between, Unused}
+use Rattle.topology_reading.specs.Accepted.{acceptedBytes}
+use Rattle.embedding_diagnosis.specs.Diagnosis.{diagnosis}
+use Rattle.embedding_diagnosis.specs.declared.Diagnosis.{Diagnosis}
+use Rattle.embedding_diagnosis.specs.declared.Diagnosis.the-variants.{Loads, Refused as TreeFault, TooDeep, TooManyLeaves, NotTogether}
 use Rattle.script_setup.specs.Gathering.{Given, gathered}
 use Rattle.script_setup.specs.declared.Ending.{Ending}
 use Rattle.script_setup.specs.declared.Ending.the-variants.{End, Refused, Compile}
 use Rattle.text_templates.specs.Template.{bytes}
-use Rattle.drawing_svg.specs.Elements.{head, edge, mark, join, note}
+use Rattle.drawing_svg.specs.Elements.{row, head, edge, mark, join, legend}
+use Rattle.drawing_svg.specs.Elements.{note, noteEnd, faultLead, faultText, depthText, leavesText, roomText}
 
--- the column of a node in the tree whose root is at `left`, and its row
+-- the column of a node in the tree whose root is at `left`
 abbrev pub column : ℕ → List ℕ → ℕ → ℕ
-column left tree k = left + 32 * depth tree k
-
-abbrev pub row : ℕ → ℕ
-row k = 40 + 24 * k
+column left tree k = left + 30 * depth tree k
 
 -- the texts of the numbers below n, joined
 abbrev pub each : (ℕ → List ℕ) → ℕ → List ℕ
 each text zero = []
 each text (suc n) = each text n ++ text n
 
--- the edge to node k from its parent, with the child number; nothing for the root
-abbrev pub edgeOf : ℕ → List ℕ → ℕ → List ℕ
+-- The edge to node k, with its child number, down its parent's trunk from the node before it. A node with none above it has no edge.
+unfoldable pub edgeOf : ℕ → List ℕ → ℕ → List ℕ
 edgeOf left tree k =
-    let above = parent tree k in
-    cond (eqb k 0) [] (edge (column left tree above) (row above) (row k) (childNumber tree k))
+    let x = column left tree (parent tree k) in
+    let line = edge x (row (trunkFrom tree k)) (row k) (childNumber tree k) in
+    cond (eqb (depth tree k) 0) [] line
 
 abbrev pub className : Role → List ℕ
 className Plain = bytes "plain"
@@ -46,63 +51,113 @@ className Image = bytes "image"
 className Between = bytes "between"
 className Unused = bytes "unused"
 
--- node k of a tree, in the style of its role, with the edge to it
-unfoldable pub nodeOf : ℕ → List ℕ → Role → ℕ → List ℕ
-nodeOf left tree role k = edgeOf left tree k ++ mark (className role) (column left tree k) (row k) k
+-- The two sides of a sheet: the source's, and the chip's (`true`). Where the root stands, the label above it, and the role of node k.
+abbrev pub leftOf : Bool → ℕ
+leftOf false = 24
+leftOf true = 446
 
--- a tree whose nodes have these roles
-abbrev pub treeOf : ℕ → List ℕ → (ℕ → Role) → List ℕ
-treeOf left tree role = bytes "<g>\n" ++ (each (λ k. nodeOf left tree (role k) k) (length tree) ++ bytes "</g>\n")
+abbrev pub labelOf : Bool → List ℕ
+labelOf false = bytes "<g><text class='label' x='24' y='32'>source</text>\n"
+labelOf true = bytes "<g><text class='label' x='446' y='32'>chip</text>\n"
 
-unfoldable pub sourceOf : List ℕ → List ℕ
-sourceOf source = treeOf 40 source (λ k. sourceRole (getD source k 0))
+abbrev pub roleIn : Bool → List ℕ → List ℕ → ℕ → Role
+roleIn false tree images k = sourceRole (getD tree k 0)
+roleIn true tree images k = roleOf tree images k
 
-unfoldable pub chipOf : List ℕ → List ℕ → List ℕ
-chipOf target images = treeOf 480 target (roleOf target images)
+-- node k of a tree: marked if it is one of the nodes `from` to `to` - 1, else in the style of its role
+unfoldable pub nodeOf : Bool → List ℕ → List ℕ → ℕ → ℕ → ℕ → List ℕ
+nodeOf chip tree images from to k =
+    let x = column (leftOf chip) tree k in
+    let plain = mark (className (roleIn chip tree images k)) x (row k) k in
+    cond (leb from k && ltb k to) (mark (bytes "fault") x (row k) k) plain
+
+-- A tree with its label: all edges, then all nodes, which cover the ends of the edges.
+unfoldable pub treeOf : Bool → List ℕ → List ℕ → ℕ → ℕ → List ℕ
+treeOf chip tree images from to =
+    labelOf chip
+    ++ (each (edgeOf (leftOf chip) tree) (length tree) ++ (each (nodeOf chip tree images from to) (length tree) ++ bytes "</g>\n"))
 
 -- the line from a source node to its image; none from a node that is passed over
 unfoldable pub joinOf : List ℕ → List ℕ → ℕ → ℕ → List ℕ
 joinOf source target a image =
-    cond (eqb image passedOver) [] (join (column 40 source a) (row a) (column 480 target image) (row image))
+    cond (eqb image passedOver) [] (join (column (leftOf false) source a) (row a) (column (leftOf true) target image) (row image) a image)
 
 unfoldable pub joinsOf : List ℕ → List ℕ → List ℕ → List ℕ
 joinsOf source target images =
-    bytes "<g class=\"joins\">\n" ++ (each (λ a. joinOf source target a (getD images a 0)) (length images) ++ bytes "</g>\n")
+    bytes "<g class='joins'>\n" ++ (each (λ a. joinOf source target a (getD images a 0)) (length images) ++ bytes "</g>\n")
 
-abbrev pub titles : List ℕ
-titles = bytes "<text class=\"title\" x=\"40\" y=\"20\">source</text><text class=\"title\" x=\"480\" y=\"20\">chip</text>\n"
-
--- both trees, and the lines from the source's nodes to their images; without a map there are no such lines
-unfoldable pub pairOf : List ℕ → List ℕ → List ℕ → List ℕ
-pairOf source target images =
-    head (row (max (length source) (length target)))
-    ++ (titles ++ (joinsOf source target images ++ (sourceOf source ++ chipOf target images)))
+-- Both trees, and the lines from the source's nodes to their images; without a map there are no such lines. The source's nodes `from` to `to` - 1
+-- are marked.
+unfoldable pub pairOf : List ℕ → List ℕ → List ℕ → ℕ → ℕ → List ℕ
+pairOf source target images from to =
+    let rows = max (length source) (length target) in
+    head rows
+    ++ (joinsOf source target images ++ (treeOf false source images from to ++ (treeOf true target images 0 0 ++ legend rows)))
 
 abbrev pub foot : List ℕ
 foot = bytes "</svg>\n"
 
+-- the end of a sheet with a refusal
 abbrev pub refusedEnd : ℕ → ℕ → List ℕ
-refusedEnd number offset = note number offset ++ foot
+refusedEnd number offset = note number offset ++ noteEnd
 
 -- a refusal alone
 unfoldable pub refusal : ℕ → ℕ → List ℕ
-refusal number offset = head 64 ++ refusedEnd number offset
+refusal number offset = head 0 ++ refusedEnd number offset
 
 -- a script that ends before 04
 unfoldable pub nothing : List ℕ
-nothing = head 64 ++ bytes "<text class=\"note\" x=\"200\" y=\"20\">nothing to draw</text>\n</svg>\n"
+nothing = head 0 ++ bytes "<text class='note' x='24' y='14'>nothing to draw</text>\n</svg>\n"
 
--- the sheet of a refused 04, by the outcome of the search: without a map both trees and the refusal, else the refusal alone
+-- the name of a side
+abbrev pub sideName : Bool → List ℕ
+sideName false = bytes "source"
+sideName true = bytes "chip"
+
+-- the refusal of a tree at fault, in words, and the end of the sheet
+unfoldable pub faultNote : Bool → ℕ → ℕ → ℕ → List ℕ
+faultNote chip number offset node = note number offset ++ (faultLead number node ++ (sideName chip ++ (faultText number node ++ noteEnd)))
+
+-- A tree at fault, as far as it was read (`acceptedBytes`), with the byte at fault marked in its row; and the refusal, in words. Where the bytes end
+-- too early there is no such byte.
+unfoldable pub faultOf : Bool → ℕ → List ℕ → ℕ → ℕ → List ℕ
+faultOf chip limit tree number offset =
+    let n = acceptedBytes limit tree in
+    let part = take (suc n) tree in
+    head (length part) ++ (treeOf chip part [] n (suc n) ++ (legend (length part) ++ faultNote chip number offset n))
+
+-- the sheet of the tree at fault, the source first
+abbrev pub faultSheet : List ℕ → List ℕ → ℕ → ℕ → List ℕ
+faultSheet source target number offset =
+    let chip = faultOf true 64 target number offset in
+    cond (eqb (fault 32 source) 0) chip (faultOf false 32 source number offset)
+
+-- Both trees without a map, with a branch of the source marked, and the start of the note.
+unfoldable pub markedOf : List ℕ → List ℕ → ℕ → ℕ → ℕ → List ℕ
+markedOf source target node number offset = pairOf source target [] node (branchEnd source node) ++ note number offset
+
+-- Both trees without a map: the branch that fits nowhere is marked, and the note says what it lacks. The first two cases do not occur without a map.
+abbrev pub misfitSheet : Diagnosis → List ℕ → List ℕ → ℕ → ℕ → List ℕ
+misfitSheet Loads source target number offset = refusal number offset
+misfitSheet (TreeFault n) source target number offset = refusal number offset
+misfitSheet (TooDeep node needed there) source target number offset =
+    markedOf source target node number offset ++ (depthText node needed there ++ noteEnd)
+misfitSheet (TooManyLeaves node needed there) source target number offset =
+    markedOf source target node number offset ++ (leavesText node needed there ++ noteEnd)
+misfitSheet (NotTogether node) source target number offset = markedOf source target node number offset ++ (roomText node ++ noteEnd)
+
+-- The sheet of a refused 04, by the outcome of the search: without a map both trees and why there is none, for a tree at fault that tree, else the
+-- refusal alone.
 abbrev pub refusedSheet : Outcome → List ℕ → List ℕ → ℕ → ℕ → List ℕ
 refusedSheet Map source target number offset = refusal number offset
-refusedSheet NoMap source target number offset = pairOf source target [] ++ refusedEnd number offset
-refusedSheet (AtFault n) source target number offset = refusal number offset
+refusedSheet NoMap source target number offset = misfitSheet (diagnosis source target) source target number offset
+refusedSheet (AtFault n) source target number offset = faultSheet source target number offset
 
 -- The sheet of the 04 at `offset`: both trees with the least map, or its refusal.
 unfoldable pub sheet : List ℕ → List ℕ → ℕ → ℕ → List ℕ
 sheet source target limit offset =
     let number = bothFault source target limit in
-    let mapped = pairOf source target (take (length source) (searchMap source target)) ++ foot in
+    let mapped = pairOf source target (take (length source) (searchMap source target)) 0 0 ++ foot in
     let unserved = refusedSheet (outcome source target) source target number offset in
     cond (eqb number 0) mapped unserved
 

@@ -1,67 +1,93 @@
 // The sheet: both trees of a pair and the map between them as one page in SVG. The source is on the left and the chip on the right, with a row for
-// each node number and a column for each step below the root.
+// each node number and a column for each step below the root. On either side `chip` says whether it is the chip's.
 mod elements;
 
+use elements::put_depth_text;
 use elements::put_edge;
+use elements::put_fault_lead;
+use elements::put_fault_text;
 use elements::put_head;
 use elements::put_join;
+use elements::put_leaves_text;
+use elements::put_legend;
 use elements::put_mark;
 use elements::put_note;
+use elements::put_room_text;
+use elements::row_of;
+use embedding_diagnosis::Diagnosis;
+use embedding_diagnosis::why;
 use embedding_search::Outcome;
 use script_setup::Drawing;
 use script_setup::Ending;
 use text::put_word;
+use topology::Reading;
+use topology::read;
 use topology::wide;
+use topology_branches::branch_end;
 use topology_places::Role;
 use topology_places::child_number;
 use topology_places::depth;
 use topology_places::parent;
 use topology_places::role_of;
 use topology_places::source_role;
+use topology_places::trunk_from;
+use topology_reading::accepted_bytes;
 use topology_reduction::PASSED_OVER;
 ghost use mathlib.Core.Path.{_≡_};
-ghost use Prim.Native.Nat.{_<_, _≤_, max};
+ghost use Prim.Native.Nat.{_<_, _≤_, min, max};
+ghost use mathlib.Core.Bool.{_&&_};
 ghost use lib.ListN.{length, take};
+ghost use lib.Dec.{leb, ltb};
 ghost use Rattle.text.specs.Text.{Puts};
-ghost use Rattle.drawing_svg.specs.Elements.{mark};
-ghost use Rattle.drawing_svg.specs.Sheet.{className, column, row, edgeOf, nodeOf, sourceOf, chipOf, joinOf, joinsOf, pairOf, refusedEnd, refusal, nothing, sheet, scriptSheet};
+ghost use Rattle.drawing_svg.specs.Elements.{mark, noteEnd};
+ghost use Rattle.drawing_svg.specs.Sheet.{column, each, edgeOf, className, leftOf, labelOf, roleIn, nodeOf, treeOf, joinOf, joinsOf, pairOf};
+ghost use Rattle.drawing_svg.specs.Sheet.{refusedEnd, refusal, nothing, sideName, faultNote, faultOf, faultSheet, markedOf, misfitSheet};
+ghost use Rattle.drawing_svg.specs.Sheet.{sheet, scriptSheet};
+ghost use Rattle.embedding_diagnosis.specs.Diagnosis.{diagnosis};
 
-const SOURCE_LEFT: usize = 40;
+// Where the root of the source and of the chip stands.
+const SOURCE_LEFT: usize = 24;
 
-const CHIP_LEFT: usize = 480;
+const CHIP_LEFT: usize = 446;
 
 // Where a node's column is in the tree whose root is at `left`.
 fn column_of(left: usize, bytes: &[u8], node: usize) -> usize
-    requires { ⌜ (left ≤ 480) × (node < 256) ⌝ }
+    requires { ⌜ (left ≤ 446) × (node < 256) ⌝ }
     ensures { λ r. ⌜ r ≡ column left (now (bytes .entry)) node ⌝ }
 {
-    left + 32 * depth(bytes, node)
+    left + 30 * depth(bytes, node)
 }
 
-fn row_of(node: usize) -> usize
-    requires { ⌜ node < 256 ⌝ }
-    ensures { λ r. ⌜ r ≡ row node ⌝ }
-{
-    40 + 24 * node
-}
-
-// The edge to a node from its parent; nothing for the root.
+// The edge to a node down its parent's trunk; nothing for a node with none above it.
 fn put_edge_of(out: &mut [u8], at: usize, left: usize, bytes: &[u8], node: usize) -> usize
-    requires { ⌜ (left ≤ 480) × (node < 256) ⌝ }
+    requires { ⌜ (left ≤ 446) × (node < 256) ⌝ }
     ensures { λ r. ⌜ Puts (now (out .entry)) at (edgeOf left (now (bytes .entry)) node) (now (out .exit)) r ⌝ }
 {
-    if node == 0 {
+    if depth(bytes, node) == 0 {
         return put_word(out, at, &bytes[..0]);
     }
-    let above = parent(bytes, node);
-    let x = column_of(left, bytes, above);
-    let top = row_of(above);
+    let x = column_of(left, bytes, parent(bytes, node));
+    let from = row_of(trunk_from(bytes, node));
     let y = row_of(node);
     let child = child_number(bytes, node);
-    put_edge(out, at, x, top, y, child)
+    put_edge(out, at, x, from, y, child)
 }
 
-// A node's circle, of the class that its role names.
+// The edges of a tree.
+fn put_edges(out: &mut [u8], at: usize, left: usize, bytes: &[u8]) -> usize
+    requires { ⌜ (left ≤ 446) × (length (now bytes) ≤ 65) ⌝ }
+    ensures { λ r. ⌜ Puts (now (out .entry)) at (each (edgeOf left (now (bytes .entry))) (length (now (bytes .entry)))) (now (out .exit)) r ⌝ }
+{
+    let mut place = put_word(out, at, &bytes[..0]);
+    let mut k = 0;
+    while k < bytes.len() {
+        place = put_edge_of(out, place, left, bytes, k);
+        k += 1;
+    }
+    place
+}
+
+// A node's ellipse, of the class that its role names.
 fn put_role(out: &mut [u8], at: usize, role: Role, x: usize, y: usize, node: usize) -> usize
     ensures { λ r. ⌜ Puts (now (out .entry)) at (mark (className role) x y node) (now (out .exit)) r ⌝ }
 {
@@ -74,45 +100,111 @@ fn put_role(out: &mut [u8], at: usize, role: Role, x: usize, y: usize, node: usi
     }
 }
 
-// A node in the style of its role, with the edge to it.
-fn put_node(out: &mut [u8], at: usize, left: usize, bytes: &[u8], role: Role, node: usize) -> usize
-    requires { ⌜ (left ≤ 480) × (node < 256) ⌝ }
-    ensures { λ r. ⌜ Puts (now (out .entry)) at (nodeOf left (now (bytes .entry)) role node) (now (out .exit)) r ⌝ }
+// Where the root stands: on the source's side of the sheet, or on the chip's.
+fn left_of(chip: bool) -> usize
+    ensures { λ r. ⌜ (r ≡ leftOf chip) × (r ≤ 446) ⌝ }
 {
-    let edge = put_edge_of(out, at, left, bytes, node);
-    let x = column_of(left, bytes, node);
+    if chip { CHIP_LEFT } else { SOURCE_LEFT }
+}
+
+// The role of a node on its side of the sheet.
+fn role_in(chip: bool, bytes: &[u8], images: &[u8], node: usize) -> Role
+    requires { ⌜ node < length (now bytes) ⌝ }
+    ensures { λ r. ⌜ r ≡ roleIn chip (now (bytes .entry)) (now (images .entry)) node ⌝ }
+{
+    if chip {
+        return role_of(bytes, images, node);
+    }
+    source_role(bytes[node])
+}
+
+// Whether `node` is one of the nodes `from` to `to` - 1.
+fn is_marked(from: usize, to: usize, node: usize) -> bool
+    ensures { λ r. ⌜ r ≡ leb from node && ltb node to ⌝ }
+{
+    if from <= node { node < to } else { false }
+}
+
+// A node, marked or in the style of its role.
+fn put_node(
+    out: &mut [u8],
+    at: usize,
+    chip: bool,
+    bytes: &[u8],
+    images: &[u8],
+    from: usize,
+    to: usize,
+    node: usize,
+) -> usize
+    requires { ⌜ (node < length (now bytes)) × (length (now bytes) ≤ 65) ⌝ }
+    ensures { λ r. ⌜ Puts (now (out .entry)) at (nodeOf chip (now (bytes .entry)) (now (images .entry)) from to node) (now (out .exit)) r ⌝ }
+{
+    let x = column_of(left_of(chip), bytes, node);
     let y = row_of(node);
-    put_role(out, edge, role, x, y, node)
+    if is_marked(from, to, node) {
+        return put_mark(out, at, b"fault", x, y, node);
+    }
+    let role = role_in(chip, bytes, images, node);
+    put_role(out, at, role, x, y, node)
 }
 
-// The source's tree, node by node.
-fn put_source(out: &mut [u8], at: usize, source: &[u8]) -> usize
-    requires { ⌜ length (now source) ≤ 64 ⌝ }
-    ensures { λ r. ⌜ Puts (now (out .entry)) at (sourceOf (now (source .entry))) (now (out .exit)) r ⌝ }
+// The nodes of a tree.
+fn put_nodes(
+    out: &mut [u8],
+    at: usize,
+    chip: bool,
+    bytes: &[u8],
+    images: &[u8],
+    from: usize,
+    to: usize,
+) -> usize
+    requires { ⌜ length (now bytes) ≤ 65 ⌝ }
+    ensures { λ r. ⌜ Puts (now (out .entry)) at (each (nodeOf chip (now (bytes .entry)) (now (images .entry)) from to) (length (now (bytes .entry)))) (now (out .exit)) r ⌝ }
 {
-    let mut place = put_word(out, at, b"<g>\n");
+    let mut place = put_word(out, at, &bytes[..0]);
     let mut k = 0;
-    while k < source.len() {
-        let role = source_role(source[k]);
-        place = put_node(out, place, SOURCE_LEFT, source, role, k);
+    while k < bytes.len() {
+        place = put_node(out, place, chip, bytes, images, from, to, k);
         k += 1;
     }
-    put_word(out, place, b"</g>\n")
+    place
 }
 
-// The chip's tree, node by node.
-fn put_chip(out: &mut [u8], at: usize, target: &[u8], images: &[u8]) -> usize
-    requires { ⌜ length (now target) ≤ 64 ⌝ }
-    ensures { λ r. ⌜ Puts (now (out .entry)) at (chipOf (now (target .entry)) (now (images .entry))) (now (out .exit)) r ⌝ }
+// The label above a tree.
+fn put_label(out: &mut [u8], at: usize, chip: bool) -> usize
+    ensures { λ r. ⌜ Puts (now (out .entry)) at (labelOf chip) (now (out .exit)) r ⌝ }
 {
-    let mut place = put_word(out, at, b"<g>\n");
-    let mut k = 0;
-    while k < target.len() {
-        let role = role_of(target, images, k);
-        place = put_node(out, place, CHIP_LEFT, target, role, k);
-        k += 1;
+    if chip {
+        return put_word(
+            out,
+            at,
+            b"<g><text class='label' x='446' y='32'>chip</text>\n",
+        );
     }
-    put_word(out, place, b"</g>\n")
+    put_word(
+        out,
+        at,
+        b"<g><text class='label' x='24' y='32'>source</text>\n",
+    )
+}
+
+// A tree with its label: all edges, then all nodes, which cover the ends of the edges. The nodes `from` to `to` - 1 are marked.
+fn put_tree(
+    out: &mut [u8],
+    at: usize,
+    chip: bool,
+    bytes: &[u8],
+    images: &[u8],
+    from: usize,
+    to: usize,
+) -> usize
+    requires { ⌜ length (now bytes) ≤ 65 ⌝ }
+    ensures { λ r. ⌜ Puts (now (out .entry)) at (treeOf chip (now (bytes .entry)) (now (images .entry)) from to) (now (out .exit)) r ⌝ }
+{
+    let label = put_label(out, at, chip);
+    let edges = put_edges(out, label, left_of(chip), bytes);
+    let nodes = put_nodes(out, edges, chip, bytes, images, from, to);
+    put_word(out, nodes, b"</g>\n")
 }
 
 // The line from a source node to its image; nothing for a node that is passed over.
@@ -135,7 +227,7 @@ fn put_join_of(
     let chip_node = wide(image);
     let over = column_of(CHIP_LEFT, target, chip_node);
     let down = row_of(chip_node);
-    put_join(out, at, x, y, over, down)
+    put_join(out, at, x, y, over, down, node, chip_node)
 }
 
 // The lines from the source nodes to their images.
@@ -143,7 +235,7 @@ fn put_joins(out: &mut [u8], at: usize, source: &[u8], target: &[u8], images: &[
     requires { ⌜ length (now images) ≤ 64 ⌝ }
     ensures { λ r. ⌜ Puts (now (out .entry)) at (joinsOf (now (source .entry)) (now (target .entry)) (now (images .entry))) (now (out .exit)) r ⌝ }
 {
-    let mut place = put_word(out, at, b"<g class=\"joins\">\n");
+    let mut place = put_word(out, at, b"<g class='joins'>\n");
     let mut a = 0;
     while a < images.len() {
         place = put_join_of(out, place, source, target, a, images[a]);
@@ -158,21 +250,38 @@ fn larger(a: usize, b: usize) -> usize
     if a < b { b } else { a }
 }
 
-// Both trees and the lines between them.
-fn put_pair(out: &mut [u8], at: usize, source: &[u8], target: &[u8], images: &[u8]) -> usize
-    requires { ⌜ (length (now source) ≤ 64) × (length (now target) ≤ 64) × (length (now images) ≤ 64) ⌝ }
-    ensures { λ r. ⌜ Puts (now (out .entry)) at (pairOf (now (source .entry)) (now (target .entry)) (now (images .entry))) (now (out .exit)) r ⌝ }
+fn smaller(a: usize, b: usize) -> usize
+    ensures { λ r. ⌜ r ≡ min a b ⌝ }
+{
+    if a < b { a } else { b }
+}
+
+// Both trees and the lines between them. The source's nodes `from` to `to` - 1 are marked.
+fn put_pair(
+    out: &mut [u8],
+    at: usize,
+    source: &[u8],
+    target: &[u8],
+    images: &[u8],
+    from: usize,
+    to: usize,
+) -> usize
+    requires { ⌜ (length (now source) ≤ 65) × (length (now target) ≤ 65) × (length (now images) ≤ 64) ⌝ }
+    ensures { λ r. ⌜ Puts (now (out .entry)) at (pairOf (now (source .entry)) (now (target .entry)) (now (images .entry)) from to) (now (out .exit)) r ⌝ }
 {
     let rows = larger(source.len(), target.len());
-    let head = put_head(out, at, row_of(rows));
-    let titles = put_word(
-        out,
-        head,
-        b"<text class=\"title\" x=\"40\" y=\"20\">source</text><text class=\"title\" x=\"480\" y=\"20\">chip</text>\n",
-    );
-    let joins = put_joins(out, titles, source, target, images);
-    let left = put_source(out, joins, source);
-    put_chip(out, left, target, images)
+    let head = put_head(out, at, rows);
+    let joins = put_joins(out, head, source, target, images);
+    let left = put_tree(out, joins, false, source, images, from, to);
+    let right = put_tree(out, left, true, target, images, 0, 0);
+    put_legend(out, right, rows)
+}
+
+// The end of a note and of the sheet.
+fn put_note_end(out: &mut [u8], at: usize) -> usize
+    ensures { λ r. ⌜ Puts (now (out .entry)) at noteEnd (now (out .exit)) r ⌝ }
+{
+    put_word(out, at, b"</text>\n</svg>\n")
 }
 
 // The end of a sheet, with a refusal before it.
@@ -180,14 +289,14 @@ fn put_refused(out: &mut [u8], at: usize, number: u8, offset: usize) -> usize
     ensures { λ r. ⌜ Puts (now (out .entry)) at (refusedEnd number offset) (now (out .exit)) r ⌝ }
 {
     let note = put_note(out, at, number as usize, offset);
-    put_word(out, note, b"</svg>\n")
+    put_note_end(out, note)
 }
 
 // A refusal alone: its number, and the offset of the command refused.
 fn draw_refusal(number: u8, offset: usize, out: &mut [u8], at: usize) -> usize
     ensures { λ r. ⌜ Puts (now (out .entry)) at (refusal number offset) (now (out .exit)) r ⌝ }
 {
-    let head = put_head(out, at, 64);
+    let head = put_head(out, at, 0);
     put_refused(out, head, number, offset)
 }
 
@@ -195,16 +304,133 @@ fn draw_refusal(number: u8, offset: usize, out: &mut [u8], at: usize) -> usize
 fn draw_nothing(out: &mut [u8], at: usize) -> usize
     ensures { λ r. ⌜ Puts (now (out .entry)) at nothing (now (out .exit)) r ⌝ }
 {
-    let head = put_head(out, at, 64);
+    let head = put_head(out, at, 0);
     put_word(
         out,
         head,
-        b"<text class=\"note\" x=\"200\" y=\"20\">nothing to draw</text>\n</svg>\n",
+        b"<text class='note' x='24' y='14'>nothing to draw</text>\n</svg>\n",
     )
 }
 
+// The name of a side.
+fn put_side(out: &mut [u8], at: usize, chip: bool) -> usize
+    ensures { λ r. ⌜ Puts (now (out .entry)) at (sideName chip) (now (out .exit)) r ⌝ }
+{
+    if chip {
+        return put_word(out, at, b"chip");
+    }
+    put_word(out, at, b"source")
+}
+
+// The refusal of a tree at fault, in words, and the end of the sheet.
+fn put_fault_note(
+    out: &mut [u8],
+    at: usize,
+    chip: bool,
+    number: u8,
+    offset: usize,
+    node: usize,
+) -> usize
+    ensures { λ r. ⌜ Puts (now (out .entry)) at (faultNote chip number offset node) (now (out .exit)) r ⌝ }
+{
+    let note = put_note(out, at, number as usize, offset);
+    let lead = put_fault_lead(out, note, number, node);
+    let side = put_side(out, lead, chip);
+    let text = put_fault_text(out, side, number, node);
+    put_note_end(out, text)
+}
+
+// A tree at fault, as far as it was read, with the byte at fault marked, and the refusal in words.
+fn put_fault(
+    out: &mut [u8],
+    at: usize,
+    chip: bool,
+    bytes: &[u8],
+    limit: usize,
+    number: u8,
+    offset: usize,
+) -> usize
+    requires { ⌜ limit ≤ 64 ⌝ }
+    ensures { λ r. ⌜ Puts (now (out .entry)) at (faultOf chip limit (now (bytes .entry)) number offset) (now (out .exit)) r ⌝ }
+{
+    let node = accepted_bytes(bytes, limit);
+    let rows = smaller(node + 1, bytes.len());
+    let head = put_head(out, at, rows);
+    let tree = put_tree(out, head, chip, &bytes[..rows], &bytes[..0], node, node + 1);
+    let legend = put_legend(out, tree, rows);
+    put_fault_note(out, legend, chip, number, offset, node)
+}
+
+// The sheet of the tree at fault, the source first.
+fn draw_fault(
+    source: &[u8],
+    target: &[u8],
+    number: u8,
+    offset: usize,
+    out: &mut [u8],
+    at: usize,
+) -> usize
+    ensures { λ r. ⌜ Puts (now (out .entry)) at (faultSheet (now (source .entry)) (now (target .entry)) number offset) (now (out .exit)) r ⌝ }
+{
+    match read(source, 32) {
+        Reading::Tree => put_fault(out, at, true, target, 64, number, offset),
+        Reading::Refused(_) => put_fault(out, at, false, source, 32, number, offset),
+    }
+}
+
+// Both trees without a map, with the branch under a node of the source marked, and the start of the note.
+fn put_marked(
+    out: &mut [u8],
+    at: usize,
+    source: &[u8],
+    target: &[u8],
+    node: usize,
+    number: u8,
+    offset: usize,
+) -> usize
+    requires { ⌜ (length (now source) ≤ 65) × (length (now target) ≤ 65) ⌝ }
+    ensures { λ r. ⌜ Puts (now (out .entry)) at (markedOf (now (source .entry)) (now (target .entry)) node number offset) (now (out .exit)) r ⌝ }
+{
+    let end = branch_end(source, node);
+    let pair = put_pair(out, at, source, target, &source[..0], node, end);
+    put_note(out, pair, number as usize, offset)
+}
+
+// The sheet of a pair without a map: both trees, the branch that fits nowhere marked, and what it lacks.
+fn draw_misfit(
+    source: &[u8],
+    target: &[u8],
+    number: u8,
+    offset: usize,
+    out: &mut [u8],
+    at: usize,
+) -> usize
+    requires { ⌜ (length (now source) ≤ 65) × (length (now target) ≤ 65) ⌝ }
+    ensures { λ r. ⌜ Puts (now (out .entry)) at (misfitSheet (diagnosis (now (source .entry)) (now (target .entry))) (now (source .entry)) (now (target .entry)) number offset) (now (out .exit)) r ⌝ }
+{
+    match why(source, target) {
+        Diagnosis::Loads => draw_refusal(number, offset, out, at),
+        Diagnosis::Refused(_) => draw_refusal(number, offset, out, at),
+        Diagnosis::TooDeep(node, needed, there) => {
+            let marked = put_marked(out, at, source, target, node, number, offset);
+            let text = put_depth_text(out, marked, node, needed, there);
+            put_note_end(out, text)
+        }
+        Diagnosis::TooManyLeaves(node, needed, there) => {
+            let marked = put_marked(out, at, source, target, node, number, offset);
+            let text = put_leaves_text(out, marked, node, needed, there);
+            put_note_end(out, text)
+        }
+        Diagnosis::NotTogether(node) => {
+            let marked = put_marked(out, at, source, target, node, number, offset);
+            let text = put_room_text(out, marked, node);
+            put_note_end(out, text)
+        }
+    }
+}
+
 // The sheet of an 04 at `offset`, for a source and a target with a packet limit: both trees with the least map between them; without a map the trees
-// and the refusal; for any other refusal that alone.
+// and why there is none; for a tree at fault that tree and the refusal; for any other refusal that alone.
 fn draw(
     source: &[u8],
     target: &[u8],
@@ -220,17 +446,14 @@ fn draw(
     if number == 0 {
         let opened = both.pair;
         let map = opened.map;
-        let pair = put_pair(out, at, source, target, &map[..source.len()]);
+        let pair = put_pair(out, at, source, target, &map[..source.len()], 0, 0);
         return put_word(out, pair, b"</svg>\n");
     }
     let outcome = both.outcome;
     match outcome {
         Outcome::Map => draw_refusal(number, offset, out, at),
-        Outcome::NoMap => {
-            let pair = put_pair(out, at, source, target, &source[..0]);
-            put_refused(out, pair, number, offset)
-        }
-        Outcome::Refused(_) => draw_refusal(number, offset, out, at),
+        Outcome::NoMap => draw_misfit(source, target, number, offset, out, at),
+        Outcome::Refused(_) => draw_fault(source, target, number, offset, out, at),
     }
 }
 

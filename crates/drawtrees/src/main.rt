@@ -12,6 +12,6 @@ fn walk(input: &mut [u8], text: &mut [u8]) {
 // The sheet fits (`sheet-fits` in drawing_svg/proofs/Lengths).
 fn main() {
     let mut input = [0u8; 65536];
-    let mut text = [0u8; 19358];
+    let mut text = [0u8; 23735];
     walk(&mut input, &mut text);
 }

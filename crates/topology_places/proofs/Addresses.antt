@@ -1,7 +1,7 @@
 -- Depth, parent and child number, which are computed from the bytes by counting, are those of the tree that the bytes draw. A node's depth is the
 -- number of steps of its address (`depth-is`); its address is its parent's followed by its child number (`address-is`); and that child of the parent
--- is the node (`child-is`). So a drawing that gives each node a column by its depth and an edge from its parent, with its child number at it, shows
--- the tree.
+-- is the node (`child-is`). On the parent's trunk the node comes after its elder sibling, or after the parent (`trunk-is`). So a drawing that gives
+-- each node a column by its depth and an edge down its parent's trunk, with its child number at it, shows the tree.
 --
 -- The laws are proved for the code of any tree, and then for bytes without fault. The nodes strictly above a node are its parent and the nodes above
 -- the parent, and no node with a number between the parent's and the node's lies above the node. So the parent is the last node that passes the test
@@ -12,7 +12,7 @@ use Prim.Native.Nat.{ℕ, zero, suc, _+_, _-_, _≤_, _<_}
 use native.Mathlib.Nat.{not-suc-le-zero}
 use native.Mathlib.Numerals.{add-one}
 use native.Mathlib.Omega.{arith}
-use mathlib.Core.Bool.{Bool, true, false, cond}
+use mathlib.Core.Bool.{Bool, true, false, _||_, cond}
 use mathlib.Core.List.{List, [], _∷_, _++_, append-assoc, append-nil}
 use lib.ListN.{length, length-append}
 use lib.Dec.{eqb}
@@ -22,12 +22,12 @@ use Rattle.topology.specs.Address.{Addr, Above, addr, subtree, childOf}
 use Rattle.topology.specs.Reader.{fault, tree}
 use Rattle.topology.specs.Branch.{isAbove}
 use Rattle.topology.proofs.Numbering.{addr-root, addr-in}
-use Rattle.topology.proofs.Ancestry.{above-from, above-to, size-pos, subtree-end, in-height, in-breadth}
+use Rattle.topology.proofs.Ancestry.{above-from, above-to, size-pos, subtree-end, in-height}
 use Rattle.topology.proofs.Children.{HasChild, childOf-lt, childOf-after, childOf-first, childOf-next, subtree-childOf}
 use Rattle.topology.proofs.Children.{Parent, parent as parentOf, addr-under, above-parent}
 use Rattle.topology.proofs.Lookup.{above-code, code-above, valid-size}
 use Rattle.topology.proofs.Reader.{drawn, within}
-use Rattle.topology_places.specs.Places.{counted, depth, parent, childNumber}
+use Rattle.topology_places.specs.Places.{counted, lastOf, depth, parent, childNumber, onTrunk, trunkFrom}
 use Rattle.topology_places.proofs.Passes.{counted-same, counted-still, counted-next, last-is}
 
 pub same-answer : (b c : Bool) → (b ≡ true → c ≡ true) → (c ≡ true → b ≡ true) → b ≡ c
@@ -38,6 +38,16 @@ same-answer false false f g = refl
 not-true : (b : Bool) → (b ≡ true → ⊥) → b ≡ false
 not-true true f = absurd (f refl)
 not-true false f = refl
+
+or-second : (a b : Bool) → b ≡ true → a || b ≡ true
+or-second true b e = refl
+or-second false b e = e
+
+-- the node before child i of node n on n's trunk: child i - 1, or n for the first child
+abbrev pub elder : Topo → ℕ → ℕ → ℕ
+elder t n zero = n
+elder t n (suc zero) = n
+elder t n (suc (suc i)) = childOf t n (suc i)
 
 -- ---- the code of a tree
 
@@ -154,11 +164,49 @@ module _ (t : Topo) where
         (λ j l g. below-child (suc i) elder j l (omega (arith, g)))
         ∙ ap suc (counted-children (suc i) elder)
 
+    -- the nodes strictly below a child of n are not on n's trunk
+    off-trunk : (i : ℕ) (h : HasChild t n i) (a : ℕ) → childOf t n i < a → a < childOf t n i + size (subtree t (childOf t n i))
+        → onTrunk (code t) n a ≡ false
+    off-trunk i h zero l g = absurd (not-suc-le-zero l)
+    off-trunk i h (suc j) l g =
+        let other : eqb (parent (code t) (suc j)) n ≡ false = rw (add-one j) at (below-child i h j (omega arith) g) in
+        rw (ne-eqb (suc j) n (λ e. omega (arith, e, childOf-after t n i h)), other)
+
+    -- before child i on n's trunk stands its elder sibling, or n
+    trunk-after : (i : ℕ) → HasChild t n (suc (suc i)) → lastOf (onTrunk (code t) n) (childOf t n (suc (suc i))) ≡ childOf t n (suc i)
+    trunk-after i h =
+        let elder : HasChild t n (suc i) = (in-tree, omega arith, omega (arith, h .2)) in
+        let c = childOf t n (suc i) in
+        let below : Parent t c = record { node = n; index = suc i; has = elder; child = refl } in
+        let up = parent-code c (childOf-lt t n (suc i) elder) below in
+        let next : childOf t n (suc (suc i)) ≡ c + size (subtree t c) =
+        omega (arith, childOf-next t n (suc i) elder, ap size (subtree-childOf t n (suc i) elder)) in
+        let after = childOf-after t n (suc i) elder in
+        let on : onTrunk (code t) n c ≡ true = or-second (eqb c n) (eqb (parent (code t) c) n) (eq-eqb (parent (code t) c) n up) in
+        last-is (onTrunk (code t) n) c (childOf t n (suc (suc i))) (omega (arith, next, size-pos (subtree t c))) on
+        (λ a l g. off-trunk (suc i) elder a l (omega (arith, g, next)))
+
+    trunk-first : HasChild t n 1 → lastOf (onTrunk (code t) n) (childOf t n 1) ≡ n
+    trunk-first h =
+        last-is (onTrunk (code t) n) n (childOf t n 1) (childOf-after t n 1 h) (rw (eq-eqb n n refl))
+        (λ a l g. absurd (omega (arith, childOf-first t n in-tree)))
+
+    trunk-children : (i : ℕ) → HasChild t n i → lastOf (onTrunk (code t) n) (childOf t n i) ≡ elder t n i
+    trunk-children zero h = absurd (not-suc-le-zero (h .1))
+    trunk-children (suc zero) h = trunk-first h
+    trunk-children (suc (suc i)) h = trunk-after i h
+
   number-code : (k : ℕ) → k < size t → (p : Parent t k) → childNumber (code t) k ≡ p .index
   unfolding childNumber
   number-code k h p =
       rw (parent-code k h p)
       (ap (counted (λ j. eqb (parent (code t) (j + 1)) (p .node))) (sym (p .child)) ∙ counted-children (p .node) (p .has .0) (p .index) (p .has))
+
+  trunk-code : (k : ℕ) → k < size t → (p : Parent t k) → trunkFrom (code t) k ≡ elder t (p .node) (p .index)
+  unfolding trunkFrom
+  trunk-code k h p =
+      rw (parent-code k h p)
+      (ap (lastOf (onTrunk (code t) (p .node))) (sym (p .child)) ∙ trunk-children (p .node) (p .has .0) (p .index) (p .has))
 
 -- ---- bytes without fault
 
@@ -192,13 +240,7 @@ module _ (limit : ℕ) (bytes : List ℕ) (e : fault limit bytes ≡ 0) (k : ℕ
     pub child-is : childOf (tree bytes) (parent bytes k) (childNumber bytes k) ≡ k
     child-is = by-parent (λ n i. childOf (tree bytes) n i ≡ k) (λ p. p .child)
 
-    -- so the child number is at most 8
-    pub number-limit : childNumber bytes k ≤ 8
-    number-limit =
-        by-parent (λ n i. i ≤ 8)
-        (λ p. omega (
-          arith,
-          p .has .2,
-          in-breadth (tree bytes) (addr (tree bytes) (p .node)) (addr-in (tree bytes) (p .node) (p .has .0)),
-          within limit bytes e .children,
-        ))
+    -- The piece of the parent's trunk to a node begins at the node's elder sibling, or at the parent for child 1.
+    pub trunk-is : trunkFrom bytes k ≡ elder (tree bytes) (parent bytes k) (childNumber bytes k)
+    trunk-is =
+        by-parent (λ n i. trunkFrom bytes k ≡ elder (tree bytes) n i) (λ p. rw (drawn limit bytes e) at (trunk-code (tree bytes) k in-tree p))

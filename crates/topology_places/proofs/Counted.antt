@@ -7,7 +7,7 @@ use mathlib.Core.Bool.{Bool, true, false, cond}
 use mathlib.Core.List.{List}
 use lib.Dec.{eqb}
 use Rattle.topology.specs.Branch.{isAbove}
-use Rattle.topology_places.specs.Places.{counted, lastOf, depth, parent}
+use Rattle.topology_places.specs.Places.{counted, lastOf, depth, parent, childNumber, onTrunk, trunkFrom}
 
 -- of the numbers below n those below a are counted
 pub record Counts (test : ℕ → Bool) (n a count : ℕ) : Type 0 where
@@ -77,3 +77,11 @@ depth-most bytes k = counted-most (λ a. isAbove bytes a k) k
 pub parent-most : (bytes : List ℕ) (k : ℕ) → parent bytes k ≤ k
 unfolding parent
 parent-most bytes k = last-most (λ a. isAbove bytes a k) k
+
+pub number-most : (bytes : List ℕ) (k : ℕ) → childNumber bytes k ≤ k
+unfolding childNumber
+number-most bytes k = counted-most (λ j. eqb (parent bytes (j + 1)) (parent bytes k)) k
+
+pub trunk-most : (bytes : List ℕ) (k : ℕ) → trunkFrom bytes k ≤ k
+unfolding trunkFrom
+trunk-most bytes k = last-most (onTrunk bytes (parent bytes k)) k

@@ -3,7 +3,7 @@ use mathlib.Core.Path.{_≡_, refl}
 use Prim.Native.Nat.{ℕ}
 use mathlib.Core.List.{List, [], _∷_, map}
 use Rattle.topology.specs.Branch.{branchEnd, isAbove}
-use Rattle.topology_places.specs.Places.{depth, parent, childNumber, imagesAt, imagesUnder, roleOf}
+use Rattle.topology_places.specs.Places.{depth, parent, childNumber, trunkFrom, imagesAt, imagesUnder, roleOf}
 use Rattle.topology_places.specs.declared.Role.the-variants.{Image, Between, Unused}
 
 abbrev chip : List ℕ
@@ -16,6 +16,7 @@ pub record Placed : Type 0 where
   pub depths : map (depth chip) nodes ≡ 0 ∷ 1 ∷ 2 ∷ 2 ∷ 1 ∷ 2 ∷ 2 ∷ []
   pub parents : map (parent chip) nodes ≡ 0 ∷ 0 ∷ 1 ∷ 1 ∷ 0 ∷ 4 ∷ 4 ∷ []
   pub children : map (childNumber chip) nodes ≡ 0 ∷ 1 ∷ 1 ∷ 2 ∷ 2 ∷ 1 ∷ 2 ∷ []
+  pub trunks : map (trunkFrom chip) nodes ≡ 0 ∷ 0 ∷ 1 ∷ 2 ∷ 1 ∷ 4 ∷ 5 ∷ []
   -- the images of the garden's map, and of a map that does not use node 3
   pub between : roleOf chip (0 ∷ 2 ∷ 4 ∷ 5 ∷ 6 ∷ 3 ∷ []) 1 ≡ Between
   pub image : roleOf chip (0 ∷ 2 ∷ 4 ∷ 5 ∷ 6 ∷ 3 ∷ []) 3 ≡ Image
@@ -24,5 +25,5 @@ pub record Placed : Type 0 where
   pub over-leaf : roleOf (1 ∷ 1 ∷ 0 ∷ []) (255 ∷ 2 ∷ []) 1 ≡ Between
 
 pub placed : Placed
-unfolding branchEnd isAbove depth parent childNumber imagesAt imagesUnder roleOf
-placed = record { depths = refl; parents = refl; children = refl; between = refl; image = refl; unused = refl; over-leaf = refl }
+unfolding branchEnd isAbove depth parent childNumber trunkFrom imagesAt imagesUnder roleOf
+placed = record { depths = refl; parents = refl; children = refl; trunks = refl; between = refl; image = refl; unused = refl; over-leaf = refl }

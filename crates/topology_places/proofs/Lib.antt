@@ -1,4 +1,5 @@
 pub mod Counted
+pub mod Trunks
 pub mod RoleOf
 pub mod Passes
 pub mod Addresses

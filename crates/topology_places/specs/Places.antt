@@ -2,7 +2,7 @@
 -- `proofs/RoleExactly.antt` show what they mean if the bytes are a tree's.
 use Prim.Native.Nat.{ℕ, zero, suc, _+_}
 use mathlib.Core.List.{List}
-use mathlib.Core.Bool.{Bool, cond}
+use mathlib.Core.Bool.{Bool, _||_, cond}
 use lib.ListN.{length, getD}
 use lib.Dec.{eqb}
 use Rattle.topology.specs.Branch.{isAbove}
@@ -30,6 +30,14 @@ parent bytes k = lastOf (λ a. isAbove bytes a k) k
 -- which child of its parent node k is, from 1: how many of the nodes 1 to k have k's parent; 0 for the root
 unfoldable pub childNumber : List ℕ → ℕ → ℕ
 childNumber bytes k = counted (λ j. eqb (parent bytes (j + 1)) (parent bytes k)) k
+
+-- whether node j is on the trunk of a node: it is the node or has it as its parent
+abbrev pub onTrunk : List ℕ → ℕ → ℕ → Bool
+onTrunk bytes above j = eqb j above || eqb (parent bytes j) above
+
+-- the node that comes before node k on its parent's trunk: its elder sibling, or its parent if it is child 1
+unfoldable pub trunkFrom : List ℕ → ℕ → ℕ
+trunkFrom bytes k = lastOf (onTrunk bytes (parent bytes k)) k
 
 -- The role of a source node, by its number of children: an inner node with one child is passed over.
 unfoldable pub sourceRole : ℕ → Role

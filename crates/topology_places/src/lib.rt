@@ -1,10 +1,10 @@
-// The depth, the parent and the child number of a node, and its role for a map.
+// The depth, the parent and the child number of a node, the node before it on its parent's trunk, and its role for a map.
 use topology::wide;
 use topology_branches::is_above;
 ghost use mathlib.Core.Path.{_≡_};
 ghost use Prim.Native.Nat.{_≤_};
 ghost use mathlib.Core.Bool.{cond};
-ghost use Rattle.topology_places.specs.Places.{imagesAt, imagesUnder, childNumber, sourceRole};
+ghost use Rattle.topology_places.specs.Places.{imagesAt, imagesUnder, childNumber, onTrunk, trunkFrom, sourceRole};
 ghost use Rattle.topology_places.specs.Places.{depth as Places·depth, parent as Places·parent, roleOf};
 
 // The role of a node for a map. A source node is plain or passed over. A chip node is plain if there are no images; else it is an image, or lies
@@ -68,6 +68,30 @@ pub fn child_number(bytes: &[u8], node: usize) -> usize
         j += 1;
     }
     count
+}
+
+// Whether `node` is on the trunk of `above`: it is that node or has it as its parent.
+fn on_trunk(bytes: &[u8], above: usize, node: usize) -> bool
+    ensures { λ r. ⌜ r ≡ onTrunk (now (bytes .entry)) above node ⌝ }
+{
+    if node == above {
+        return true;
+    }
+    parent(bytes, node) == above
+}
+
+// The node that comes before `node` on its parent's trunk: its elder sibling, or its parent if it is child 1.
+pub fn trunk_from(bytes: &[u8], node: usize) -> usize
+    ensures { λ r. ⌜ r ≡ trunkFrom (now (bytes .entry)) node ⌝ }
+{
+    let above = parent(bytes, node);
+    let mut found = 0;
+    let mut j = 0;
+    while j < node {
+        found = choose(on_trunk(bytes, above, j), j, found);
+        j += 1;
+    }
+    found
 }
 
 // The role of a source node with `children` children: an inner node with one child is passed over.

@@ -34,8 +34,11 @@ put-pair-requires c κs =
     let both = c .before .before .before .before .before in
     let source = now (both .before .before .before .before .args .source) in
     let opened = opens-both _ _ _ _ (both .«open» .ensures) in
-    let fits = mapped-small _ _ _ _ (opened .refusal) (c .before .before .before .before .if1 .taken) in
-    (omega (arith, fits .source-fits), fits .target-fits, omega (arith, fits .source-fits, length-take (length source) (both .«open» .result .pair .map)))
+    let fits = mapped-small _ _ _ _ (opened .refusal) (c .before .before .before .before .if1 .taken) in (
+      omega (arith, fits .source-fits),
+      omega (arith, fits .target-fits),
+      omega (arith, fits .source-fits, length-take (length source) (both .«open» .result .pair .map)),
+    )
 
 slice-aggregate-put-word : tie.Need-slice-aggregate-put-word
 slice-aggregate-put-word c = search needs
@@ -64,24 +67,18 @@ draw-refusal-requires c κs = search needs
 enum-told-2 : tie.Need-enum-told-2
 enum-told-2 c = search needs
 
-slice-aggregate-put-pair-2 : tie.Need-slice-aggregate-put-pair-2
-slice-aggregate-put-pair-2 c = search needs
-
-put-pair-requires-2 : tie.Need-put-pair-requires-2
-put-pair-requires-2 c κs =
-    let told = c .before .before in
+draw-misfit-requires : tie.Need-draw-misfit-requires
+draw-misfit-requires c κs =
+    let told = c .before in
     let both = told .before .before .before in
     let fits = unmapped-small _ _ _ (opens-both _ _ _ _ (both .«open» .ensures) .outcome) (told .enum-told2 .given .1) in
-    (omega (arith, fits .source-fits), fits .target-fits, omega arith)
-
-put-refused-requires : tie.Need-put-refused-requires
-put-refused-requires c κs = search needs
+    (omega (arith, fits .source-fits), omega (arith, fits .target-fits))
 
 enum-told-3 : tie.Need-enum-told-3
 enum-told-3 c = search needs
 
-draw-refusal-requires-2 : tie.Need-draw-refusal-requires-2
-draw-refusal-requires-2 c κs = search needs
+draw-fault-requires : tie.Need-draw-fault-requires
+draw-fault-requires c κs = search needs
 
 same-length-2 : tie.Need-same-length-2
 same-length-2 c = search needs
@@ -92,7 +89,8 @@ returns-2 c =
     let told = end .before .before in
     let tested = told .before .before in
     let opened = opens-both _ _ _ _ (tested .before .«open» .ensures) in
-    puts-as (sheet-refused _ _ _ _ (opened .refusal) _ (tested .if1 .left) _ (sym (opened .outcome) ∙ told .enum-told .given .1)) (end .draw-refusal .ensures)
+    puts-as (sheet-refused _ _ _ _ (opened .refusal) _ (tested .if1 .left) _ (sym (opened .outcome) ∙ told .enum-told .given .1))
+    (end .draw-refusal .ensures)
 
 same-length-3 : tie.Need-same-length-3
 same-length-3 c = search needs
@@ -100,12 +98,11 @@ same-length-3 c = search needs
 returns-3 : tie.Need-returns-3
 returns-3 c =
     let end = c .before .before in
-    let pair = end .before .before .before .before in
-    let told = pair .before .before .before in
+    let told = end .before .before in
     let tested = told .before .before in
     let opened = opens-both _ _ _ _ (tested .before .«open» .ensures) in
     puts-as (sheet-refused _ _ _ _ (opened .refusal) _ (tested .if1 .left) _ (sym (opened .outcome) ∙ told .enum-told2 .given .1))
-    (puts-then (pair .put-pair2 .ensures) (end .put-refused .ensures))
+    (end .draw-misfit .ensures)
 
 same-length-4 : tie.Need-same-length-4
 same-length-4 c = search needs
@@ -116,7 +113,8 @@ returns-4 c =
     let told = end .before .before in
     let tested = told .before .before in
     let opened = opens-both _ _ _ _ (tested .before .«open» .ensures) in
-    puts-as (sheet-refused _ _ _ _ (opened .refusal) _ (tested .if1 .left) _ (sym (opened .outcome) ∙ told .enum-told3 .given .1)) (end .draw-refusal2 .ensures)
+    puts-as (sheet-refused _ _ _ _ (opened .refusal) _ (tested .if1 .left) _ (sym (opened .outcome) ∙ told .enum-told3 .given .1))
+    (end .draw-fault .ensures)
 
 pub draw-spec : {M : Type 1} → statement M
 draw-spec =
@@ -133,11 +131,9 @@ draw-spec =
     enum-told
     draw-refusal-requires
     enum-told-2
-    slice-aggregate-put-pair-2
-    put-pair-requires-2
-    put-refused-requires
+    draw-misfit-requires
     enum-told-3
-    draw-refusal-requires-2
+    draw-fault-requires
     same-length-2
     returns-2
     same-length-3

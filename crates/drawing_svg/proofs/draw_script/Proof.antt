@@ -33,7 +33,8 @@ same-length c = search needs
 returns : tie.Need-returns
 returns c =
     let told = c .before .before .before .before in
-    puts-as (ends-with-script _ (sym (told .before .before .before .gathered-of .ensures .ending) ∙ told .enum-told .given .1)) (c .before .before .draw-nothing .ensures)
+    puts-as (ends-with-script _ (sym (told .before .before .before .gathered-of .ensures .ending) ∙ told .enum-told .given .1))
+    (c .before .before .draw-nothing .ensures)
 
 same-length-2 : tie.Need-same-length-2
 same-length-2 c = search needs

@@ -7,19 +7,17 @@ use Rattle.drawing_svg.proofs.put_refused.Tie as tie
 put-note-requires : tie.Need-put-note-requires
 put-note-requires c κs = search needs
 
-slice-aggregate-put-word : tie.Need-slice-aggregate-put-word
-slice-aggregate-put-word c = search needs
-
-put-word-requires : tie.Need-put-word-requires
-put-word-requires c κs = search needs
+put-note-end-requires : tie.Need-put-note-end-requires
+put-note-end-requires c κs = search needs
 
 same-length : tie.Need-same-length
 same-length c = search needs
 
 returns : tie.Need-returns
-returns c = puts-then (c .before .before .before .before .before .before .before .put-note .ensures) (c .before .before .put-word .ensures)
+returns c =
+    let end = c .before .before in
+    let start = end .before .before .before .before in
+    puts-then (start .put-note .ensures) (end .put-note-end .ensures)
 
 pub put-refused-spec : {M : Type 1} → statement M
-put-refused-spec =
-    tie.close
-    (tie.spec put-note-requires slice-aggregate-put-word put-word-requires same-length returns)
+put-refused-spec = tie.close (tie.spec put-note-requires put-note-end-requires same-length returns)

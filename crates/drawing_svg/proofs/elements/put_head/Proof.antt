@@ -8,6 +8,18 @@ use Rattle.drawing_svg.proofs.elements.put_head.Tie as tie
 slice-aggregate-put-filled : tie.Need-slice-aggregate-put-filled
 slice-aggregate-put-filled c = search needs
 
+mul-t22 : tie.Need-mul-t22
+mul-t22 c = search needs
+
+add-t23 : tie.Need-add-t23
+add-t23 c = search needs
+
+mul-t24 : tie.Need-mul-t24
+mul-t24 c = search needs
+
+add-t25 : tie.Need-add-t25
+add-t25 c = search needs
+
 slice-aggregate-put-filled-2 : tie.Need-slice-aggregate-put-filled-2
 slice-aggregate-put-filled-2 c = search needs
 
@@ -32,24 +44,52 @@ slice-aggregate-put-word-3 c = search needs
 put-word-requires-3 : tie.Need-put-word-requires-3
 put-word-requires-3 c κs = search needs
 
+slice-aggregate-put-word-4 : tie.Need-slice-aggregate-put-word-4
+slice-aggregate-put-word-4 c = search needs
+
+put-word-requires-4 : tie.Need-put-word-requires-4
+put-word-requires-4 c κs = search needs
+
+slice-aggregate-put-word-5 : tie.Need-slice-aggregate-put-word-5
+slice-aggregate-put-word-5 c = search needs
+
+put-word-requires-5 : tie.Need-put-word-requires-5
+put-word-requires-5 c κs = search needs
+
+slice-aggregate-put-word-6 : tie.Need-slice-aggregate-put-word-6
+slice-aggregate-put-word-6 c = search needs
+
+put-word-requires-6 : tie.Need-put-word-requires-6
+put-word-requires-6 c κs = search needs
+
 same-length : tie.Need-same-length
 same-length c = search needs
 
 returns : tie.Need-returns
 unfolding head opening
 returns c =
-    let third = c .before .before in
-    let second = third .before .before .before .before .before in
-    let first = second .before .before .before .before .before in
-    let start = first .before .before .before .before .before in
+    let end = c .before .before in
+    let looks = end .before .before .before .before .before in
+    let colours = looks .before .before .before .before .before in
+    let joins = colours .before .before .before .before .before in
+    let words = joins .before .before .before .before .before in
+    let shapes = words .before .before .before .before .before in
+    let start = shapes .before .before .before .before .before in
     puts-then (start .put-filled .ensures)
-    (puts-then (first .put-word .ensures) (puts-then (second .put-word2 .ensures) (third .put-word3 .ensures)))
+    (puts-then (shapes .put-word .ensures)
+    (puts-then (words .put-word2 .ensures)
+    (puts-then (joins .put-word3 .ensures)
+    (puts-then (colours .put-word4 .ensures) (puts-then (looks .put-word5 .ensures) (end .put-word6 .ensures))))))
 
 pub put-head-spec : {M : Type 1} → statement M
 put-head-spec =
     tie.close
     (tie.spec
     slice-aggregate-put-filled
+    mul-t22
+    add-t23
+    mul-t24
+    add-t25
     slice-aggregate-put-filled-2
     put-filled-requires
     slice-aggregate-put-word
@@ -58,5 +98,11 @@ put-head-spec =
     put-word-requires-2
     slice-aggregate-put-word-3
     put-word-requires-3
+    slice-aggregate-put-word-4
+    put-word-requires-4
+    slice-aggregate-put-word-5
+    put-word-requires-5
+    slice-aggregate-put-word-6
+    put-word-requires-6
     same-length
     returns)

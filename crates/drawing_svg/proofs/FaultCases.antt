@@ -1,0 +1,117 @@
+-- The sheet of a tree at fault, from what the code finds; and that the bytes which a setup keeps of a tree give the same sheet as all.
+use mathlib.Core.Path.{_≡_, refl, sym, ap, _∙_}
+use Prim.Native.Nat.{ℕ, zero, suc, _+_, _≤_, _<_, min}
+use native.Mathlib.Decide.{decLt}
+use native.Mathlib.Numerals.{add-one}
+use native.Mathlib.Omega.{arith}
+use mathlib.Core.Bool.{Bool, true, false, cond}
+use mathlib.Core.List.{List, [], _∷_, _++_}
+use lib.ListN.{length, take, length-take}
+use lib.Seq.{take-take, take-all}
+use lib.Dec.{eqb, eqb·suc-zero}
+use borrow.Author.Tests.{le-leb, lt-leb, eq-eqb, ne-eqb}
+use Rattle.base.proofs.Tests.{clash}
+use Rattle.text_templates.specs.Template.{bytes, filled}
+use Rattle.topology.specs.Reader.{fault, reading}
+use Rattle.topology.specs.declared.Reading.{Reading}
+use Rattle.topology.specs.declared.Reading.the-variants.{Tree, Refused}
+use Rattle.topology.proofs.PrefixFault.{prefix-fault}
+use Rattle.topology_reading.specs.Accepted.{acceptedBytes}
+use Rattle.topology_reading.proofs.FirstFault.{accepted-few, accepted-kept}
+use Rattle.drawing_svg.specs.Elements.{head, legend, faultLead, faultText}
+use Rattle.drawing_svg.specs.Sheet.{treeOf, sideName, faultNote, faultOf, faultSheet}
+
+-- ---- the words
+
+pub side-chip : (chip : Bool) → chip ≡ true → bytes "chip" ≡ sideName chip
+side-chip chip e = rw e refl
+
+pub side-source : (chip : Bool) → chip ≡ false → bytes "source" ≡ sideName chip
+side-source chip e = rw e refl
+
+module _ (number node : ℕ) where
+  pub lead-tree : number ≤ 2 → filled (bytes ": the ") (node ∷ []) 0 ≡ faultLead number node
+  unfolding faultLead
+  lead-tree h = rw (le-leb number 2 h)
+
+  pub lead-node : 2 < number → filled (bytes ": node # of the ") (node ∷ []) 0 ≡ faultLead number node
+  unfolding faultLead
+  lead-node h = rw (lt-leb number 2 h)
+
+  pub text-1 : number ≡ 1 → filled (bytes " ends before it is complete") (node ∷ []) 0 ≡ faultText number node
+  unfolding faultText
+  text-1 e = rw (eq-eqb number 1 e)
+
+  module _ (a : number ≡ 1 → ⊥) where
+    pub text-2 : number ≡ 2 → filled (bytes " is complete before node #") (node ∷ []) 0 ≡ faultText number node
+    unfolding faultText
+    text-2 e = rw (ne-eqb number 1 a, eq-eqb number 2 e)
+
+    module _ (b : number ≡ 2 → ⊥) where
+      pub text-3 : number ≡ 3 → filled (bytes " is one too many") (node ∷ []) 0 ≡ faultText number node
+      unfolding faultText
+      text-3 e = rw (ne-eqb number 1 a, ne-eqb number 2 b, eq-eqb number 3 e)
+
+      module _ (c : number ≡ 3 → ⊥) where
+        pub text-4 : number ≡ 4 → filled (bytes " has more than 8 children") (node ∷ []) 0 ≡ faultText number node
+        unfolding faultText
+        text-4 e = rw (ne-eqb number 1 a, ne-eqb number 2 b, ne-eqb number 3 c, eq-eqb number 4 e)
+
+        pub text-5 : (number ≡ 4 → ⊥) → filled (bytes " lies 9 steps down") (node ∷ []) 0 ≡ faultText number node
+        unfolding faultText
+        text-5 d = rw (ne-eqb number 1 a, ne-eqb number 2 b, ne-eqb number 3 c, ne-eqb number 4 d)
+
+-- ---- the part that is drawn
+
+module _ (chip : Bool) (limit : ℕ) (tree : List ℕ) (number offset n rows : ℕ) (e : n ≡ acceptedBytes limit tree)
+    (f : rows ≡ min (n + 1) (length tree)) where
+  pub rows-few : rows ≤ suc limit
+  rows-few = omega (arith, e, f, accepted-few limit tree)
+
+  part-is : take rows tree ≡ take (suc (acceptedBytes limit tree)) tree
+  part-is = by-order (decLt (acceptedBytes limit tree) (length tree))
+    where
+      by-order : Dec (acceptedBytes limit tree < length tree) → take rows tree ≡ take (suc (acceptedBytes limit tree)) tree
+      by-order (yes h) = let same : rows ≡ suc (acceptedBytes limit tree) = omega (arith, e, f) in ap (λ (m : ℕ). take m tree) same
+      by-order (no h) =
+          take-all rows tree (omega (arith, e, f)) ∙ sym (take-all (suc (acceptedBytes limit tree)) tree (omega arith))
+
+  rows-are : rows ≡ length (take (suc (acceptedBytes limit tree)) tree)
+  rows-are = omega (arith, e, f, length-take (suc (acceptedBytes limit tree)) tree)
+
+  pub fault-drawn : head rows
+      ++ (treeOf chip (take rows tree) [] n (n + 1)
+      ++ (legend rows ++ faultNote chip number offset n))
+      ≡ faultOf chip limit tree number offset
+  unfolding faultOf
+  fault-drawn = rw (part-is, add-one n, rows-are, e) refl
+
+-- ---- which tree
+
+module _ (source target : List ℕ) (number offset : ℕ) (r : Reading) (e : r ≡ reading (fault 32 source)) where
+  pub fault-chip : r ≡ Tree → faultOf true 64 target number offset ≡ faultSheet source target number offset
+  fault-chip q = by-fault (fault 32 source) (sym e ∙ q)
+    where
+      by-fault : (f : ℕ) → reading f ≡ Tree
+          → faultOf true 64 target number offset ≡ cond (eqb f 0) (faultOf true 64 target number offset) (faultOf false 32 source number offset)
+      by-fault zero q = refl
+      by-fault (suc f) q = absurd (clash (cc))
+
+  pub fault-source : (n : ℕ) → r ≡ Refused n → faultOf false 32 source number offset ≡ faultSheet source target number offset
+  fault-source n q = by-fault (fault 32 source) (sym e ∙ q)
+    where
+      by-fault : (f : ℕ) → reading f ≡ Refused n
+          → faultOf false 32 source number offset ≡ cond (eqb f 0) (faultOf true 64 target number offset) (faultOf false 32 source number offset)
+      by-fault zero q = absurd (clash (cc))
+      by-fault (suc f) q = rw (eqb·suc-zero f) refl
+
+-- ---- the bytes that are kept
+
+part-kept : (chip : Bool) (limit : ℕ) (tree : List ℕ) (number offset : ℕ)
+    → faultOf chip limit (take (suc limit) tree) number offset ≡ faultOf chip limit tree number offset
+unfolding faultOf
+part-kept chip limit tree number offset =
+    rw (accepted-kept limit tree, take-take (suc (acceptedBytes limit tree)) (suc limit) tree (omega (arith, accepted-few limit tree))) refl
+
+pub fault-kept : (s t : List ℕ) (number offset : ℕ) → faultSheet (take 33 s) (take 65 t) number offset ≡ faultSheet s t number offset
+fault-kept s t number offset = rw (prefix-fault 32 s, part-kept true 64 t number offset, part-kept false 32 s number offset) refl

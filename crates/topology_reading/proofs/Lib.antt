@@ -1,0 +1,3 @@
+pub mod ReadCases
+pub mod FirstFault
+pub mod Examples
