@@ -24,7 +24,7 @@ const LEGEND: [(usize, &str, &str); 6] = [
     (198, "image", "image"),
     (273, "between", "above an image"),
     (394, "unused", "unused"),
-    (474, "fault", "at fault"),
+    (474, "fault", "see note"),
 ];
 
 #[derive(Clone, Copy)]

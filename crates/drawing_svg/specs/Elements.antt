@@ -56,7 +56,7 @@ legend rows =
     ++ (bytes "<ellipse class='image' cx='198' rx='9' ry='7'/><text x='211' dy='4'>image</text>\n"
     ++ (bytes "<ellipse class='between' cx='273' rx='9' ry='7'/><text x='286' dy='4'>above an image</text>\n"
     ++ (bytes "<ellipse class='unused' cx='394' rx='9' ry='7'/><text x='407' dy='4'>unused</text>\n"
-    ++ bytes "<ellipse class='fault' cx='474' rx='9' ry='7'/><text x='487' dy='4'>at fault</text></g>\n")))))
+    ++ bytes "<ellipse class='fault' cx='474' rx='9' ry='7'/><text x='487' dy='4'>see note</text></g>\n")))))
 
 -- the start of a note: a refusal's number, and the offset of the command refused
 unfoldable pub note : ℕ → ℕ → List ℕ

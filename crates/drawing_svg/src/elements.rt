@@ -164,7 +164,7 @@ pub(crate) fn put_legend(out: &mut [u8], at: usize, rows: usize) -> usize
     put_word(
         out,
         unused,
-        b"<ellipse class='fault' cx='474' rx='9' ry='7'/><text x='487' dy='4'>at fault</text></g>\n",
+        b"<ellipse class='fault' cx='474' rx='9' ry='7'/><text x='487' dy='4'>see note</text></g>\n",
     )
 }
 
