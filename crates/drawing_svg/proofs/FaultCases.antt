@@ -63,8 +63,7 @@ module _ (number node : ℕ) where
 
 -- ---- the part that is drawn
 
-module _ (chip : Bool) (limit : ℕ) (tree : List ℕ) (number offset n rows : ℕ) (e : n ≡ acceptedBytes limit tree)
-    (f : rows ≡ min (n + 1) (length tree)) where
+module _ (limit : ℕ) (tree : List ℕ) (n rows : ℕ) (e : n ≡ acceptedBytes limit tree) (f : rows ≡ min (n + 1) (length tree)) where
   pub rows-few : rows ≤ suc limit
   rows-few = omega (arith, e, f, accepted-few limit tree)
 
@@ -79,12 +78,11 @@ module _ (chip : Bool) (limit : ℕ) (tree : List ℕ) (number offset n rows : �
   rows-are : rows ≡ length (take (suc (acceptedBytes limit tree)) tree)
   rows-are = omega (arith, e, f, length-take (suc (acceptedBytes limit tree)) tree)
 
-  pub fault-drawn : head rows
-      ++ (treeOf chip (take rows tree) [] n (n + 1)
-      ++ (legend rows ++ faultNote chip number offset n))
+  pub fault-drawn : (chip : Bool) (number offset : ℕ)
+      → head rows ++ (treeOf chip (take rows tree) [] n (n + 1) ++ (legend rows ++ faultNote chip number offset n))
       ≡ faultOf chip limit tree number offset
   unfolding faultOf
-  fault-drawn = rw (part-is, add-one n, rows-are, e) refl
+  fault-drawn chip number offset = rw (part-is, add-one n, rows-are, e) refl
 
 -- ---- which tree
 

@@ -30,7 +30,7 @@ put-head-requires c κs =
     let args = start .args in
     omega (
       arith,
-      rows-few (args .chip) (args .limit) (now (args .bytes)) 0 0 _ _ (node .accepted-bytes .ensures) (rows .smaller .ensures),
+      rows-few (args .limit) (now (args .bytes)) _ _ (node .accepted-bytes .ensures) (rows .smaller .ensures),
       start .pre,
     )
 
@@ -56,7 +56,7 @@ put-tree-requires c κs =
     let args = start .args in
     omega (
       arith,
-      rows-few (args .chip) (args .limit) (now (args .bytes)) 0 0 _ _ (node .accepted-bytes .ensures) (rows .smaller .ensures),
+      rows-few (args .limit) (now (args .bytes)) _ _ (node .accepted-bytes .ensures) (rows .smaller .ensures),
       start .pre,
       length-take (rows .smaller .result) (now (args .bytes)),
     )
@@ -69,7 +69,7 @@ put-legend-requires c κs =
     let args = start .args in
     omega (
       arith,
-      rows-few (args .chip) (args .limit) (now (args .bytes)) 0 0 _ _ (node .accepted-bytes .ensures) (rows .smaller .ensures),
+      rows-few (args .limit) (now (args .bytes)) _ _ (node .accepted-bytes .ensures) (rows .smaller .ensures),
       start .pre,
     )
 
@@ -87,7 +87,7 @@ returns c =
     let top = tree .before .before .before .before .before .before in
     let rows = top .before .before in
     let node = rows .before in
-    puts-as (fault-drawn _ _ _ _ _ _ _ (node .accepted-bytes .ensures) (rows .smaller .ensures))
+    puts-as (fault-drawn _ _ _ _ (node .accepted-bytes .ensures) (rows .smaller .ensures) _ _ _)
     (puts-then (top .put-head .ensures)
     (puts-then (tree .put-tree .ensures) (puts-then (legend .put-legend .ensures) (end .put-fault-note .ensures))))
 
