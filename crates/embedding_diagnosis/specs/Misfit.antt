@@ -24,7 +24,8 @@ unfoldable pub keptAbove : List ℕ → ℕ → ℕ
 keptAbove source s = counted (λ a. isKept source a && isAbove source a s) s
 
 -- Where a source node with so many kept nodes above it may go: the top node to the root, by rule 2, and any other to a target node that has at least
--- as many nodes above it, by rule 4. Every map sends each node where it may go (`goes-there` in proofs/Branches).
+-- as many nodes above it, by rule 4. Every map sends each kept node where it may go, but for a lone leaf, of which 12 is never the answer
+-- (`goes-there` in proofs/Nowhere).
 unfoldable pub mayGo : ℕ → List ℕ → ℕ → Bool
 mayGo above target t = cond (eqb above 0) (eqb t 0) (leb above (depth target t))
 
