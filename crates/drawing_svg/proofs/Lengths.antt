@@ -3,7 +3,7 @@
 -- An element is longest at its largest numbers. A tree that is drawn has at most 33 or 65 bytes, as many as a setup keeps, and no node's depth or
 -- child number exceeds its own number. So columns are at most 984 in the source and 2,366 in the target, and rows at most 560 and 1,072. That is more
 -- than a tree's depth of 8 needs, by a digit here and there.
-use mathlib.Core.Path.{_≡_, refl, sym, _∙_}
+use mathlib.Core.Path.{_≡_, refl, sym, _∙_, ap}
 use mathlib.Core.Logic.{_≢_}
 use Prim.Native.Nat.{ℕ, zero, suc, _+_, _*_, _≤_, _<_, max}
 use native.Mathlib.Nat.{not-suc-le-zero}
@@ -28,17 +28,17 @@ use Rattle.topology_places.proofs.Counted.{depth-most, parent-most, number-most
 use Rattle.topology_reading.specs.Accepted.{acceptedBytes}
 use Rattle.topology_reading.proofs.FirstFault.{accepted-few}
 use Rattle.embedding_model.specs.Least.{searchMap}
-use Rattle.embedding_search.specs.Outcomes.{outcome}
-use Rattle.embedding_search.specs.declared.Outcome.{Outcome}
-use Rattle.embedding_search.specs.declared.Outcome.the-variants.{Map, NoMap, Refused as AtFault}
+use Rattle.embedding_model.proofs.Search.{search-most, faultless, images-pass}
+use Rattle.embedding_outcome.specs.Outcomes.{outcome, numberOf}
+use Rattle.embedding_outcome.proofs.OutcomeNumber.{outcome-number}
+use Rattle.embedding_outcome.specs.declared.Outcome.{Outcome}
+use Rattle.embedding_outcome.specs.declared.Outcome.the-variants.{Map, NoMap, Refused as AtFault}
 use Rattle.embedding_diagnosis.specs.Diagnosis.{diagnosis}
 use Rattle.embedding_diagnosis.specs.declared.Diagnosis.{Diagnosis}
 use Rattle.embedding_diagnosis.specs.declared.Diagnosis.the-variants.{Loads, Refused as TreeFault, TooDeep, TooManyLeaves, NotTogether}
 use Rattle.embedding_diagnosis.proofs.Lacks.{Small, diagnosis-small}
-use Rattle.pair_state.specs.Opening.{bothFault}
-use Rattle.embedding_search.proofs.FoundSimulated.{faultless, images-pass}
-use Rattle.pair_state.proofs.Truncated.{both-found}
-use Rattle.pair_state.proofs.BothFault.{both-most}
+use Rattle.queue_limit.specs.Limit.{limitFault}
+use Rattle.queue_limit.proofs.Limit.{limit-most}
 use Rattle.script_setup.specs.Gathering.{gathered}
 use Rattle.script_setup.proofs.Endings.{Inside, ends-inside}
 use Rattle.script_setup.specs.declared.Ending.{Ending}
@@ -47,8 +47,8 @@ use Rattle.drawing_svg.specs.Elements.{row, opening, head, edge, numbere
 use Rattle.drawing_svg.specs.Elements.{faultStart, faultLead, faultWords, faultText, depthText, leavesText, roomText}
 use Rattle.drawing_svg.specs.Sheet.{column, each, edgeOf, className, leftOf, labelOf, roleIn, nodeOf, treeOf, joinOf, joinsOf, pairOf}
 use Rattle.drawing_svg.specs.Sheet.{foot, refusedEnd, refusal, sideName, faultNote, faultOf, faultSheet, markedOf, misfitSheet}
-use Rattle.drawing_svg.specs.Sheet.{refusedSheet, nothing, sheet, limitIn, sheetBy, scriptSheet}
-use Rattle.drawing_svg.proofs.Sheet.{unmapped-trees, sheet-mapped, sheet-refused}
+use Rattle.drawing_svg.specs.Sheet.{mappedSheet, outcomeSheet, nothing, sheet, limitIn, sheetBy, scriptSheet}
+use Rattle.drawing_svg.proofs.Sheet.{unmapped-trees, mapped-found}
 
 -- ---- the elements at their largest numbers
 
@@ -464,10 +464,10 @@ unfolding nothing
 nothing-length = rw length-append (omega (arith, head-length 0 (omega arith)))
 
 module _ (source target : List ℕ) (limit offset : ℕ) (h : offset < 65536) where
-  mapped-length : bothFault source target limit ≡ 0
+  mapped-length : outcome source target ≡ Map
       → length (pairOf source target (take (length source) (searchMap source target)) 0 0 ++ foot) ≤ 23735
-  mapped-length z =
-      let found = both-found source target limit z in
+  mapped-length q =
+      let found = mapped-found source target q in
       let fine = faultless source target found in
       let E = images-pass source target found in
       let s = valid-length 32 source (fine .0) in
@@ -484,28 +484,27 @@ module _ (source target : List ℕ) (limit offset : ℕ) (h : offset < 65536) wh
         few,
       )
 
-  unmapped-length : (number : ℕ) → number ≤ 22 → outcome source target ≡ NoMap
-      → length (misfitSheet (diagnosis source target) source target number offset) ≤ 23735
-  unmapped-length number n q =
+  unmapped-length : outcome source target ≡ NoMap → length (misfitSheet (diagnosis source target) source target 12 offset) ≤ 23735
+  unmapped-length q =
       let fine = unmapped-trees source target q in
       let s = valid-length 32 source (fine .0) in
       let t = valid-length 64 target (fine .1) in
-      omega (arith, misfit-length source target number offset s t n h (diagnosis source target) (diagnosis-small source target))
+      omega (arith, misfit-length source target 12 offset s t (omega arith) h (diagnosis source target) (diagnosis-small source target))
 
   sheet-length : length (sheet source target limit offset) ≤ 23735
-  sheet-length = by-number (bothFault source target limit) refl
+  unfolding sheet
+  sheet-length = by-outcome (outcome source target) refl
     where
-      refused-sheet : (number : ℕ) → number ≤ 22 → (o : Outcome) → outcome source target ≡ o
-          → length (refusedSheet o source target number offset) ≤ 23735
-      refused-sheet number n Map q = omega (arith, refusal-length number offset n h)
-      refused-sheet number n NoMap q = unmapped-length number n q
-      refused-sheet number n (AtFault f) q = omega (arith, fault-sheet-length source target number offset n h)
+      by-limit : (n : ℕ) → n ≤ 17 → outcome source target ≡ Map → length (mappedSheet n source target offset) ≤ 23735
+      by-limit zero l q = mapped-length q
+      by-limit (suc n) l q = omega (arith, refusal-length (suc n) offset (omega (arith, l)) h)
 
-      by-number : (number : ℕ) → bothFault source target limit ≡ number → length (sheet source target limit offset) ≤ 23735
-      by-number zero z = rw (← (sheet-mapped source target limit 0 (sym z) offset refl (searchMap source target) refl)) (mapped-length z)
-      by-number (suc n) z =
-          rw (← (sheet-refused source target limit (suc n) (sym z) offset (omega arith) (outcome source target) refl))
-          (refused-sheet (suc n) (omega (arith, z, both-most source target limit)) (outcome source target) refl)
+      by-outcome : (o : Outcome) → outcome source target ≡ o → length (outcomeSheet o source target limit offset) ≤ 23735
+      by-outcome Map q = by-limit (limitFault limit) (limit-most limit) q
+      by-outcome NoMap q = unmapped-length q
+      by-outcome (AtFault f) q =
+          let few : f ≤ 12 = rw (← (ap numberOf q)) (rw (outcome-number source target) (search-most source target)) in
+          omega (arith, fault-sheet-length source target f offset (omega (arith, few)) h)
 
 -- No sheet is longer than 23,735 bytes.
 pub sheet-fits : (script : List ℕ) → length script ≤ 65536 → length (scriptSheet script) ≤ 23735

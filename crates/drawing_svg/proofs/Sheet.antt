@@ -1,4 +1,4 @@
--- Which sheet an 04 gets, by the number that refuses it and by the outcome of the search; and that the trees that are drawn are small.
+-- Which sheet an 04 gets, by the outcome of the search; and that the trees that are drawn are small.
 use mathlib.Core.Path.{_≡_, refl, sym, ap, _∙_}
 use mathlib.Core.Logic.{_≢_}
 use Prim.Native.Nat.{ℕ, zero, suc, _≤_}
@@ -7,19 +7,19 @@ use mathlib.Core.List.{List, _++_}
 use mathlib.Core.Bool.{Bool, true, false}
 use mathlib.Core.Option.{Option, none, some}
 use lib.ListN.{length, take}
-use borrow.Author.Tests.{eq-eqb, ne-eqb}
 use Rattle.base.specs.Refusals.{orElse}
 use Rattle.base.proofs.Refusals.{orElse-none}
 use Rattle.base.proofs.Tests.{clash}
 use Rattle.topology.specs.Reader.{fault}
 use Rattle.topology.proofs.Lookup.{valid-length}
 use Rattle.topology.proofs.PrefixFault.{prefix-whole}
-use Rattle.embedding_model.specs.Least.{leastOf, searchMap}
-use Rattle.embedding_search.specs.Outcomes.{outcomeBy, outcome}
-use Rattle.embedding_search.specs.declared.Outcome.{Outcome}
-use Rattle.embedding_search.specs.declared.Outcome.the-variants.{Map, NoMap, Refused as AtFault}
-use Rattle.pair_state.specs.Opening.{bothFault}
-use Rattle.pair_state.proofs.Truncated.{outcome-kept, both-kept, both-trees, both-whole}
+use Rattle.embedding_model.specs.Least.{leastOf, searchFault, searchMap}
+use Rattle.embedding_model.proofs.Search.{faultless}
+use Rattle.embedding_outcome.specs.Outcomes.{outcomeBy, outcome, numberOf}
+use Rattle.embedding_outcome.specs.declared.Outcome.{Outcome}
+use Rattle.embedding_outcome.specs.declared.Outcome.the-variants.{Map, NoMap, Refused as AtFault}
+use Rattle.embedding_outcome.proofs.OutcomeNumber.{outcome-number, outcome-kept}
+use Rattle.queue_limit.specs.Limit.{limitFault}
 use Rattle.embedding_diagnosis.specs.Diagnosis.{diagnosis}
 use Rattle.embedding_diagnosis.specs.declared.Diagnosis.{Diagnosis}
 use Rattle.script_setup.specs.Gathering.{gathered, limitOf, Draws}
@@ -28,7 +28,7 @@ use Rattle.script_setup.specs.declared.Ending.{Ending}
 use Rattle.script_setup.specs.declared.Ending.the-variants.{End, Refused, Compile}
 use Rattle.script_setup.proofs.WithLimit.{limited}
 use Rattle.drawing_svg.proofs.FaultCases.{fault-kept}
-use Rattle.drawing_svg.specs.Sheet.{pairOf, foot, refusal, misfitSheet, refusedSheet, nothing, sheet, limitIn, sheetBy, scriptSheet}
+use Rattle.drawing_svg.specs.Sheet.{pairOf, foot, refusal, misfitSheet, mappedSheet, outcomeSheet, nothing, sheet, limitIn, sheetBy, scriptSheet}
 
 -- the lengths of trees that are drawn
 pub record Small (source target : List ℕ) : Type 0 where
@@ -51,49 +51,54 @@ small source target f = record { source-fits = valid-length 32 source (f .0); ta
 pub unmapped-small : (source target : List ℕ) (o : Outcome) → o ≡ outcome source target → o ≡ NoMap → Small source target
 unmapped-small source target o e q = small source target (unmapped-trees source target (sym e ∙ q))
 
-module _ (source target : List ℕ) (limit number : ℕ) (e : number ≡ bothFault source target limit) where
-  pub mapped-small : number ≡ 0 → Small source target
-  mapped-small z = small source target (both-trees source target limit (sym e ∙ z))
+pub mapped-found : (source target : List ℕ) → outcome source target ≡ Map → searchFault source target ≡ 0
+mapped-found source target e = sym (outcome-number source target) ∙ ap numberOf e
 
-  pub sheet-mapped : (offset : ℕ) → number ≡ 0 → (m : List ℕ) → m ≡ searchMap source target
-      → pairOf source target (take (length source) m) 0 0 ++ foot ≡ sheet source target limit offset
-  unfolding sheet
-  sheet-mapped offset z m f = rw (eq-eqb (bothFault source target limit) 0 (sym e ∙ z), f)
+pub mapped-small : (source target : List ℕ) (o : Outcome) → o ≡ outcome source target → o ≡ Map → Small source target
+mapped-small source target o e q = small source target (faultless source target (mapped-found source target (sym e ∙ q)))
 
-  pub sheet-refused : (offset : ℕ) → number ≢ 0 → (o : Outcome) → outcome source target ≡ o
-      → refusedSheet o source target number offset ≡ sheet source target limit offset
+-- the sheet, by the outcome that the search gave
+module _ (source target : List ℕ) (limit offset : ℕ) (o : Outcome) (e : o ≡ outcome source target) where
+  pub sheet-is : (p : Outcome) → o ≡ p → outcomeSheet p source target limit offset ≡ sheet source target limit offset
   unfolding sheet
-  sheet-refused offset n o q = rw (ne-eqb (bothFault source target limit) 0 (λ z. n (e ∙ z)), q, e) refl
+  sheet-is p q = ap (λ (x : Outcome). outcomeSheet x source target limit offset) (sym q ∙ e)
+
+  module _ (q : o ≡ Map) (number : ℕ) (l : number ≡ limitFault limit) where
+    by-limit : (n : ℕ) → number ≡ n → mappedSheet n source target offset ≡ sheet source target limit offset
+    by-limit n z = ap (λ (f : ℕ). mappedSheet f source target offset) (sym z ∙ l) ∙ sheet-is Map q
+
+    pub sheet-mapped : number ≡ 0 → (m : List ℕ) → m ≡ searchMap source target
+        → pairOf source target (take (length source) m) 0 0 ++ foot ≡ sheet source target limit offset
+    sheet-mapped z m f = rw f (by-limit 0 z)
+
+    pub sheet-limit : number ≢ 0 → refusal number offset ≡ sheet source target limit offset
+    sheet-limit n = by-number number refl
+      where
+        by-number : (k : ℕ) → number ≡ k → refusal number offset ≡ sheet source target limit offset
+        by-number zero z = absurd (n z)
+        by-number (suc k) z = ap (λ (f : ℕ). refusal f offset) z ∙ by-limit (suc k) z
 
 -- without a map the sheet is that of the case of the diagnosis
 pub misfit-is : (source target : List ℕ) (number offset : ℕ) (r d : Diagnosis) → r ≡ diagnosis source target → r ≡ d
     → misfitSheet d source target number offset ≡ misfitSheet (diagnosis source target) source target number offset
 misfit-is source target number offset r d e q = ap (λ (x : Diagnosis). misfitSheet x source target number offset) (sym q ∙ e)
 
--- The drawings as they are kept give the same sheet as the whole ones: a drawing that is
--- drawn whole is kept whole, a drawing at fault is drawn as far as it was read, and a refusal has the same number.
+-- The drawings as they are kept give the same sheet as the whole ones: a drawing that is drawn whole is kept whole, a drawing at fault is drawn as far
+-- as it was read, and the outcome is the same.
 pub sheet-kept : (s t : List ℕ) (limit offset : ℕ) → sheet (take 33 s) (take 65 t) limit offset ≡ sheet s t limit offset
-sheet-kept s t limit offset = by-number (bothFault s t limit) refl
+unfolding sheet
+sheet-kept s t limit offset = rw (outcome-kept s t) (by-outcome (outcome s t) refl)
   where
-    Same : Type 0
-    Same = sheet (take 33 s) (take 65 t) limit offset ≡ sheet s t limit offset
+    Same : Outcome → Type 0
+    Same o = outcomeSheet o (take 33 s) (take 65 t) limit offset ≡ outcomeSheet o s t limit offset
 
-    refused-kept : (n : ℕ) → bothFault s t limit ≡ suc n → (o : Outcome) → outcome s t ≡ o
-        → refusedSheet o (take 33 s) (take 65 t) (suc n) offset ≡ refusedSheet o s t (suc n) offset → Same
-    refused-kept n e o k q =
-        let some : suc n ≢ 0 = λ z. omega arith in
-        sym (sheet-refused (take 33 s) (take 65 t) limit (suc n) (sym (both-kept s t limit ∙ e)) offset some o (outcome-kept s t ∙ k))
-        ∙ q
-        ∙ sheet-refused s t limit (suc n) (sym e) offset some o k
+    whole : (o : Outcome) → (fault 32 s ≡ 0) × (fault 64 t ≡ 0) → Same o
+    whole o f = rw (prefix-whole 32 s (f .0), prefix-whole 64 t (f .1)) refl
 
-    by-outcome : (n : ℕ) → bothFault s t limit ≡ suc n → (o : Outcome) → outcome s t ≡ o → Same
-    by-outcome n e Map k = refused-kept n e Map k refl
-    by-outcome n e NoMap k = let f = unmapped-trees s t k in rw (prefix-whole 32 s (f .0), prefix-whole 64 t (f .1)) refl
-    by-outcome n e (AtFault m) k = refused-kept n e (AtFault m) k (fault-kept s t (suc n) offset)
-
-    by-number : (n : ℕ) → bothFault s t limit ≡ n → Same
-    by-number zero e = let all = both-whole s t limit e in rw (all .0, all .1) refl
-    by-number (suc n) e = by-outcome n e (outcome s t) refl
+    by-outcome : (o : Outcome) → outcome s t ≡ o → Same o
+    by-outcome Map q = whole Map (faultless s t (mapped-found s t q))
+    by-outcome NoMap q = whole NoMap (unmapped-trees s t q)
+    by-outcome (AtFault n) q = fault-kept s t n offset
 
 -- The sheet of a script, by how its setup ends.
 module _ (script : List ℕ) where

@@ -10,10 +10,10 @@ use Rattle.topology.specs.Reader.{fault}
 use Rattle.topology.specs.Branch.{branchEnd}
 use Rattle.topology_reduction.specs.Reduced.{passedOver}
 use Rattle.embedding_model.specs.Least.{searchMap}
-use Rattle.embedding_search.specs.Outcomes.{outcome}
-use Rattle.embedding_search.specs.declared.Outcome.{Outcome}
-use Rattle.embedding_search.specs.declared.Outcome.the-variants.{Map, NoMap, Refused as AtFault}
-use Rattle.pair_state.specs.Opening.{bothFault}
+use Rattle.embedding_outcome.specs.Outcomes.{outcome}
+use Rattle.embedding_outcome.specs.declared.Outcome.{Outcome}
+use Rattle.embedding_outcome.specs.declared.Outcome.the-variants.{Map, NoMap, Refused as AtFault}
+use Rattle.queue_limit.specs.Limit.{limitFault}
 use Rattle.topology_places.specs.Places.{depth, parent, childNumber, trunkFrom, sourceRole, roleOf}
 use Rattle.topology_places.specs.declared.Role.{Role}
 use Rattle.topology_places.specs.declared.Role.the-variants.{Plain, Passed, Image, Between, Unused}
@@ -146,20 +146,20 @@ misfitSheet (TooManyLeaves node needed there) source target number offset =
     markedOf source target node number offset ++ (leavesText node needed there ++ noteEnd)
 misfitSheet (NotTogether node) source target number offset = markedOf source target node number offset ++ (roomText node ++ noteEnd)
 
--- The sheet of a refused 04, by the outcome of the search: without a map both trees and why there is none, for a tree at fault that tree, else the
--- refusal alone.
-abbrev pub refusedSheet : Outcome → List ℕ → List ℕ → ℕ → ℕ → List ℕ
-refusedSheet Map source target number offset = refusal number offset
-refusedSheet NoMap source target number offset = misfitSheet (diagnosis source target) source target number offset
-refusedSheet (AtFault n) source target number offset = faultSheet source target number offset
+-- Both trees with the least map; or, by the number of the limit's refusal, that alone.
+abbrev pub mappedSheet : ℕ → List ℕ → List ℕ → ℕ → List ℕ
+mappedSheet zero source target offset = pairOf source target (take (length source) (searchMap source target)) 0 0 ++ foot
+mappedSheet (suc n) source target offset = refusal (suc n) offset
 
--- The sheet of the 04 at `offset`: both trees with the least map, or its refusal.
+-- The sheet by the outcome of the search: both trees with the map, both trees and why there is none, or the tree at fault.
+abbrev pub outcomeSheet : Outcome → List ℕ → List ℕ → ℕ → ℕ → List ℕ
+outcomeSheet Map source target limit offset = mappedSheet (limitFault limit) source target offset
+outcomeSheet NoMap source target limit offset = misfitSheet (diagnosis source target) source target 12 offset
+outcomeSheet (AtFault n) source target limit offset = faultSheet source target n offset
+
+-- the sheet of the 04 at `offset`
 unfoldable pub sheet : List ℕ → List ℕ → ℕ → ℕ → List ℕ
-sheet source target limit offset =
-    let number = bothFault source target limit in
-    let mapped = pairOf source target (take (length source) (searchMap source target)) 0 0 ++ foot in
-    let unserved = refusedSheet (outcome source target) source target number offset in
-    cond (eqb number 0) mapped unserved
+sheet source target limit offset = outcomeSheet (outcome source target) source target limit offset
 
 -- the limit that a script gave; 0 if it gave none
 abbrev pub limitIn : Option ℕ → ℕ

@@ -16,7 +16,9 @@ use elements::put_room_text;
 use elements::row_of;
 use embedding_diagnosis::Diagnosis;
 use embedding_diagnosis::why;
-use embedding_search::Outcome;
+use embedding_least::least_map;
+use embedding_outcome::Outcome;
+use queue_limit::limit_fault;
 use script_setup::Drawing;
 use script_setup::Ending;
 use text::put_word;
@@ -429,8 +431,8 @@ fn draw_misfit(
     }
 }
 
-// The sheet of an 04 at `offset`, for a source and a target with a packet limit: both trees with the least map between them; without a map the trees
-// and why there is none; for a tree at fault that tree and the refusal; for any other refusal that alone.
+// The sheet of an 04 at `offset`, for a source and a target with a packet limit: both trees with the least map between them, or the limit's refusal;
+// without a map the trees and why there is none; for a tree at fault that tree and the refusal.
 fn draw(
     source: &[u8],
     target: &[u8],
@@ -441,19 +443,20 @@ fn draw(
 ) -> usize
     ensures { λ r. ⌜ Puts (now (out .entry)) at (sheet (now (source .entry)) (now (target .entry)) limit offset) (now (out .exit)) r ⌝ }
 {
-    let both = pair_state::open(source, target, limit);
-    let number = both.refusal;
-    if number == 0 {
-        let opened = both.pair;
-        let map = opened.map;
-        let pair = put_pair(out, at, source, target, &map[..source.len()], 0, 0);
-        return put_word(out, pair, b"</svg>\n");
-    }
-    let outcome = both.outcome;
+    let found = least_map(source, target);
+    let outcome = found.outcome;
     match outcome {
-        Outcome::Map => draw_refusal(number, offset, out, at),
-        Outcome::NoMap => draw_misfit(source, target, number, offset, out, at),
-        Outcome::Refused(_) => draw_fault(source, target, number, offset, out, at),
+        Outcome::Map => {
+            let number = limit_fault(limit);
+            if number != 0 {
+                return draw_refusal(number, offset, out, at);
+            }
+            let map = found.map;
+            let pair = put_pair(out, at, source, target, &map[..source.len()], 0, 0);
+            put_word(out, pair, b"</svg>\n")
+        }
+        Outcome::NoMap => draw_misfit(source, target, 12, offset, out, at),
+        Outcome::Refused(number) => draw_fault(source, target, number, offset, out, at),
     }
 }
 

@@ -7,7 +7,7 @@ use Rattle.topology.specs.Branch.{branchEnd, isAbove, branchFault, branchPart}
 use Rattle.topology_places.specs.Places.{depth}
 use Rattle.embedding_model.specs.Check.{areNodes, rule1, rule2, rule3, rule4}
 use Rattle.embedding_model.specs.Least.{meetsRules, leastMap, leastOf, searchFault}
-use Rattle.embedding_search.specs.Outcomes.{outcome}
+use Rattle.embedding_outcome.specs.Outcomes.{outcome}
 use Rattle.embedding_diagnosis.specs.Misfit.{isKept, keptAbove, mayGo, fitsAt, fitsNowhere, misfit}
 use Rattle.embedding_diagnosis.specs.Diagnosis.{deepest, leaves, mostLeaves, lackAt, diagnosis}
 use Rattle.embedding_diagnosis.specs.declared.Diagnosis.the-variants.{Loads, Refused, TooDeep, TooManyLeaves, NotTogether}

@@ -31,11 +31,11 @@ use Rattle.embedding_model.specs.InnerLeast.{firstLeaf}
 use Rattle.embedding_model.proofs.Least.{least-embedding}
 use Rattle.embedding_model.proofs.LoneLeaf.{lone-least}
 use Rattle.embedding_model.proofs.Passes.{embeds-passes}
-use Rattle.embedding_search.specs.declared.Outcome.{Outcome}
-use Rattle.embedding_search.specs.declared.Outcome.the-variants.{Map, NoMap, Refused as AtFault}
-use Rattle.embedding_search.specs.Outcomes.{outcomeBy, outcome}
-use Rattle.embedding_search.specs.Outcomes.{numberOf as Outcomes·numberOf}
-use Rattle.embedding_search.proofs.FoundSimulated.{outcome-number}
+use Rattle.embedding_outcome.specs.declared.Outcome.{Outcome}
+use Rattle.embedding_outcome.specs.declared.Outcome.the-variants.{Map, NoMap, Refused as AtFault}
+use Rattle.embedding_outcome.specs.Outcomes.{outcomeBy, outcome}
+use Rattle.embedding_outcome.specs.Outcomes.{numberOf as Outcomes·numberOf}
+use Rattle.embedding_outcome.proofs.OutcomeNumber.{outcome-number}
 use Rattle.embedding_diagnosis.specs.Misfit.{isKept, keptAbove, mayGo, fitsNowhere, misfit, FitsNowhere, Misfit}
 use Rattle.embedding_diagnosis.specs.Diagnosis.{greatest, deepest, leaves, leavesUnder, mostLeaves}
 use Rattle.embedding_diagnosis.specs.Diagnosis.{lackAt, diagnosisBy, diagnosis, numberOf, Says}

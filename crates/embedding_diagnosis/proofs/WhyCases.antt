@@ -13,12 +13,12 @@ use Rattle.base.specs.Tests.{all}
 use Rattle.base.proofs.Tests.{and-both, all-false}
 use Rattle.topology.specs.Branch.{branchPart}
 use Rattle.topology_places.specs.Places.{lastOf, depth}
-use Rattle.embedding_search.specs.declared.Searched.{Searched}
-use Rattle.embedding_search.specs.declared.Outcome.{Outcome}
-use Rattle.embedding_search.specs.declared.Outcome.the-variants.{NoMap}
-use Rattle.embedding_search.specs.Outcomes.{numberOf}
-use Rattle.embedding_search.specs.Search.{Searches}
-use Rattle.embedding_search.proofs.FoundSimulated.{searched-number}
+use Rattle.embedding_least.specs.declared.Searched.{Searched}
+use Rattle.embedding_outcome.specs.declared.Outcome.{Outcome}
+use Rattle.embedding_outcome.specs.declared.Outcome.the-variants.{NoMap}
+use Rattle.embedding_outcome.specs.Outcomes.{numberOf}
+use Rattle.embedding_least.specs.Answers.{Searches}
+use Rattle.embedding_least.proofs.Searches.{searched-number}
 use Rattle.embedding_diagnosis.specs.Misfit.{isKept, keptAbove, mayGo, fitsAt, fitsNowhere, misfit}
 use Rattle.embedding_diagnosis.specs.Diagnosis.{greatest, deepest, leavesUnder, mostLeaves, lackAt, diagnosisBy, diagnosis}
 use Rattle.embedding_diagnosis.specs.declared.Diagnosis.{Diagnosis}

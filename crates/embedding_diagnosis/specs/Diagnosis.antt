@@ -9,9 +9,9 @@ use lib.Dec.{eqb, ltb}
 use Rattle.topology.specs.Branch.{branchPart}
 use Rattle.topology.specs.Reader.{tree}
 use Rattle.topology_places.specs.Places.{counted, depth}
-use Rattle.embedding_search.specs.declared.Outcome.{Outcome}
-use Rattle.embedding_search.specs.declared.Outcome.the-variants.{Map, NoMap, Refused as AtFault}
-use Rattle.embedding_search.specs.Outcomes.{outcome}
+use Rattle.embedding_outcome.specs.declared.Outcome.{Outcome}
+use Rattle.embedding_outcome.specs.declared.Outcome.the-variants.{Map, NoMap, Refused as AtFault}
+use Rattle.embedding_outcome.specs.Outcomes.{outcome}
 use Rattle.embedding_model.specs.Rules.{Passes}
 use Rattle.embedding_diagnosis.specs.Misfit.{keptAbove, mayGo, misfit, Misfit}
 use Rattle.embedding_diagnosis.specs.declared.Diagnosis.{Diagnosis}

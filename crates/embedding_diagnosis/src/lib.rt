@@ -2,9 +2,9 @@
 //
 // Each kept node, from the last to the first that fits nowhere, is tried at each target node where it may go, by a search of the one branch in the
 // other: at most 32 * 64 searches, each of smaller trees than the whole. The slowest pair that was found takes 5.5 ms (docs/PERFORMANCE.md).
-use embedding_search::Outcome;
-use embedding_search::number_of;
-use embedding_search::search;
+use embedding_least::least_map;
+use embedding_outcome::Outcome;
+use embedding_outcome::number_of;
 use topology_branches::branch;
 use topology_branches::is_above;
 use topology_places::depth;
@@ -80,7 +80,7 @@ fn fits_at(source: &[u8], target: &[u8], s: usize, t: usize) -> bool
     let mut target_refusal = 0u8;
     let drawing = branch(source, s, &mut source_refusal);
     let chip = branch(target, t, &mut target_refusal);
-    let found = search(drawing, chip);
+    let found = least_map(drawing, chip);
     let outcome = found.outcome;
     number_of(outcome) == 0
 }
@@ -212,7 +212,7 @@ fn lack_at(source: &[u8], target: &[u8], s: usize) -> Diagnosis
 pub fn why(source: &[u8], target: &[u8]) -> Diagnosis
     ensures { λ r. ⌜ r ≡ diagnosis (now (source .entry)) (now (target .entry)) ⌝ }
 {
-    let found = search(source, target);
+    let found = least_map(source, target);
     let outcome = found.outcome;
     match outcome {
         Outcome::Map => Diagnosis::Loads,

@@ -1,4 +1,1 @@
 pub mod FoundSimulated
-pub mod TryAt
-pub mod FirstLeaf
-pub mod Searches

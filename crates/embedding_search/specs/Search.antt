@@ -1,26 +1,22 @@
--- What the search promises (`Searches`). And that both trees answer alike if paths are carried over by its map, which follows from the queue tree's
--- contracts (`FoundSimulated`, proved in `proofs/FoundSimulated.antt`).
+-- What the search promises: its answer (`Searches` in embedding_least/specs/Answers); and, by the queue tree's contracts alone, that both trees answer
+-- alike if paths are carried over by its map (`Simulated`).
 use mathlib.Core.Path.{_≡_}
 use Prim.Native.Nat.{ℕ}
 use mathlib.Core.List.{List}
 use lib.ListN.{length, take}
 use Rattle.topology.specs.Reader.{tree}
 use Rattle.pifo_model.specs.Machine.{Call}
-use Rattle.embedding_model.specs.Least.{searchMap}
 use Rattle.queue_state.specs.State.{Packet}
-use Rattle.queue_state.specs.Opening.{limitFault, openedState}
+use Rattle.queue_limit.specs.Limit.{limitFault}
+use Rattle.queue_state.specs.Opening.{openedState}
 use Rattle.queue_state.specs.Calls.{Serves}
 use Rattle.queue_state.specs.Demand.{History, Execution}
 use Rattle.queue_state.specs.declared.State.{State}
 use Rattle.pair_step.specs.InStep.{ServesCarried}
 use Rattle.pair_step.specs.Alike.{ObservedAlike}
-use Rattle.embedding_search.specs.Outcomes.{outcome, numberOf}
-use Rattle.embedding_search.specs.declared.Searched.{Searched}
-
--- the answer to a search: its outcome, and the least map, or zeros
-pub record Searches (source target : List ℕ) (r : Searched) : Type 0 where
-  pub outcome : r .outcome ≡ outcome source target
-  pub map : r .map ≡ searchMap source target
+use Rattle.embedding_outcome.specs.Outcomes.{numberOf}
+use Rattle.embedding_least.specs.Answers.{Searches}
+use Rattle.embedding_least.specs.declared.Searched.{Searched}
 
 -- the images that the map gives, one for each source node
 abbrev pub images : List ℕ → Searched → List ℕ
@@ -38,7 +34,7 @@ pub record Simulated (source target : List ℕ) (r : Searched) : Type 0 where
       → Execution (ServesCarried (tree source) (tree target) (images source r)) y calls ws
       → ObservedAlike (tree source) (tree target) (images source r) limit calls x y vs ws
 
--- This holds whenever the search answers 0.
-abbrev pub FoundSimulated : Type 0
-FoundSimulated =
-    (source target : List ℕ) (r : Searched) → Searches source target r → numberOf (r .outcome) ≡ 0 → Simulated source target r
+-- the contract of `search`
+pub record Finds (source target : List ℕ) (r : Searched) : Type 0 where
+  pub answer : Searches source target r
+  pub simulated : numberOf (r .outcome) ≡ 0 → Simulated source target r

@@ -43,7 +43,7 @@ pub extern "C" fn linduvar_search(source: &[u8], target: &[u8], out: &mut [u8]) 
 {
     let found = embedding_search::search(source, target);
     let outcome = found.outcome;
-    let number = embedding_search::number_of(outcome);
+    let number = embedding_outcome::number_of(outcome);
     if number != 0 {
         return number;
     }

@@ -32,12 +32,13 @@ use Rattle.pair_model.proofs.ReducedAlike.{places-pass}
 use Rattle.regular_model.specs.Regular.{complete}
 use Rattle.regular_model.proofs.SearchRegular.{search-regular}
 use Rattle.regular_depth.proofs.Answers.{depth-drawn, answers-some}
-use Rattle.embedding_search.specs.Outcomes.{outcome, numberOf}
-use Rattle.embedding_search.specs.Search.{Searches}
-use Rattle.embedding_search.specs.declared.Searched.{Searched}
-use Rattle.embedding_search.proofs.FoundSimulated.{searched-number, found-passes}
+use Rattle.embedding_outcome.specs.Outcomes.{outcome, numberOf}
+use Rattle.embedding_least.specs.Answers.{Searches}
+use Rattle.embedding_least.specs.declared.Searched.{Searched}
+use Rattle.embedding_least.proofs.Searches.{searched-number}
+use Rattle.embedding_search.proofs.FoundSimulated.{found-passes}
 use Rattle.queue_state.specs.State.{Packet, machine}
-use Rattle.queue_state.specs.Opening.{limitFault}
+use Rattle.queue_limit.specs.Limit.{limitFault}
 use Rattle.queue_state.specs.Demand.{History, Execution}
 use Rattle.queue_state.proofs.Satisfiable.{execution-some}
 use Rattle.queue_state.proofs.Execution.{execution-as}

@@ -13,7 +13,8 @@ use Rattle.embedding_model.specs.Rules.{Passes}
 use Rattle.embedding_model.specs.Check.{listFault}
 use Rattle.embedding_model.proofs.MapFault.{passes-list}
 use Rattle.queue_state.specs.State.{Packet, bytes, machine, wellFormed}
-use Rattle.queue_state.specs.Opening.{limitFault, openFault, openedState}
+use Rattle.queue_limit.specs.Limit.{limitFault}
+use Rattle.queue_state.specs.Opening.{openFault, openedState}
 use Rattle.queue_state.specs.declared.State.{State}
 use Rattle.queue_state.proofs.WellFormed.{formed}
 use Rattle.queue_state.proofs.OpenedState.{opens}

@@ -22,9 +22,10 @@ use Rattle.regular_model.specs.Regular.{complete}
 use Rattle.regular_depth.specs.Answers.{Answers}
 use Rattle.regular_depth.specs.declared.Depth.{Depth}
 use Rattle.regular_depth.specs.declared.Depth.the-variants.{Least}
-use Rattle.embedding_search.specs.Outcomes.{numberOf}
-use Rattle.embedding_search.specs.Search.{Searches, images}
-use Rattle.embedding_search.specs.declared.Searched.{Searched}
+use Rattle.embedding_outcome.specs.Outcomes.{numberOf}
+use Rattle.embedding_least.specs.Answers.{Searches}
+use Rattle.embedding_search.specs.Search.{images}
+use Rattle.embedding_least.specs.declared.Searched.{Searched}
 use Rattle.queue_state.specs.State.{Packet, treeOf}
 use Rattle.queue_state.specs.Demand.{Transition, History, Execution}
 use Rattle.queue_push.specs.declared.Path.{Path}

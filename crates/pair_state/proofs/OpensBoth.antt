@@ -9,10 +9,12 @@ use Rattle.base.specs.Refusals.{orElse}
 use Rattle.base.proofs.Refusals.{orElse-none}
 use Rattle.topology.specs.Reader.{fault}
 use Rattle.embedding_model.specs.Least.{searchFault, searchMap}
-use Rattle.embedding_search.specs.Outcomes.{outcome, numberOf}
-use Rattle.embedding_search.specs.declared.Outcome.{Outcome}
-use Rattle.embedding_search.proofs.FoundSimulated.{outcome-number, faultless, images-pass}
-use Rattle.queue_state.specs.Opening.{limitFault, openFault, openedState}
+use Rattle.embedding_outcome.specs.Outcomes.{outcome, numberOf}
+use Rattle.embedding_outcome.specs.declared.Outcome.{Outcome}
+use Rattle.embedding_model.proofs.Search.{faultless, images-pass}
+use Rattle.embedding_outcome.proofs.OutcomeNumber.{outcome-number}
+use Rattle.queue_limit.specs.Limit.{limitFault}
+use Rattle.queue_state.specs.Opening.{openFault, openedState}
 use Rattle.queue_state.proofs.OpenedState.{opens, no-tree}
 use Rattle.queue_state.specs.declared.Opened.{Opened}
 use Rattle.pair_step.proofs.InStep.{opened-in-step}

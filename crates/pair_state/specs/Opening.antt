@@ -9,10 +9,11 @@ use Rattle.base.specs.Refusals.{orElse}
 use Rattle.topology.specs.Reader.{tree}
 use Rattle.pifo_model.specs.Machine.{opened}
 use Rattle.embedding_model.specs.Least.{searchFault, searchMap}
-use Rattle.embedding_search.specs.Outcomes.{outcome}
-use Rattle.embedding_search.specs.declared.Outcome.{Outcome}
+use Rattle.embedding_outcome.specs.Outcomes.{outcome}
+use Rattle.embedding_outcome.specs.declared.Outcome.{Outcome}
+use Rattle.queue_limit.specs.Limit.{limitFault}
 use Rattle.queue_state.specs.State.{machine, wellFormed}
-use Rattle.queue_state.specs.Opening.{limitFault, noTree, openedState}
+use Rattle.queue_state.specs.Opening.{noTree, openedState}
 use Rattle.pair_step.specs.InStep.{InStep}
 use Rattle.pair_state.specs.declared.Pair.{Pair}
 use Rattle.pair_state.specs.declared.PairOpened.{PairOpened}

@@ -1,7 +1,7 @@
 // A pair of trees, the source's and the chip's, opened together with the map of the one into the other. The crate `pair_step` says what holds between
 // the two from call to call.
-use embedding_search::Outcome;
-use embedding_search::number_of;
+use embedding_outcome::Outcome;
+use embedding_outcome::number_of;
 use queue_state::State;
 ghost use mathlib.Core.Path.{_≡_};
 ghost use Rattle.pair_state.specs.Opening.{noPair, pairOpened, openedPair};

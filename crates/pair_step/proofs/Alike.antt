@@ -14,7 +14,8 @@ use Rattle.embedding_model.specs.Rules.{Passes}
 use Rattle.pair_model.specs.Simulation.{serveCarried}
 use Rattle.pair_model.proofs.MachinesAlike.{machines-alike}
 use Rattle.queue_state.specs.State.{Packet, machine, wellFormed}
-use Rattle.queue_state.specs.Opening.{limitFault, openFault, openedState}
+use Rattle.queue_limit.specs.Limit.{limitFault}
+use Rattle.queue_state.specs.Opening.{openFault, openedState}
 use Rattle.queue_state.specs.Calls.{Serves}
 use Rattle.queue_state.specs.Demand.{Transition, History, Execution}
 use Rattle.queue_state.specs.declared.State.{State}

@@ -21,33 +21,15 @@ use Rattle.pifo_model.specs.Tree.{empty, held, well}
 use Rattle.pifo_model.specs.Machine.{opened}
 use Rattle.pifo_model.proofs.Numbered.{empty-assemble, assemble-same}
 use Rattle.pifo_model.proofs.Runs.{opened-sound}
+use Rattle.queue_limit.specs.Limit.{limitFault}
+use Rattle.queue_limit.proofs.Limit.{limit-good, limit-range}
 use Rattle.queue_state.specs.State.{Packet, entryOf, startOf, queueIn, queues, bytes, treeOf, machine, wellFormed}
-use Rattle.queue_state.specs.Opening.{limitFault, openFault, emptyState, noTree, openedBy, openedState, Opens}
+use Rattle.queue_state.specs.Opening.{openFault, emptyState, noTree, openedBy, openedState, Opens}
 use Rattle.queue_state.specs.declared.Entry.{Entry as CodeEntry}
 use Rattle.queue_state.specs.declared.State.{State}
 use Rattle.queue_state.proofs.WellFormed.{form, unformed}
 
 -- ---- the refusal
-
-pub limit-none : (limit : ℕ) → limit ≡ 0 → 17 ≡ limitFault limit
-limit-none limit e = sym (ap limitFault e)
-
-pub limit-over : (limit : ℕ) → 256 < limit → 17 ≡ limitFault limit
-limit-over limit h = ap (λ (b : Bool). cond b 0 17) (sym (by-least (leb 1 limit)))
-  where
-    by-least : (b : Bool) → b && leb limit 256 ≡ false
-    by-least true = lt-leb limit 256 h
-    by-least false = refl
-
-pub limit-good : (limit : ℕ) → limit ≢ 0 → limit ≤ 256 → 0 ≡ limitFault limit
-limit-good limit z h = ap (λ (b : Bool). cond b 0 17) (sym (and-both (le-leb 1 limit (omega arith)) (le-leb limit 256 h)))
-
-limit-range : (limit : ℕ) → limitFault limit ≡ 0 → (1 ≤ limit) × (limit ≤ 256)
-limit-range limit e = by-test (leb 1 limit && leb limit 256) refl e
-  where
-    by-test : (b : Bool) → leb 1 limit && leb limit 256 ≡ b → _≡_ {A = ℕ} (cond b 0 17) 0 → (1 ≤ limit) × (limit ≤ 256)
-    by-test true t x = let p = and-parts (leb 1 limit) (leb limit 256) t in (leb-true 1 limit (p .0), leb-true limit 256 (p .1))
-    by-test false t x = absurd (omega arith)
 
 pub read-fault : (bs : List ℕ) (limit : ℕ) (x : Reading) (n : ℕ) → x ≡ reading (fault 64 bs) → x ≡ Refused n → n ≡ openFault bs limit
 unfolding openFault

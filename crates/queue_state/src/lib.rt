@@ -67,7 +67,7 @@ pub fn refusal(bytes: &[u8], limit: usize) -> u8
     ensures { λ r. ⌜ r ≡ openFault (now (bytes .entry)) limit ⌝ }
 {
     match topology::read(bytes, TARGET_NODES) {
-        Reading::Tree => opening::limit_refusal(limit),
+        Reading::Tree => queue_limit::limit_fault(limit),
         Reading::Refused(number) => number,
     }
 }

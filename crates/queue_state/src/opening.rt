@@ -1,4 +1,4 @@
-// The opening of a tree: the limit's refusal, and the state with no entries.
+// The opening of a tree: the state with no entries.
 use super::Entry;
 use super::Frame;
 use super::Item;
@@ -7,19 +7,7 @@ ghost use mathlib.Core.Path.{_≡_};
 ghost use Prim.Native.Nat.{_≤_, _-_};
 ghost use mathlib.Core.List.{_++_};
 ghost use lib.ListN.{length, replicate};
-ghost use Rattle.queue_state.specs.Opening.{limitFault, emptyState};
-
-pub(crate) fn limit_refusal(limit: usize) -> u8
-    ensures { λ r. ⌜ r ≡ limitFault limit ⌝ }
-{
-    if limit == 0 {
-        return 17;
-    }
-    if 256 < limit {
-        return 17;
-    }
-    0
-}
+ghost use Rattle.queue_state.specs.Opening.{emptyState};
 
 // The bytes in the first places of an array, the others 0.
 pub(crate) fn copied(bytes: &[u8]) -> [u8; 64]

@@ -12,6 +12,7 @@ use Rattle.base.proofs.Tests.{clash}
 use Rattle.topology.specs.Reader.{tree}
 use Rattle.pifo_model.specs.Machine.{opened}
 use Rattle.embedding_model.specs.Least.{searchMap}
+use Rattle.embedding_model.proofs.Search.{map-room}
 use Rattle.queue_state.specs.State.{machine}
 use Rattle.pair_step.specs.InStep.{InStep}
 use Rattle.pair_state.specs.Opening.{bothFault, OpensBoth}
@@ -28,7 +29,7 @@ use Rattle.script_setup.specs.declared.Gathered.{Gathered}
 use Rattle.script_run.specs.declared.Progress.{Progress}
 use Rattle.script_run.specs.Output.{textOf}
 use Rattle.script_run.specs.InnerParts.{openingText, drawn, chip, startText, Fits, Comes, Begun, Stops}
-use Rattle.pair_state.proofs.Truncated.{both-kept, both-whole, both-few, map-room}
+use Rattle.pair_state.proofs.Truncated.{both-kept, both-whole, both-few}
 use Rattle.script_run.proofs.Stops.{stops-opening}
 
 module _ (rest : List Read) where

@@ -23,11 +23,11 @@ use Rattle.pifo_model.proofs.Runs.{served as serve-sound, opened-sound}
 use Rattle.pifo_model.proofs.Answers.{accepted-held, serve-number}
 use Rattle.embedding_model.specs.Least.{searchFault, searchMap}
 use Rattle.queue_state.specs.State.{Packet}
-use Rattle.queue_state.specs.Opening.{limitFault}
+use Rattle.queue_limit.specs.Limit.{limitFault}
 use Rattle.pair_state.specs.Opening.{bothFault}
 use Rattle.pair_state.proofs.BothFault.{both-most}
 use Rattle.embedding_model.proofs.Passes.{image-fits}
-use Rattle.embedding_search.proofs.FoundSimulated.{faultless, images-pass}
+use Rattle.embedding_model.proofs.Search.{faultless, images-pass}
 use Rattle.text.specs.Text.{decimal, hex8}
 use Rattle.script_lines.specs.Lines.{allSpaced, inLine, outLine, mapLine}
 use Rattle.text.proofs.Digits.{length-decimal, length-hex8}

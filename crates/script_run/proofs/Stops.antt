@@ -12,7 +12,7 @@ use Rattle.base.specs.Refusals.{orElse}
 use Rattle.topology.specs.Reader.{fault}
 use Rattle.topology.proofs.FaultMost.{fault-most}
 use Rattle.embedding_model.specs.Least.{noneFault, leastOf, searchFault}
-use Rattle.queue_state.specs.Opening.{limitFault}
+use Rattle.queue_limit.specs.Limit.{limitFault}
 use Rattle.pair_state.specs.Opening.{bothFault}
 use Rattle.script_run.specs.Execute.{refusedBy, stops}
 

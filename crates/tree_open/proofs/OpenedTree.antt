@@ -7,7 +7,8 @@ use lib.ListN.{replicate}
 use Rattle.base.specs.Refusals.{orElse}
 use Rattle.base.proofs.Refusals.{orElse-none}
 use Rattle.topology.specs.Reader.{fault, tree}
-use Rattle.queue_state.specs.Opening.{limitFault, openFault, openedState}
+use Rattle.queue_limit.specs.Limit.{limitFault}
+use Rattle.queue_state.specs.Opening.{openFault, openedState}
 use Rattle.queue_state.specs.declared.State.{State}
 use Rattle.queue_state.specs.declared.Opened.{Opened}
 use Rattle.discipline_model.specs.Figure.{noRule, ruleFault, fresh}

@@ -1,8 +1,8 @@
 -- `linduvar_search` meets its contract: one law for each of its three answers.
 use mathlib.Core.Path.{sym, ap, _∙_}
 use borrow.Author.Needs.{needs}
-use Rattle.embedding_search.specs.Outcomes.{numberOf}
-use Rattle.embedding_search.proofs.FoundSimulated.{outcome-number}
+use Rattle.embedding_outcome.specs.Outcomes.{numberOf}
+use Rattle.embedding_outcome.proofs.OutcomeNumber.{outcome-number}
 use Rattle.exports_maps.proofs.Maps.{search-refused, search-no-room, search-room}
 use Rattle.exports_maps.proofs.linduvar_search.Statement.{statement}
 use Rattle.exports_maps.proofs.linduvar_search.Tie as tie
@@ -16,14 +16,14 @@ number-of-requires c κs = search needs
 returns : tie.Need-returns
 returns c =
     let search = c .before .before .search in
-    let number = c .before .number-of .ensures ∙ ap numberOf (search .ensures .outcome) ∙ outcome-number _ _ in
+    let number = c .before .number-of .ensures ∙ ap numberOf (search .ensures .answer .outcome) ∙ outcome-number _ _ in
     search-refused _ _ _ _ number (c .if1 .taken)
 
 returns-2 : tie.Need-returns-2
 returns-2 c =
     let tested = c .before in
     let search = tested .before .before .search in
-    let number = tested .before .number-of .ensures ∙ ap numberOf (search .ensures .outcome) ∙ outcome-number _ _ in
+    let number = tested .before .number-of .ensures ∙ ap numberOf (search .ensures .answer .outcome) ∙ outcome-number _ _ in
     search-no-room _ _ _ (sym number ∙ tested .if1 .left) (c .if2 .taken)
 
 put-map-requires : tie.Need-put-map-requires
@@ -38,8 +38,8 @@ returns-3 c =
     let room = put .before .before .before in
     let tested = room .before in
     let search = tested .before .before .search in
-    let number = tested .before .number-of .ensures ∙ ap numberOf (search .ensures .outcome) ∙ outcome-number _ _ in
-    search-room _ _ _ (sym number ∙ tested .if1 .left) (room .if2 .left) _ _ (search .ensures .map) (put .put-map .ensures)
+    let number = tested .before .number-of .ensures ∙ ap numberOf (search .ensures .answer .outcome) ∙ outcome-number _ _ in
+    search-room _ _ _ (sym number ∙ tested .if1 .left) (room .if2 .left) _ _ (search .ensures .answer .map) (put .put-map .ensures)
 
 pub linduvar-search-spec : {M : Type 1} → statement M
 linduvar-search-spec =

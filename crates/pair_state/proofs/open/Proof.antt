@@ -17,7 +17,7 @@ refused-requires c κs = search needs
 returns : tie.Need-returns
 returns c =
     let tested = c .before in
-    let found = tested .before .before .search .ensures in
+    let found = tested .before .before .search .ensures .answer in
     let number = number-is _ _ _ _ (found .outcome) (tested .before .number-of .ensures) in
     c .refused .ensures ∙ search-refused _ _ _ _ (found .outcome) _ number (tested .if1 .taken)
 
@@ -31,7 +31,7 @@ returns-2 : tie.Need-returns-2
 returns-2 c =
     let drawn = c .before .before in
     let tested = drawn .before in
-    let found = tested .before .before .search .ensures in
+    let found = tested .before .before .search .ensures .answer in
     let number = number-is _ _ _ _ (found .outcome) (tested .before .number-of .ensures) in
     c .refused2 .ensures
     ∙ limit-refused _ _ _ _ (found .outcome) (sym number ∙ tested .if1 .left) _ (drawn .«open» .ensures) (c .before .if2 .taken)
@@ -44,7 +44,7 @@ returns-3 c =
     let chip = c .before .before .before in
     let drawn = chip .before .before in
     let tested = drawn .before in
-    let found = tested .before .before .search .ensures in
+    let found = tested .before .before .search .ensures .answer in
     let number = number-is _ _ _ _ (found .outcome) (tested .before .number-of .ensures) in
     both-opened _ _ _ _ (found .outcome) (sym number ∙ tested .if1 .left) _ (drawn .«open» .ensures) (chip .before .if2 .left) _
     (chip .open2 .ensures) _ (found .map)

@@ -1,0 +1,2 @@
+pub mod TryAt
+pub mod Searches

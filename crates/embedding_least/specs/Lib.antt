@@ -1,0 +1,2 @@
+pub mod InnerImages
+pub mod Answers
