@@ -1,9 +1,12 @@
-//! Checks what the documents cite. It fails where a link leads to no file, where a name is not in the file that a sentence cites it from, where a
+//! Checks what the documents cite. It fails where a path or a link leads to no file, where a name is not in the file that a sentence cites it from, where a
 //! crate is missing from the README, and where a definition that a reader has to believe rests on a file of working words (specs/Inner*.antt).
 //!
 //!     rustc --edition 2021 -o /tmp/documents .ci/documents.rs && /tmp/documents
+//!
+//! A file is cited by its path in backquotes, without the leading `crates/` and without the ending: `topology/specs/Tree` is
+//! crates/topology/specs/Tree.antt. A folder stands for the file with a fixed name in it: `topology/src` for lib.rt, `gatewalk/src` for main.rt,
+//! `topology/proofs/read` for Proof.antt. Names are cited as "`a`, `b` in `topology/specs/Tree`", or as "`a` in [words](path)".
 
-use std::collections::{HashMap, HashSet};
 use std::fs;
 use std::path::{Path, PathBuf};
 use std::process::exit;
@@ -48,61 +51,132 @@ fn read(path: &Path) -> String {
     fs::read_to_string(path).unwrap_or_else(|error| panic!("{}: {error}", path.display()))
 }
 
-/// Links are written `[words](path)`, or `[words]` with a line `[words]: path` at the document's end. Names are cited as "`a`, `b` in [words]".
+/// Backquotes divide a document, so that every second piece is a code span. The notes in docs/changes name files as they were then: of them only the
+/// links are checked.
 fn check_document(document: &Path, faults: &mut Vec<String>) {
-    let whole = read(document);
-    let folder = document.parent().expect("a file has a folder");
-    let references: HashMap<&str, &str> = whole
-        .lines()
-        .filter_map(|line| line.strip_prefix('[')?.split_once("]: "))
+    let text = read(document);
+    let pieces: Vec<&str> = text.split('`').collect();
+    let is_note = document.starts_with("./docs/changes");
+    for (index, line) in text.lines().enumerate() {
+        if line.matches('`').count() % 2 == 1 {
+            let place = index + 1;
+            faults.push(format!(
+                "{}:{place}: an odd number of backquotes",
+                document.display()
+            ));
+        }
+    }
+    let mut line = 1;
+    for (at, piece) in pieces.iter().enumerate() {
+        let mut fault = |lines_down: usize, words: String| {
+            let place = line + lines_down;
+            faults.push(format!("{}:{place}: {words}", document.display()));
+        };
+        if at % 2 == 1 && is_path(piece) && !is_note {
+            let names = names(pieces[at - 1].trim() == "in", &pieces[..at - 1]);
+            let missing = file_of(piece).and_then(|file| all_stand_in(&names, &file));
+            missing.unwrap_or_else(|words| fault(0, words));
+        }
+        for (end, _) in piece.match_indices(']').filter(|_| at % 2 == 0) {
+            let cites = piece.trim_start().starts_with("in [") && !piece[..end].contains(']');
+            let names = names(cites, &pieces[..at]);
+            let missing = match link_at(document, piece, end) {
+                Ok(Some(file)) => all_stand_in(&names, &file),
+                other => other.map(|_| ()),
+            };
+            missing.unwrap_or_else(|words| fault(piece[..end].matches('\n').count(), words));
+        }
+        line += piece.matches('\n').count();
+    }
+}
+
+/// Whether a code span is a path of the repository: it has a `/` and no blank, and begins with a crate or with a folder of the repository, but not with
+/// target/. What goes on like a crate's path is one too, so that a crate that is not there is noticed.
+fn is_path(span: &str) -> bool {
+    let parts: Vec<&str> = span.split('/').collect();
+    let in_crate = ["src", "specs", "proofs", "must-fail"];
+    parts.len() > 1
+        && !span.contains(char::is_whitespace)
+        && !["", "..", "target"].contains(&parts[0])
+        && (Path::new(parts[0]).is_dir()
+            || Path::new("crates").join(parts[0]).is_dir()
+            || in_crate.contains(&parts[1]))
+}
+
+/// The one file, or folder, that a path in a code span means.
+fn file_of(span: &str) -> Result<PathBuf, String> {
+    let endings = ["", ".antt", ".rt", ".rs", ".edit"];
+    let found: Vec<PathBuf> = ["", "crates/"]
+        .iter()
+        .flat_map(|front| endings.map(|ending| PathBuf::from(format!("{front}{span}{ending}"))))
+        .filter(|path| path.exists())
         .collect();
-    let is_reference = |line: &&str| line.starts_with('[') && line.contains("]: ");
-    let sentences: Vec<&str> = whole.lines().filter(|line| !is_reference(line)).collect();
-    let text = sentences.join("\n");
-    let used: HashSet<String> = text
-        .match_indices('[')
-        .filter_map(|(at, _)| words_at(&text, at))
-        .collect();
-    for words in references.keys().filter(|words| !used.contains(**words)) {
-        faults.push(format!(
-            "{}: no sentence uses the link [{words}]",
-            document.display()
+    match found.as_slice() {
+        [path] => Ok(["lib.rt", "main.rt", "Proof.antt"]
+            .iter()
+            .map(|name| path.join(name))
+            .find(|file| file.exists())
+            .unwrap_or(path.clone())),
+        [] => Err(format!("`{span}` is not there")),
+        _ => Err(format!("`{span}` is the path of more than one file")),
+    }
+}
+
+/// Where the link leads whose words end at an index of a text. A link out of the repository leads to none of its files.
+fn link_at(document: &Path, text: &str, end: usize) -> Result<Option<PathBuf>, String> {
+    let words = text[..end].rsplit('[').next().unwrap_or("");
+    let Some((path, _)) = text[end + 1..]
+        .strip_prefix('(')
+        .and_then(|rest| rest.split_once(')'))
+    else {
+        return if words.contains('/') {
+            Err(format!("[{words}] has no path"))
+        } else {
+            Ok(None)
+        };
+    };
+    let path = path.split('#').next().unwrap_or("");
+    let target = document.with_file_name("").join(path);
+    if path.is_empty() || path.starts_with("http") {
+        Ok(None)
+    } else if target.exists() {
+        Ok(Some(target))
+    } else {
+        Err(format!("{path} is not there"))
+    }
+}
+
+/// The names in "`a`, `b` and `c`" at the end of the pieces of a text, if they are cited from a file.
+fn names<'a>(cites: bool, pieces: &[&'a str]) -> Vec<&'a str> {
+    let is_name = |span: &str| !is_path(span) && !span.contains(char::is_whitespace);
+    let mut names = Vec::new();
+    let mut goes_on = cites;
+    for pair in pieces.rchunks_exact(2) {
+        if !goes_on || !is_name(pair[1]) {
+            break;
+        }
+        names.push(pair[1]);
+        goes_on = [",", "and", ", and"].contains(&pair[0].trim());
+    }
+    names
+}
+
+/// All of the names stand in a file.
+fn all_stand_in(names: &[&str], file: &Path) -> Result<(), String> {
+    if names.is_empty() {
+        return Ok(());
+    }
+    if file.is_dir() {
+        return Err(format!(
+            "`{}` is cited from a folder, {}",
+            names[0],
+            file.display()
         ));
     }
-    for (at, _) in text.match_indices('[') {
-        let Some(words) = words_at(&text, at) else {
-            continue;
-        };
-        let rest = &text[at + words.len() + 2..];
-        let path = match rest.strip_prefix('(').and_then(|rest| rest.split_once(')')) {
-            Some((path, _)) => path,
-            None => match references.get(words.as_str()) {
-                Some(path) => path,
-                None if words.contains('/') => {
-                    faults.push(format!("{}: [{words}] has no link", document.display()));
-                    continue;
-                }
-                None => continue,
-            },
-        };
-        let path = path.split('#').next().unwrap_or("");
-        if path.is_empty() || path.starts_with("http") {
-            continue;
-        }
-        let target = folder.join(path);
-        if !target.exists() {
-            faults.push(format!("{}: {path} is not there", document.display()));
-        } else if target.is_file() {
-            let names = cited(&text[..at]);
-            let there = if names.is_empty() {
-                String::new()
-            } else {
-                without_imports(&read(&target))
-            };
-            for name in names.iter().filter(|name| !stands_in(name, &there)) {
-                faults.push(format!("{}: `{name}` is not in {path}", document.display()));
-            }
-        }
+    let text = without_imports(&read(file));
+    match names.iter().find(|name| !stands_in(name, &text)) {
+        Some(name) => Err(format!("`{name}` is not in {}", file.display())),
+        None => Ok(()),
     }
 }
 
@@ -113,31 +187,6 @@ fn without_imports(text: &str) -> String {
         .filter(|line| !imports(line))
         .collect::<Vec<_>>()
         .join("\n")
-}
-
-/// The words of a link that begins at an index.
-fn words_at(text: &str, at: usize) -> Option<String> {
-    let words = text[at + 1..].split(']').next()?;
-    (!words.is_empty() && !words.contains('\n') && !words.contains('`')).then(|| words.to_string())
-}
-
-/// The names in "`a`, `b` and `c` in " at the end of a text.
-fn cited(before: &str) -> Vec<String> {
-    let Some(mut rest) = before.trim_end().strip_suffix(" in") else {
-        return Vec::new();
-    };
-    let mut names = Vec::new();
-    while let Some(open) = rest.strip_suffix('`') {
-        let Some((front, name)) = open.rsplit_once('`') else {
-            break;
-        };
-        names.push(name.to_string());
-        rest = front
-            .trim_end_matches(", ")
-            .trim_end_matches(" and ")
-            .trim_end_matches(",\n");
-    }
-    names
 }
 
 /// Whether a name stands in a text as a whole word.
