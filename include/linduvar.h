@@ -171,7 +171,8 @@ typedef struct linduvar_rules {
     linduvar_rule rules[LINDUVAR_MAX_TARGET_NODES];
 } linduvar_rules;
 
-// All by node of the drawing: the rules, the virtual time of each node, and the last finish of each node as a child of its parent.
+// All by node of the drawing: the rules, the virtual time of each node, and the last finish of each node as a child of its parent. Only a weighted node
+// with more than one child keeps a virtual time and the finishes of its children; the other numbers mean nothing and stay as they came.
 typedef struct linduvar_disciplines {
     linduvar_rule rules[LINDUVAR_MAX_TARGET_NODES];
     uint32_t virtual_time[LINDUVAR_MAX_TARGET_NODES];

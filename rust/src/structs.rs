@@ -171,6 +171,8 @@ pub(crate) struct RulesByValue {
 
 /// All by node of the drawing: the rules, the virtual time of each node, and the
 /// last finish of each node as a child of its parent.
+/// Only a weighted node with more than one child keeps a virtual time and the
+/// finishes of its children; the other numbers mean nothing and stay as they came.
 #[repr(C)]
 #[derive(Clone, Copy, Debug, PartialEq, Eq)]
 pub struct Disciplines {
