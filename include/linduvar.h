@@ -1,14 +1,16 @@
 // The calls of Linduvar for C and C++. docs/C.md says how to build and link, docs/REFUSALS.md what each refusal means and what to do about it.
 //
 // Refusals. A call that cannot do what it is asked answers with a number, its refusal; 0 means that nothing is refused. A refusal changes nothing,
-// except that 15 raises the tree's count of refusals. The comment of a call lists its refusals in the order in which they are tested: "S" is 1 to 5
-// of the source, "T" is 1 to 5 of the target or of a tree by itself, and "M" is 6, 26, 7, 8, 9, 10, 11, the test of a map.
+// except that 15 raises the tree's count of refusals, and that entries are rewritten (see linduvar_entry). The comment of a call lists its refusals in
+// the order in which they are tested: "S" is 1 to 5 of the source, "T" is 1 to 5 of the target or of a tree by itself, and "M" is 6, 26, 7, 8, 9, 10,
+// 11, the test of a map.
 //
-// Bytes. A pointer to bytes is followed by their number. It is not NULL, also if that number is 0. What a call writes to overlaps nothing else that
-// is handed to the same call.
+// Pointers. No pointer is NULL, even where the number of bytes behind it, which follows it, is 0. What a call writes to (`out`, `depth`, `refusal`)
+// overlaps nothing else that is handed to the same call.
 //
-// States and trees go in and come out by value: a call keeps nothing and alters nothing that it was given, but for the bytes that its comment names.
-// They are large, and a call needs up to 220 KB of stack (docs/C.md), so keep them in static or allocated memory rather than in local variables.
+// States and trees go in and come out by value: a call keeps nothing, and alters nothing but what its comment says that it writes to. Go on with the
+// state or tree of the answer: from an old one a packet leaves twice. They are large, so keep them in static or allocated memory rather than in local
+// variables, and give a thread that calls LINDUVAR_STACK_BYTES of stack.
 #ifndef LINDUVAR_H
 #define LINDUVAR_H
 
@@ -28,6 +30,10 @@ extern "C" {
 #define LINDUVAR_MAX_PACKETS 256 // the largest packet limit
 #define LINDUVAR_MAX_STEPS 9 // places of a path or a way; a ninth step is refused by 13
 #define LINDUVAR_MAX_ENTRIES 2304
+
+// The stack of a thread that calls, in bytes. Measured and rounded up, and no bound that is proved (docs/C.md): a call touches up to 219,800 bytes, and
+// the answer and the caller's own variables come on top.
+#define LINDUVAR_STACK_BYTES 655360
 
 // Answers of 255 that are no refusals.
 #define LINDUVAR_PASSED_OVER 255 // in a map: an inner node with one child, which has no image
@@ -95,7 +101,8 @@ typedef struct linduvar_diagnosis {
 
 // ---- The queue tree ----
 
-// An entry of a queue: the child `child` if `tag` is 0, else the packet `packet`.
+// An entry of a queue: the child `child` if `tag` is 0, else the packet `packet`. In every answer, even in a refusal, `tag` is 0 or 1 and the number
+// that is not used is 0, whatever was handed in. The bytes between the fields may be any: compare entries field by field.
 typedef struct linduvar_entry {
     uint32_t rank;
     uint8_t tag;
@@ -111,7 +118,13 @@ typedef struct linduvar_frame {
 } linduvar_frame;
 
 // The state of a queue tree. The queues stand one behind the other in the order of their nodes, each from its head on, and `lengths` has their
-// lengths. `refused` counts the pushes that were refused by 15. A state that a call would not give is refused by 18.
+// lengths. `refused` counts the pushes that were refused by 15.
+//
+// A call answers 18 unless all of this holds: `nodes` is at most 64; the first `nodes` bytes of `topology` are a tree, without fault T; `limit` is 1 to
+// 256; the first `nodes` lengths add up to at most 2304; in no queue is a rank lower than the one before it; a leaf has packets only, and an inner node
+// only numbers of its own children, each as often as there are packets under that child; and there are at most `limit` packets. Nothing else is
+// tested: `refused`, the packets, what stands past the last node or the last entry, and whether calls have led to this state. So a damaged state may
+// be served.
 typedef struct linduvar_state {
     linduvar_frame frame;
     uint32_t refused;
@@ -158,14 +171,16 @@ typedef struct linduvar_rules {
     linduvar_rule rules[LINDUVAR_MAX_TARGET_NODES];
 } linduvar_rules;
 
-// All by node of the drawing: the rules, the virtual time of each node, and the last finish of each node as a child of its parent.
+// All by node of the drawing: the rules, the virtual time of each node, and the last finish of each node as a child of its parent. Only a weighted node
+// with more than one child keeps a virtual time and the finishes of its children; the other numbers mean nothing and stay as they came.
 typedef struct linduvar_disciplines {
     linduvar_rule rules[LINDUVAR_MAX_TARGET_NODES];
     uint32_t virtual_time[LINDUVAR_MAX_TARGET_NODES];
     uint32_t finish[LINDUVAR_MAX_TARGET_NODES];
 } linduvar_disciplines;
 
-// A queue tree with disciplines: a tree by itself, or a chip's tree.
+// A queue tree with disciplines: a tree by itself, or a chip's tree. Of the disciplines 18 tests what 24 tests at an opening, the rules of the nodes of
+// the drawing, and nothing else: virtual times and finishes may be any numbers.
 typedef struct linduvar_tree {
     linduvar_state state;
     linduvar_disciplines disciplines;
@@ -197,11 +212,11 @@ typedef struct linduvar_pair_opened {
 // The refusal of the bytes as a tree of at most `limit` nodes, or 0. Refusals: 1 to 5.
 uint8_t linduvar_read(const uint8_t *bytes, size_t length, size_t limit);
 
-// The number of bytes of the branch under `node`, which begins at bytes[node]; 0 if it is refused. The refusal, or 0, is written to `refusal`.
+// The number of bytes of the branch under `node`, which begins at bytes[node]; 0 if it is refused. Writes the refusal, or 0, to `refusal`.
 // Refusals: T, 19.
 size_t linduvar_branch(const uint8_t *bytes, size_t length, size_t node, uint8_t *refusal);
 
-// Byte `at` of the branch under `node`, or LINDUVAR_NO_BYTE if there is none.
+// Byte `at` of the branch under `node`, or LINDUVAR_NO_BYTE if there is none or linduvar_branch refuses.
 uint8_t linduvar_branch_byte(const uint8_t *bytes, size_t length, size_t node, size_t at);
 
 // ---- Calls: the queue tree ----
@@ -224,7 +239,8 @@ linduvar_amount linduvar_refusals(linduvar_state state);
 // All calls above are in liblinduvar_queue.a and in liblinduvar.a, all calls below in liblinduvar.a alone.
 
 // ---- Calls: maps ----
-// A map has one number for each node of the source: its image, or LINDUVAR_PASSED_OVER.
+// A map has one number for each node of the source: its image, or LINDUVAR_PASSED_OVER. Maps come back as 32 numbers, but a call wants as many as the
+// source has nodes and refuses any other `map_length` by 6.
 
 // The refusal of a list of numbers as a map of the source into the target, or 0. Refusals: S, T, M.
 uint8_t linduvar_check(const uint8_t *source, size_t source_length, const uint8_t *target, size_t target_length, const uint8_t *map,
@@ -237,8 +253,8 @@ uint8_t linduvar_search(const uint8_t *source, size_t source_length, const uint8
 // Why the source has no map into the target. Refusals: S, T, 12.
 linduvar_diagnosis linduvar_why(const uint8_t *source, size_t source_length, const uint8_t *target, size_t target_length);
 
-// Writes to `depth` the least depth of a complete tree, with d children at each inner node, into which the source has a map, and answers 0; or
-// answers the refusal and writes nothing. Refusals: S, 27.
+// Writes to `depth`, which is aligned as a size_t, the least depth of a complete tree, with d children at each inner node, into which the source has a
+// map, and answers 0; or answers the refusal and writes nothing. Refusals: S, 27.
 uint8_t linduvar_least_depth(const uint8_t *source, size_t source_length, size_t d, size_t *depth);
 
 // Carries a path of the source over to the target. Refusals: S, T, M, 13, 14.
@@ -267,7 +283,8 @@ linduvar_amount linduvar_tree_held(linduvar_tree tree);
 linduvar_amount linduvar_tree_refusals(linduvar_tree tree);
 
 // ---- Calls: a chip's tree with disciplines, behind a map ----
-// Paths, leaves and rules are those of the source. Hand over the source with which the tree was opened, and the same map at every push and pop.
+// Paths, leaves and rules are those of the source. Hand over the source with which the tree was opened, and the same map at every push and pop. No call
+// notices another source or another map if it passes the tests, and packets may then leave in another order than in the drawing.
 
 // Opens the source's own tree and the chip's tree with one packet limit, a rule for each node of the source, and the least map.
 // Refusals: S, T, 12, 17, 24.

@@ -1,9 +1,10 @@
 // A drawing fitted to a chip: the least map or why there is none, a path carried over, and packets sent through both trees by their disciplines.
 //
 // A tree has 28,504 bytes and both trees with their map 57,048, so they are static here and not on the stack. A call needs stack all the same
-// (docs/C.md): this program runs with 340 KB.
+// (docs/C.md), so the calls are made in a thread with LINDUVAR_STACK_BYTES of it.
 #include <inttypes.h>
 #include <linduvar.h>
+#include <pthread.h>
 #include <stdio.h>
 
 // The root has three children: the roses, the glasshouses with two children of their own (palms and orchids), and the gate.
@@ -71,7 +72,8 @@ static void pop(linduvar_pair_opened *pair) {
     printf("pop: drawing %d %" PRIu32 ", chip %d %" PRIu32 "\n", drawn.refusal, drawn.value, fitted.refusal, fitted.value);
 }
 
-int main(void) {
+static void *fit(void *unused) {
+    (void)unused;
     search("garden", garden, sizeof garden);
     search("hut", hut, sizeof hut);
     search("five courses", five_courses, sizeof five_courses);
@@ -85,7 +87,8 @@ int main(void) {
     static linduvar_pair_opened pair;
     pair = linduvar_pair_open(garden, sizeof garden, chip, sizeof chip, 6, rules);
     if (pair.refusal != 0) {
-        return 1;
+        printf("no %d\n", pair.refusal);
+        return NULL;
     }
 
     linduvar_path roses = {.steps = {{.child = 1, .rank = 2}}, .count = 1, .leaf_rank = 0};
@@ -103,5 +106,15 @@ int main(void) {
     }
     printf("held %" PRIu32 ", refused %" PRIu32 "\n", linduvar_chip_held(garden, sizeof garden, pair.chip).value,
            linduvar_chip_refusals(garden, sizeof garden, pair.chip).value);
-    return 0;
+    return NULL;
+}
+
+int main(void) {
+    pthread_attr_t attributes;
+    pthread_t thread;
+    if (pthread_attr_init(&attributes) != 0 || pthread_attr_setstacksize(&attributes, LINDUVAR_STACK_BYTES) != 0 ||
+        pthread_create(&thread, &attributes, fit, NULL) != 0) {
+        return 1;
+    }
+    return pthread_join(thread, NULL);
 }

@@ -1,7 +1,7 @@
 // The queue tree alone: opening, pushes by path, pops, counts, and refusals by number.
 //
-// A state has 27,864 bytes, so states and answers are static here and not on the stack. A call needs stack all the same (docs/C.md): this program
-// runs with 180 KB.
+// A state has 27,864 bytes, so states and answers are static here and not on the stack. A call needs stack all the same: a thread that calls should
+// have LINDUVAR_STACK_BYTES, as in fit.c.
 #include <inttypes.h>
 #include <linduvar.h>
 #include <stdio.h>

@@ -4,8 +4,9 @@
 
 use linduvar::chip::{self, Behind};
 use linduvar::{maps, tree, PairOpened, Path, Rule, Step};
-use linduvar::{ARRIVAL, MAX_SOURCE_NODES, MAX_TARGET_NODES, WEIGHTED};
+use linduvar::{ARRIVAL, MAX_SOURCE_NODES, MAX_TARGET_NODES, STACK_BYTES, WEIGHTED};
 use linduvar::{LACKS_DEPTH, LACKS_LEAVES};
+use std::thread;
 
 /// The root has three children: the roses, the glasshouses with two children of
 /// their own (palms and orchids), and the gate.
@@ -23,6 +24,12 @@ const FIVE_COURSES: [u8; 6] = [5, 0, 0, 0, 0, 0];
 const CHIP: [u8; 7] = [2, 2, 0, 0, 2, 0, 0];
 
 fn main() {
+    // A thread with as much stack as the calls need.
+    let thread = thread::Builder::new().stack_size(STACK_BYTES).spawn(fit);
+    thread.expect("a thread starts").join().expect("it ends");
+}
+
+fn fit() {
     search("garden", &GARDEN);
     search("hut", &HUT);
     search("five courses", &FIVE_COURSES);

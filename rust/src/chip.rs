@@ -60,8 +60,10 @@ mod boundary {
     }
 }
 
-/// The bytes of a source, and a map from it to the chip: what every call on a
-/// chip's tree goes by.
+/// The bytes of a source, and a map from it to the chip, with one number for each
+/// node of the source: what every call on a chip's tree goes by. Use those with
+/// which the tree was opened, at every call: no call notices others that pass
+/// the tests, and packets may then leave in another order than in the drawing.
 #[derive(Clone, Copy, Debug)]
 pub struct Behind<'a> {
     pub source: &'a [u8],

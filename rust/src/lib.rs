@@ -5,7 +5,7 @@
 //! tested, `docs/REFUSALS.md` says what each means, and `docs/C.md` how much stack and time a call takes.
 //!
 //! States and trees go in and come out by value, in the form of plain numbers that C and Rust share. A function here takes a reference and makes the
-//! copy that the call needs.
+//! copy that the call needs. Go on with the state or tree of the answer: from an old one a packet leaves twice.
 
 pub mod chip;
 pub mod maps;
@@ -33,6 +33,9 @@ pub const MAX_PACKETS: usize = 256;
 pub const MAX_STEPS: usize = 9;
 /// The most entries of a state.
 pub const MAX_ENTRIES: usize = 2304;
+/// The stack of a thread that calls, in bytes. Measured and rounded up, and no
+/// bound that is proved (docs/C.md).
+pub const STACK_BYTES: usize = 655_360;
 /// In a map: an inner node with one child, which has no image.
 pub const PASSED_OVER: u8 = 255;
 /// From [`maps::search`]: there is a map, but no room for it.

@@ -1,5 +1,7 @@
 //! Maps of a source into a target: the check, the search, why there is none, the
-//! least depth of a regular chip, and the carrying of a path.
+//! least depth of a regular chip, and the carrying of a path. A map comes back as
+//! 32 numbers, but a call wants as many as the source has nodes and refuses any
+//! other length by 6.
 
 use crate::{Carried, Diagnosis, Path};
 

@@ -71,7 +71,8 @@ pub struct Diagnosis {
 }
 
 /// An entry of a queue: the child `child` if `tag` is 0, else the packet
-/// `packet`.
+/// `packet`. In every answer, even in a refusal, `tag` is 0 or 1 and the number
+/// that is not used is 0, whatever was handed in.
 #[repr(C)]
 #[derive(Clone, Copy, Debug, PartialEq, Eq)]
 pub struct Entry {
@@ -94,8 +95,15 @@ pub struct Frame {
 /// The state of a queue tree. The queues stand one behind the other in the order
 /// of their nodes, each from its head on and as long as its length says. Behind
 /// the last node and the last entry there may be anything. `refused` counts the
-/// pushes that were refused by 15. A state that a call would not give is refused
-/// by 18.
+/// pushes that were refused by 15.
+///
+/// A call answers 18 unless all of this holds: `nodes` is at most 64; the first
+/// `nodes` bytes of `topology` are a tree; `limit` is 1 to 256; the first `nodes`
+/// lengths add up to at most 2304; in no queue is a rank lower than the one
+/// before it; a leaf has packets only, and an inner node only numbers of its own
+/// children, each as often as there are packets under that child; and there are
+/// at most `limit` packets. Nothing else is tested, so that a damaged state may
+/// be served.
 #[repr(C)]
 #[derive(Clone, Copy, Debug, PartialEq, Eq)]
 pub struct State {
@@ -163,6 +171,8 @@ pub(crate) struct RulesByValue {
 
 /// All by node of the drawing: the rules, the virtual time of each node, and the
 /// last finish of each node as a child of its parent.
+/// Only a weighted node with more than one child keeps a virtual time and the
+/// finishes of its children; the other numbers mean nothing and stay as they came.
 #[repr(C)]
 #[derive(Clone, Copy, Debug, PartialEq, Eq)]
 pub struct Disciplines {
@@ -171,7 +181,9 @@ pub struct Disciplines {
     pub finish: [u32; MAX_TARGET_NODES],
 }
 
-/// A queue tree with disciplines: a tree by itself, or a chip's tree.
+/// A queue tree with disciplines: a tree by itself, or a chip's tree. Of the
+/// disciplines 18 tests what 24 tests at an opening, the rules of the nodes of the
+/// drawing, and nothing else: virtual times and finishes may be any numbers.
 #[repr(C)]
 #[derive(Clone, Copy, Debug, PartialEq, Eq)]
 pub struct Tree {
