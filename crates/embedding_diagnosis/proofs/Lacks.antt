@@ -27,7 +27,7 @@ use Rattle.topology_places.proofs.Passes.{counted-into}
 use Rattle.embedding_model.specs.Rules.{image, Passes}
 use Rattle.embedding_model.specs.Least.{leastOf, searchFault}
 use Rattle.embedding_model.proofs.Search.{search-map}
-use Rattle.embedding_model.specs.InnerLeast.{firstLeaf}
+use Rattle.embedding_model.specs.FirstLeaf.{firstLeaf}
 use Rattle.embedding_model.proofs.Least.{least-embedding}
 use Rattle.embedding_model.proofs.LoneLeaf.{lone-least}
 use Rattle.embedding_model.proofs.Passes.{embeds-passes}

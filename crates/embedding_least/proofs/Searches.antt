@@ -40,7 +40,7 @@ use Rattle.embedding_least.specs.Answers.{Searches}
 use Rattle.embedding_least.specs.declared.LeastImages.{LeastImages}
 use Rattle.embedding_least.specs.declared.Searched.{Searched}
 use Rattle.embedding_outcome.specs.declared.Outcome.the-variants.{Map, NoMap, Refused}
-use Rattle.embedding_model.specs.InnerLeast.{firstLeaf}
+use Rattle.embedding_model.specs.FirstLeaf.{firstLeaf}
 
 draws : (limit : ℕ) (bytes : List ℕ) → fault limit bytes ≡ 0 → TreeBytes limit bytes
 draws limit bytes z =

@@ -17,7 +17,7 @@ use Rattle.topology.proofs.Numbering.{addr-root}
 use Rattle.embedding_model.specs.Rules.{Embeds, Before}
 use Rattle.embedding_model.specs.Least.{leastMap}
 use Rattle.embedding_model.proofs.Least.{least-is}
-use Rattle.embedding_model.specs.InnerLeast.{firstLeaf}
+use Rattle.embedding_model.specs.FirstLeaf.{firstLeaf}
 
 pub leaf-code : (t : Topo) → width t ≡ 0 → code t ≡ 0 ∷ []
 leaf-code (node fnil) w = refl

@@ -1,9 +1,7 @@
--- For the laws about the search: the least map of a drawing without passed nodes, such as a reduced drawing, and of a lone leaf.
-use Prim.Native.Nat.{ℕ, suc}
-use mathlib.Core.List.{List, [], _∷_}
-use mathlib.Core.Bool.{cond}
+-- For the laws about the search: the least map of a drawing without passed nodes, such as a reduced drawing.
+use Prim.Native.Nat.{ℕ}
+use mathlib.Core.List.{List}
 use mathlib.Core.Option.{Option}
-use lib.Dec.{eqb}
 use Rattle.topology.specs.Tree.{Topo, code}
 use Rattle.embedding_model.specs.Rules.{Embeds, Before}
 use Rattle.embedding_model.specs.Least.{leastMap}
@@ -16,8 +14,3 @@ pub record LeastEmbedding (S T : Topo) (m : List ℕ) : Type 0 where
 -- the least embedding, as the definition of the search finds it
 abbrev pub least : Topo → Topo → Option (List ℕ)
 least source target = leastMap (code source) (code target)
-
--- the first leaf of a target, which is the least image of a lone leaf: how many bytes come before the first byte 0
-abbrev pub firstLeaf : List ℕ → ℕ
-firstLeaf [] = 0
-firstLeaf (b ∷ bs) = cond (eqb b 0) 0 (suc (firstLeaf bs))

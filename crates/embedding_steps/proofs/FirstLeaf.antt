@@ -7,7 +7,7 @@ use mathlib.Core.List.{List}
 use lib.ListN.{length, drop, getD, drop-of-length-le}
 use lib.Seq.{drop-cons}
 use borrow.Author.Tests.{eq-eqb, ne-eqb}
-use Rattle.embedding_model.specs.InnerLeast.{firstLeaf}
+use Rattle.embedding_model.specs.FirstLeaf.{firstLeaf}
 
 abbrev pub From : List ℕ → ℕ → Type 0
 From bytes n = n + firstLeaf (drop n bytes) ≡ firstLeaf bytes

@@ -1,7 +1,7 @@
 // Two steps of the search for the least map that take any numbers and bytes.
 ghost use mathlib.Core.Path.{_≡_};
 ghost use Prim.Native.Nat.{min};
-ghost use Rattle.embedding_model.specs.InnerLeast.{firstLeaf};
+ghost use Rattle.embedding_model.specs.FirstLeaf.{firstLeaf};
 
 // The lesser of two numbers.
 pub fn lesser(x: u64, y: u64) -> u64
