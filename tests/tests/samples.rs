@@ -14,6 +14,9 @@ use std::{env, thread};
 fn main() {
     let start = Instant::now();
     let folder = Folder::new();
+    for program in ["gatewalk", "drawtrees", "buychip", "readtree"] {
+        assert!(script("build", &[&program]).status.success(), "{program}");
+    }
     bytes(&folder);
     offsets();
     run(&folder);
