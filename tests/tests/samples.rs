@@ -204,7 +204,7 @@ fn whole_output(folder: &Folder) {
     let opening = "01 00 02 00 03 00 01 04\n";
     let long = folder.file(
         "long.hex",
-        format!("{opening}{}", "07\n".repeat(65_529)).as_bytes(),
+        format!("{opening}{}", "00\n".repeat(65_529)).as_bytes(),
     );
     let output = script("run", &[&"gatewalk", &long]);
     assert!(text(output.stderr).contains("has 65537 bytes; gatewalk reads only the first 65,536\n"));
