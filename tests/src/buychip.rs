@@ -3,6 +3,7 @@
 
 use crate::regular::{least_depth, size, CHILDREN};
 use crate::script::{outcomes, SCRIPT_BYTES};
+use crate::topology::{MOST_STEPS_DOWN, TARGET_NODES};
 
 /// What buychip prints for a script.
 pub fn table(script: &[u8]) -> String {
@@ -27,9 +28,18 @@ pub fn table(script: &[u8]) -> String {
 fn line(source: &[u8], d: usize) -> Result<String, u8> {
     let depth = least_depth(source, d)?;
     let (nodes, leaves) = size(d, depth);
+    let mark = match can_be_loaded(d, depth) {
+        true => "",
+        false => ", cannot be loaded by this software",
+    };
     Ok(format!(
-        "d {d}: depth {depth}, {nodes} nodes, {leaves} leaves\n"
+        "d {d}: depth {depth}, {nodes} nodes, {leaves} leaves{mark}\n"
     ))
+}
+
+/// Whether the regular chip lies within the limits of a target.
+pub fn can_be_loaded(d: usize, depth: usize) -> bool {
+    depth <= MOST_STEPS_DOWN && size(d, depth).0 <= TARGET_NODES
 }
 
 fn refused(number: u8, offset: usize) -> String {

@@ -1,17 +1,18 @@
 //! Runs the program buychip and the second implementation on the same scripts
 //! and compares what they print. The first difference ends the run.
 
-use linduvar_tests::buychip::table;
+use linduvar_tests::buychip::{can_be_loaded, table};
 use linduvar_tests::commands::{limit, source_node, target_node, Command, OPEN};
 use linduvar_tests::gatewalk::bought;
 use linduvar_tests::generate::{self, steep};
 use linduvar_tests::pairs::drawing;
 use linduvar_tests::paper::{self, text};
 use linduvar_tests::random::{seeded, Random};
+use linduvar_tests::regular::{complete, size, CHILDREN};
 use linduvar_tests::samples;
 use linduvar_tests::script::{outcomes, Outcome, SCRIPT_BYTES};
 use linduvar_tests::scripts::{self, LONG_KINDS};
-use linduvar_tests::topology::SOURCE_NODES;
+use linduvar_tests::topology::{Topology, SOURCE_NODES, TARGET_NODES};
 use std::collections::BTreeMap;
 
 const SCRIPTS: usize = 1_500;
@@ -24,6 +25,7 @@ fn main() {
     seeded(|seed| {
         let mut comparison = Comparison::default();
         examples(&mut comparison);
+        marks();
         for (script, _) in paper::scripts() {
             comparison.script(&script);
         }
@@ -71,6 +73,15 @@ fn examples(comparison: &mut Comparison) {
         .collect();
     prints(&[1, 0], &alone);
     prints(&[1, 1, 1, 0, 4], &alone);
+    let six_steps = [1, 2].repeat(6).into_iter().chain([1, 0].repeat(7));
+    let too_large: String = CHILDREN
+        .map(|d| {
+            let (nodes, leaves) = size(d, 6);
+            let mark = "cannot be loaded by this software";
+            format!("d {d}: depth 6, {nodes} nodes, {leaves} leaves, {mark}\n")
+        })
+        .collect();
+    prints(&six_steps.collect::<Vec<u8>>(), &too_large);
     prints(&[], "no 1 0\n");
     prints(&[4], "no 1 0\n");
     prints(&[2, 0, 4], "no 1 2\n");
@@ -81,6 +92,17 @@ fn examples(comparison: &mut Comparison) {
     prints(&[1, 0, 7, 4], "no 22 2\n");
     prints(&[1, 0, 3, 0, 1, 3, 0, 1, 4], "no 22 5\n");
     println!("examples: as they should be");
+}
+
+/// A regular chip is marked exactly if its bytes are refused as a target.
+fn marks() {
+    for d in CHILDREN {
+        for depth in (0..=13).take_while(|&depth| size(d, depth).0 < 20_000) {
+            let read = Topology::read(&complete(d, depth), TARGET_NODES);
+            assert_eq!(can_be_loaded(d, depth), read.is_ok(), "{d} {depth}");
+        }
+    }
+    println!("chips that cannot be loaded: those that the reader refuses");
 }
 
 /// A source, with or without a target, a limit and an 04, and any bytes after
@@ -119,6 +141,9 @@ struct Comparison {
     at_the_end: usize,
     /// The depths of chips with two children at each inner node.
     depths: BTreeMap<usize, usize>,
+    /// Lines with and without the mark of a chip that cannot be loaded.
+    marked: usize,
+    unmarked: usize,
 }
 
 impl Comparison {
@@ -139,6 +164,12 @@ impl Comparison {
             self.tables += 1;
             let depth = words[3].parse().expect("a number");
             *self.depths.entry(depth).or_default() += 1;
+            for line in expected.lines() {
+                match line.ends_with("cannot be loaded by this software") {
+                    true => self.marked += 1,
+                    false => self.unmarked += 1,
+                }
+            }
         }
     }
 
@@ -151,6 +182,10 @@ impl Comparison {
             println!("  {met:7}  {refusal}");
         }
         println!("  {:7}  of them at the script's end", self.at_the_end);
+        println!(
+            "{} lines with the mark of a chip that cannot be loaded, {} without",
+            self.marked, self.unmarked
+        );
         println!("how often each depth was met, with two children:");
         for (depth, met) in &self.depths {
             println!("  {met:7}  {depth}");
@@ -166,8 +201,13 @@ impl Comparison {
             let met = self.depths.get(&depth).copied().unwrap_or(0);
             assert!(met >= OFTEN_ENOUGH, "depth {depth}: only {met}");
         }
-        for met in [self.without_limit, self.at_the_end] {
-            assert!(met >= OFTEN_ENOUGH, "only {met} scripts of a kind");
+        for met in [
+            self.without_limit,
+            self.at_the_end,
+            self.marked,
+            self.unmarked,
+        ] {
+            assert!(met >= OFTEN_ENOUGH, "only {met} of a kind");
         }
     }
 }

@@ -12,11 +12,9 @@ use linduvar_tests::{laborious, paper, samples};
 use std::fs::File;
 use std::os::unix::process::ExitStatusExt;
 use std::panic::resume_unwind;
-use std::path::Path;
-use std::process::{self, Command, Output};
+use std::process::Command;
 use std::thread;
 use std::time::{Duration, Instant};
-use std::{env, fs};
 
 const RANDOM_SCRIPTS: u64 = 6_000;
 const LONG_SCRIPTS: u64 = 60;
@@ -29,7 +27,6 @@ fn main() {
     seeded(|seed| {
         paper::check(walk);
         samples::check(walk);
-        samples_in_the_shell();
         byte_by_byte();
         ten_megabytes();
         lost_streams();
@@ -56,57 +53,6 @@ fn compare(what: &str, script: &[u8]) {
             rust.get(at)
         );
     }
-}
-
-/// `samples/bytes` gives the bytes of each sample, also of one whose lines end with CR LF, and of a long one within a second; of one with a fault it
-/// gives nothing, and names the line. `samples/offsets` shows before each line that promises a refusal its command's offset.
-fn samples_in_the_shell() {
-    for path in samples::all() {
-        let sample = samples::read(&path);
-        assert_eq!(shell("bytes", &[&path]).stdout, sample.script);
-        let lines = fs::read_to_string(&path).expect("a sample");
-        assert_eq!(bytes_of(&lines.replace('\n', "\r\n")).stdout, sample.script);
-
-        let view = shell("offsets", &[&path]).stdout;
-        for line in String::from_utf8_lossy(&view).lines() {
-            if let Some((_, refusal)) = line.split_once("=> no ") {
-                let offset = refusal.split(' ').nth(1).expect("an offset");
-                let offsets = line.split("  ").next().unwrap_or("").split(' ');
-                assert_eq!(offsets.last(), Some(offset), "{line}");
-            }
-        }
-    }
-    let start = Instant::now();
-    assert_eq!(
-        bytes_of(&"0A FF\n".repeat(32_768)).stdout,
-        [10, 255].repeat(32_768)
-    );
-    assert!(start.elapsed() < Duration::from_secs(1));
-
-    let faulty = bytes_of("01 00\n02 0G # not a byte\n");
-    assert!(faulty.stdout.is_empty() && faulty.status.code() == Some(1));
-    assert!(text(faulty.stderr).ends_with(":2: 0G is no byte in hex\n"));
-    let missing = shell("run", &[Path::new("gatewalk"), Path::new("none.hex")]);
-    assert!(missing.stdout.is_empty() && missing.status.code() == Some(1));
-    let unbuilt = shell("run", &[Path::new("none"), &samples::all()[0]]);
-    assert!(text(unbuilt.stderr).starts_with("none is not built"));
-    println!("samples in the shell: as read here");
-}
-
-/// What `samples/bytes` makes of a sample with this text.
-fn bytes_of(sample: &str) -> Output {
-    let path = env::temp_dir().join(format!("linduvar-{}.hex", process::id()));
-    fs::write(&path, sample).expect("a file for a sample");
-    let output = shell("bytes", &[&path]);
-    fs::remove_file(&path).expect("the file of a sample");
-    output
-}
-
-/// What a shell script of the samples does.
-fn shell(script: &str, arguments: &[&Path]) -> Output {
-    let script = samples::folder().join(script);
-    let output = Command::new(script).args(arguments).output();
-    output.expect("a script that starts")
 }
 
 /// A pipe that gives one byte at a time.

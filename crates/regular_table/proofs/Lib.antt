@@ -1,4 +1,5 @@
 pub mod Sizes
+pub mod Loadable
 pub mod PutChips
 pub mod Endings
 pub mod TableOnce

@@ -61,9 +61,9 @@ lines-none source before =
 
 module _ (source before : List ℕ) (d : ℕ) (middle : List ℕ) (place : ℕ) (w : Lines source before d middle place) where
   -- what `put_chip` requires
-  pub line-room : (k : ℕ) → d < 9 → Answers source d (Least k) → (2 ≤ d) × (d ^ k ≤ mostLeaves)
+  pub line-room : (k : ℕ) → d < 9 → Answers source d (Least k) → (2 ≤ d) × (d ≤ 8) × (d ^ k ≤ mostLeaves)
   line-room k h a =
-      (w .from, depth-room source d (w .from) (omega arith) (sym (fault-is source d (w .from) (omega arith)) ∙ a .0) k (a .1))
+      (w .from, omega arith, depth-room source d (w .from) (omega arith) (sym (fault-is source d (w .from) (omega arith)) ∙ a .0) k (a .1))
 
   pub lines-next : (k : ℕ) (after : List ℕ) (end : ℕ) → d < 9 → Answers source d (Least k) → Puts middle place (chipLine d k) after end
       → Lines source before (d + 1) after end

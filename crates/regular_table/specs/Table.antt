@@ -2,10 +2,10 @@
 use mathlib.Core.Path.{_≡_}
 use Prim.Native.Nat.{ℕ, zero, suc, _≤_}
 use mathlib.Core.List.{List, [], _∷_, _++_}
-use mathlib.Core.Bool.{cond}
+use mathlib.Core.Bool.{Bool, true, false, cond}
 use lib.ListN.{length, getD}
 use lib.Dec.{eqb}
-use Rattle.topology.specs.Tree.{size}
+use Rattle.topology.specs.Tree.{code, size}
 use Rattle.topology.specs.Reader.{fault, tree}
 use Rattle.regular_model.specs.Regular.{complete, leaves}
 use Rattle.regular_model.specs.Depth.{LeastDepth}
@@ -16,9 +16,19 @@ use Rattle.script_setup.specs.declared.Ending.{Ending}
 use Rattle.script_setup.specs.declared.Ending.the-variants.{End, Refused, Compile}
 use Rattle.script_setup.specs.Gathering.{gathered}
 
--- the line of the complete tree of depth k with d children at each inner node
+-- Whether this software can load the complete tree of depth k with d children at each inner node: the reader accepts its bytes as those of a target.
+-- For d from 2 to 8 this is so if it has at most 64 nodes (`loadable-nodes` in proofs/Loadable).
+unfoldable pub loadable : ℕ → ℕ → Bool
+loadable d k = eqb (fault 64 (code (complete d k))) 0
+
+-- the line of a chip before its numbers are filled in; a chip that cannot be loaded is marked
+abbrev pub chipText : Bool → List ℕ
+chipText true = bytes "d #: depth #, # nodes, # leaves\n"
+chipText false = bytes "d #: depth #, # nodes, # leaves, cannot be loaded by this software\n"
+
+-- the line of that complete tree
 unfoldable pub chipLine : ℕ → ℕ → List ℕ
-chipLine d k = filled (bytes "d #: depth #, # nodes, # leaves\n") (d ∷ k ∷ size (complete d k) ∷ leaves (complete d k) ∷ []) 0
+chipLine d k = filled (chipText (loadable d k)) (d ∷ k ∷ size (complete d k) ∷ leaves (complete d k) ∷ []) 0
 
 -- the lines for n numbers of children from d on, by the depth for each
 abbrev pub chipLines : ℕ → ℕ → (ℕ → ℕ) → List ℕ

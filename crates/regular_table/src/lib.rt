@@ -5,6 +5,7 @@ use script_lines::put_no;
 use script_setup::Drawing;
 use script_setup::Ending;
 use text_templates::put_filled;
+use topology::TARGET_NODES;
 ghost use mathlib.Core.Path.{_≡_};
 ghost use Prim.Native.Nat.{_≤_, _^_};
 ghost use lib.ListN.{length, getD, take};
@@ -43,17 +44,25 @@ fn nodes_of(d: usize, depth: usize) -> usize
     nodes
 }
 
-// The line of a chip.
+// The line of a chip. If a regular chip has at most 64 nodes, it lies within the other limits of a target too.
 fn put_chip(out: &mut [u8], at: usize, d: usize, depth: usize) -> usize
-    requires { ⌜ (2 ≤ d) × (d ^ depth ≤ mostLeaves) ⌝ }
+    requires { ⌜ (2 ≤ d) × (d ≤ 8) × (d ^ depth ≤ mostLeaves) ⌝ }
     ensures { λ r. ⌜ Puts (now (out .entry)) at (chipLine d depth) (now (out .exit)) r ⌝ }
 {
     let nodes = nodes_of(d, depth);
     let leaves = leaves_of(d, depth);
+    if nodes <= TARGET_NODES {
+        return put_filled(
+            out,
+            at,
+            b"d #: depth #, # nodes, # leaves\n",
+            &[d, depth, nodes, leaves],
+        );
+    }
     put_filled(
         out,
         at,
-        b"d #: depth #, # nodes, # leaves\n",
+        b"d #: depth #, # nodes, # leaves, cannot be loaded by this software\n",
         &[d, depth, nodes, leaves],
     )
 }

@@ -1,5 +1,7 @@
--- `put_chip` meets its contract: the filled template is the line.
-use Rattle.regular_table.specs.Table.{chipLine}
+-- `put_chip` meets its contract: the filled template is the line, with the mark where the chip has more than 64 nodes.
+use native.Mathlib.Omega.{arith}
+use Rattle.text.proofs.Written.{puts-as}
+use Rattle.regular_table.proofs.Loadable.{line-plain, line-marked}
 use borrow.Author.Needs.{needs}
 use Rattle.regular_table.proofs.put_chip.Statement.{statement}
 use Rattle.regular_table.proofs.put_chip.Tie as tie
@@ -23,11 +25,36 @@ same-length : tie.Need-same-length
 same-length c = search needs
 
 returns : tie.Need-returns
-unfolding chipLine
 returns c =
     let filled = c .before .before in
-    let counted = filled .before .before .before .before in
-    rw (← (counted .before .nodes-of .ensures), ← (counted .leaves-of .ensures)) (filled .put-filled .ensures)
+    let tested = filled .before .before .before .before in
+    let counted = tested .before in
+    let pre = counted .before .before .before .pre in
+    puts-as
+    (line-plain _ (pre .0) (pre .1) _ _ _ (counted .before .nodes-of .ensures) (counted .leaves-of .ensures) (tested .if1 .taken))
+    (filled .put-filled .ensures)
+
+slice-aggregate-put-filled-3 : tie.Need-slice-aggregate-put-filled-3
+slice-aggregate-put-filled-3 c = search needs
+
+slice-aggregate-put-filled-4 : tie.Need-slice-aggregate-put-filled-4
+slice-aggregate-put-filled-4 c = search needs
+
+put-filled-requires-2 : tie.Need-put-filled-requires-2
+put-filled-requires-2 c κs = search needs
+
+same-length-2 : tie.Need-same-length-2
+same-length-2 c = search needs
+
+returns-2 : tie.Need-returns-2
+returns-2 c =
+    let filled = c .before .before in
+    let tested = filled .before .before .before .before in
+    let counted = tested .before in
+    let pre = counted .before .before .before .pre in
+    puts-as
+    (line-marked _ (pre .0) (pre .1) _ _ _ (counted .before .nodes-of .ensures) (counted .leaves-of .ensures) (tested .if1 .left))
+    (filled .put-filled2 .ensures)
 
 pub put-chip-spec : {M : Type 1} → statement M
 put-chip-spec =
@@ -39,4 +66,9 @@ put-chip-spec =
     slice-aggregate-put-filled-2
     put-filled-requires
     same-length
-    returns)
+    returns
+    slice-aggregate-put-filled-3
+    slice-aggregate-put-filled-4
+    put-filled-requires-2
+    same-length-2
+    returns-2)
