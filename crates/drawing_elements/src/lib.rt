@@ -52,7 +52,7 @@ pub fn left_of(chip: bool) -> usize
 }
 
 // The name of a side.
-pub fn put_side(out: &mut [u8], at: usize, chip: bool) -> usize
+fn put_side(out: &mut [u8], at: usize, chip: bool) -> usize
     ensures { λ r. ⌜ Puts (now (out .entry)) at (sideName chip) (now (out .exit)) r ⌝ }
 {
     if chip {
@@ -249,7 +249,7 @@ pub fn put_note_end(out: &mut [u8], at: usize) -> usize
 }
 
 // The end of a sheet, with a refusal before it.
-pub fn put_refused(out: &mut [u8], at: usize, number: u8, offset: usize) -> usize
+fn put_refused(out: &mut [u8], at: usize, number: u8, offset: usize) -> usize
     ensures { λ r. ⌜ Puts (now (out .entry)) at (refusedEnd number offset) (now (out .exit)) r ⌝ }
 {
     let note = put_note(out, at, number as usize, offset);
@@ -277,7 +277,7 @@ pub fn draw_nothing(out: &mut [u8], at: usize) -> usize
 }
 
 // What is wrong with a tree's bytes, by the number of the refusal, at a node: the words before the tree's name.
-pub fn put_fault_lead(out: &mut [u8], at: usize, number: u8, node: usize) -> usize
+fn put_fault_lead(out: &mut [u8], at: usize, number: u8, node: usize) -> usize
     ensures { λ r. ⌜ Puts (now (out .entry)) at (faultLead number node) (now (out .exit)) r ⌝ }
 {
     if number <= 2 {
@@ -287,7 +287,7 @@ pub fn put_fault_lead(out: &mut [u8], at: usize, number: u8, node: usize) -> usi
 }
 
 // The words after it.
-pub fn put_fault_text(out: &mut [u8], at: usize, number: u8, node: usize) -> usize
+fn put_fault_text(out: &mut [u8], at: usize, number: u8, node: usize) -> usize
     ensures { λ r. ⌜ Puts (now (out .entry)) at (faultText number node) (now (out .exit)) r ⌝ }
 {
     if number == 1 {
