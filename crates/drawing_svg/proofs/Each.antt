@@ -14,8 +14,8 @@ use Rattle.text_templates.specs.Template.{bytes}
 use Rattle.topology_reduction.specs.Reduced.{passedOver}
 use Rattle.topology_places.specs.Places.{depth, parent, childNumber, trunkFrom, sourceRole, roleOf}
 use Rattle.topology_places.specs.declared.Role.{Role}
-use Rattle.drawing_svg.specs.Elements.{row, edge, mark, join}
-use Rattle.drawing_svg.specs.Sheet.{column, each, edgeOf, className, leftOf, labelOf, roleIn, nodeOf, joinOf}
+use Rattle.drawing_elements.specs.Elements.{row, leftOf, edge, mark, className, join}
+use Rattle.drawing_svg.specs.Sheet.{column, each, edgeOf, roleIn, nodeOf, joinOf}
 
 pub each-next : {before middle after : List ℕ} {at place end : ℕ} (text : ℕ → List ℕ) (k : ℕ) → Puts before at (each text k) middle place
     → Puts middle place (text k) after end → Puts before at (each text (k + 1)) after end
@@ -34,14 +34,6 @@ module _ (left : ℕ) (tree : List ℕ) (k down : ℕ) (d : down ≡ depth tree 
       → from ≡ trunkFrom tree k → top ≡ row from → y ≡ row k → child ≡ childNumber tree k → edge x top y child ≡ edgeOf left tree k
   unfolding edgeOf
   edge-drawn n a b c e f g = rw (ne-eqb (depth tree k) 0 (λ z. n (d ∙ z)), b, e, f, g, a, c)
-
--- ---- the two sides
-
-pub label-chip : (chip : Bool) → chip ≡ true → bytes "<g><text class='label' x='446' y='32'>chip</text>\n" ≡ labelOf chip
-label-chip chip e = rw e refl
-
-pub label-source : (chip : Bool) → chip ≡ false → bytes "<g><text class='label' x='24' y='32'>source</text>\n" ≡ labelOf chip
-label-source chip e = rw e refl
 
 module _ (chip : Bool) (tree images : List ℕ) (k : ℕ) where
   pub role-chip : chip ≡ true → roleOf tree images k ≡ roleIn chip tree images k
@@ -67,6 +59,6 @@ module _ (source target : List ℕ) (a image : ℕ) where
   join-none e = rw (eq-eqb image passedOver e)
 
   pub join-drawn : (image ≡ passedOver → ⊥) → (node x y over down : ℕ) → node ≡ image → x ≡ column 24 source a → y ≡ row a
-      → over ≡ column 446 target node → down ≡ row node → join x y over down a node ≡ joinOf source target a image
+      → over ≡ column 446 target node → down ≡ row image → join x y over down a node ≡ joinOf source target a image
   unfolding joinOf
   join-drawn n node x y over down b c d e f = rw (ne-eqb image passedOver n, c, d, e, f, b)

@@ -3,7 +3,7 @@
 -- An element is longest at its largest numbers. A tree that is drawn has at most 33 or 65 bytes, as many as a setup keeps, and no node's depth or
 -- child number exceeds its own number. So columns are at most 984 in the source and 2,366 in the target, and rows at most 560 and 1,072. That is more
 -- than a tree's depth of 8 needs, by a digit here and there.
-use mathlib.Core.Path.{_≡_, refl, sym, _∙_, ap}
+use mathlib.Core.Path.{_≡_, refl, _∙_, ap}
 use mathlib.Core.Logic.{_≢_}
 use Prim.Native.Nat.{ℕ, zero, suc, _+_, _*_, _≤_, _<_, max}
 use native.Mathlib.Nat.{not-suc-le-zero}
@@ -43,11 +43,11 @@ use Rattle.script_setup.specs.Gathering.{gathered}
 use Rattle.script_setup.proofs.Endings.{Inside, ends-inside}
 use Rattle.script_setup.specs.declared.Ending.{Ending}
 use Rattle.script_setup.specs.declared.Ending.the-variants.{End, Refused, Compile}
-use Rattle.drawing_svg.specs.Elements.{row, opening, head, edge, numbered, mark, join, legend, note, noteEnd}
-use Rattle.drawing_svg.specs.Elements.{faultStart, faultLead, faultWords, faultText, depthText, leavesText, roomText}
-use Rattle.drawing_svg.specs.Sheet.{column, each, edgeOf, className, leftOf, labelOf, roleIn, nodeOf, treeOf, joinOf, joinsOf, pairOf}
-use Rattle.drawing_svg.specs.Sheet.{foot, refusedEnd, refusal, sideName, faultNote, faultOf, faultSheet, markedOf, misfitSheet}
-use Rattle.drawing_svg.specs.Sheet.{mappedSheet, outcomeSheet, nothing, sheet, limitIn, sheetBy, scriptSheet}
+use Rattle.drawing_elements.specs.Elements.{row, opening, head, leftOf, labelOf, sideName, edge, numbered, mark, className, join, legend}
+use Rattle.drawing_elements.specs.Elements.{note, noteEnd, refusedEnd, refusal, nothing, faultStart, faultLead, faultWords, faultText, faultNote}
+use Rattle.drawing_elements.specs.Elements.{depthText, leavesText, roomText}
+use Rattle.drawing_svg.specs.Sheet.{column, each, edgeOf, roleIn, nodeOf, treeOf, joinOf, joinsOf, pairOf, foot}
+use Rattle.drawing_svg.specs.Sheet.{faultOf, faultSheet, markedOf, misfitSheet, mappedSheet, outcomeSheet, sheet, limitIn, sheetBy, scriptSheet}
 use Rattle.drawing_svg.proofs.Sheet.{unmapped-trees, mapped-found}
 
 -- ---- the elements at their largest numbers

@@ -2,7 +2,6 @@
 use mathlib.Core.Path.{_≡_, refl, sym, ap, _∙_}
 use mathlib.Core.Logic.{_≢_}
 use Prim.Native.Nat.{ℕ, zero, suc, _≤_}
-use native.Mathlib.Omega.{arith}
 use mathlib.Core.List.{List, _++_}
 use mathlib.Core.Bool.{Bool, true, false}
 use mathlib.Core.Option.{Option, none, some}
@@ -28,7 +27,8 @@ use Rattle.script_setup.specs.declared.Ending.{Ending}
 use Rattle.script_setup.specs.declared.Ending.the-variants.{End, Refused, Compile}
 use Rattle.script_setup.proofs.WithLimit.{limited}
 use Rattle.drawing_svg.proofs.FaultCases.{fault-kept}
-use Rattle.drawing_svg.specs.Sheet.{pairOf, foot, refusal, misfitSheet, mappedSheet, outcomeSheet, nothing, sheet, limitIn, sheetBy, scriptSheet}
+use Rattle.drawing_elements.specs.Elements.{refusal, nothing}
+use Rattle.drawing_svg.specs.Sheet.{pairOf, foot, misfitSheet, mappedSheet, outcomeSheet, sheet, limitIn, sheetBy, scriptSheet}
 
 -- the lengths of trees that are drawn
 pub record Small (source target : List ℕ) : Type 0 where

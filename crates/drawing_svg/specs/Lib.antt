@@ -1,4 +1,3 @@
--- `scriptSheet` in Sheet is the sheet of a script. It rests on Elements, on Places in the crate `topology_places` and on Template in
--- `text_templates`.
-pub mod Elements
+-- `scriptSheet` in Sheet is the sheet of a script. It rests on Elements in the crate `drawing_elements`, on Places in `topology_places` and on
+-- Template in `text_templates`.
 pub mod Sheet

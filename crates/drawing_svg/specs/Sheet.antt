@@ -16,7 +16,6 @@ use Rattle.embedding_outcome.specs.declared.Outcome.the-variants.{Map, NoMap, R
 use Rattle.queue_limit.specs.Limit.{limitFault}
 use Rattle.topology_places.specs.Places.{depth, parent, childNumber, trunkFrom, sourceRole, roleOf}
 use Rattle.topology_places.specs.declared.Role.{Role}
-use Rattle.topology_places.specs.declared.Role.the-variants.{Plain, Passed, Image, Between, Unused}
 use Rattle.topology_reading.specs.Accepted.{acceptedBytes}
 use Rattle.embedding_diagnosis.specs.Diagnosis.{diagnosis}
 use Rattle.embedding_diagnosis.specs.declared.Diagnosis.{Diagnosis}
@@ -25,8 +24,8 @@ use Rattle.script_setup.specs.Gathering.{Given, gathered}
 use Rattle.script_setup.specs.declared.Ending.{Ending}
 use Rattle.script_setup.specs.declared.Ending.the-variants.{End, Refused, Compile}
 use Rattle.text_templates.specs.Template.{bytes}
-use Rattle.drawing_svg.specs.Elements.{row, head, edge, mark, join, legend}
-use Rattle.drawing_svg.specs.Elements.{note, noteEnd, faultLead, faultText, depthText, leavesText, roomText}
+use Rattle.drawing_elements.specs.Elements.{row, leftOf, labelOf, head, edge, mark, className, join, legend}
+use Rattle.drawing_elements.specs.Elements.{note, noteEnd, refusal, nothing, faultNote, depthText, leavesText, roomText}
 
 -- the column of a node in the tree whose root is at `left`
 abbrev pub column : ℕ → List ℕ → ℕ → ℕ
@@ -44,22 +43,7 @@ edgeOf left tree k =
     let line = edge x (row (trunkFrom tree k)) (row k) (childNumber tree k) in
     cond (eqb (depth tree k) 0) [] line
 
-abbrev pub className : Role → List ℕ
-className Plain = bytes "plain"
-className Passed = bytes "passed"
-className Image = bytes "image"
-className Between = bytes "between"
-className Unused = bytes "unused"
-
--- The two sides of a sheet: the source's, and the chip's (`true`). Where the root stands, the label above it, and the role of node k.
-abbrev pub leftOf : Bool → ℕ
-leftOf false = 24
-leftOf true = 446
-
-abbrev pub labelOf : Bool → List ℕ
-labelOf false = bytes "<g><text class='label' x='24' y='32'>source</text>\n"
-labelOf true = bytes "<g><text class='label' x='446' y='32'>chip</text>\n"
-
+-- the role of node k on its side of the sheet, the source's or the chip's (`true`)
 abbrev pub roleIn : Bool → List ℕ → List ℕ → ℕ → Role
 roleIn false tree images k = sourceRole (getD tree k 0)
 roleIn true tree images k = roleOf tree images k
@@ -96,27 +80,6 @@ pairOf source target images from to =
 
 abbrev pub foot : List ℕ
 foot = bytes "</svg>\n"
-
--- the end of a sheet with a refusal
-abbrev pub refusedEnd : ℕ → ℕ → List ℕ
-refusedEnd number offset = note number offset ++ noteEnd
-
--- a refusal alone
-unfoldable pub refusal : ℕ → ℕ → List ℕ
-refusal number offset = head 0 ++ refusedEnd number offset
-
--- a script that ends before 04
-unfoldable pub nothing : List ℕ
-nothing = head 0 ++ bytes "<text class='note' x='24' y='14'>nothing to draw</text>\n</svg>\n"
-
--- the name of a side
-abbrev pub sideName : Bool → List ℕ
-sideName false = bytes "source"
-sideName true = bytes "chip"
-
--- the refusal of a tree at fault, in words, and the end of the sheet
-unfoldable pub faultNote : Bool → ℕ → ℕ → ℕ → List ℕ
-faultNote chip number offset node = note number offset ++ (faultLead number node ++ (sideName chip ++ (faultText number node ++ noteEnd)))
 
 -- A tree at fault, as far as it was read (`acceptedBytes`), with the byte at fault marked in its row; and the refusal, in words. Where the bytes end
 -- too early there is no such byte.

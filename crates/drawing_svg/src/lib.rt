@@ -1,19 +1,27 @@
 // The sheet: both trees of a pair and the map between them as one page in SVG. The source is on the left and the chip on the right, with a row for
 // each node number and a column for each step below the root. On either side `chip` says whether it is the chip's.
-mod elements;
-
-use elements::put_depth_text;
-use elements::put_edge;
-use elements::put_fault_lead;
-use elements::put_fault_text;
-use elements::put_head;
-use elements::put_join;
-use elements::put_leaves_text;
-use elements::put_legend;
-use elements::put_mark;
-use elements::put_note;
-use elements::put_room_text;
-use elements::row_of;
+use drawing_elements::CHIP_LEFT;
+use drawing_elements::SOURCE_LEFT;
+use drawing_elements::draw_nothing;
+use drawing_elements::draw_refusal;
+use drawing_elements::is_marked;
+use drawing_elements::larger;
+use drawing_elements::left_of;
+use drawing_elements::put_depth_text;
+use drawing_elements::put_edge;
+use drawing_elements::put_fault_note;
+use drawing_elements::put_head;
+use drawing_elements::put_join;
+use drawing_elements::put_label;
+use drawing_elements::put_leaves_text;
+use drawing_elements::put_legend;
+use drawing_elements::put_mark;
+use drawing_elements::put_note;
+use drawing_elements::put_note_end;
+use drawing_elements::put_role;
+use drawing_elements::put_room_text;
+use drawing_elements::row_of;
+use drawing_elements::smaller;
 use embedding_diagnosis::Diagnosis;
 use embedding_diagnosis::why;
 use embedding_least::least_map;
@@ -36,21 +44,12 @@ use topology_places::trunk_from;
 use topology_reading::accepted_bytes;
 use topology_reduction::PASSED_OVER;
 ghost use mathlib.Core.Path.{_≡_};
-ghost use Prim.Native.Nat.{_<_, _≤_, min, max};
-ghost use mathlib.Core.Bool.{_&&_};
+ghost use Prim.Native.Nat.{_<_, _≤_};
 ghost use lib.ListN.{length, take};
-ghost use lib.Dec.{leb, ltb};
 ghost use Rattle.text.specs.Text.{Puts};
-ghost use Rattle.drawing_svg.specs.Elements.{mark, noteEnd};
-ghost use Rattle.drawing_svg.specs.Sheet.{column, each, edgeOf, className, leftOf, labelOf, roleIn, nodeOf, treeOf, joinOf, joinsOf, pairOf};
-ghost use Rattle.drawing_svg.specs.Sheet.{refusedEnd, refusal, nothing, sideName, faultNote, faultOf, faultSheet, markedOf, misfitSheet};
-ghost use Rattle.drawing_svg.specs.Sheet.{sheet, scriptSheet};
+ghost use Rattle.drawing_svg.specs.Sheet.{column, each, edgeOf, roleIn, nodeOf, treeOf, joinOf, joinsOf, pairOf};
+ghost use Rattle.drawing_svg.specs.Sheet.{faultOf, faultSheet, markedOf, misfitSheet, sheet, scriptSheet};
 ghost use Rattle.embedding_diagnosis.specs.Diagnosis.{diagnosis};
-
-// Where the root of the source and of the chip stands.
-const SOURCE_LEFT: usize = 24;
-
-const CHIP_LEFT: usize = 446;
 
 // Where a node's column is in the tree whose root is at `left`.
 fn column_of(left: usize, bytes: &[u8], node: usize) -> usize
@@ -69,8 +68,8 @@ fn put_edge_of(out: &mut [u8], at: usize, left: usize, bytes: &[u8], node: usize
         return put_word(out, at, &bytes[..0]);
     }
     let x = column_of(left, bytes, parent(bytes, node));
-    let from = row_of(trunk_from(bytes, node));
-    let y = row_of(node);
+    let from = row_of(trunk_from(bytes, node) as u8);
+    let y = row_of(node as u8);
     let child = child_number(bytes, node);
     put_edge(out, at, x, from, y, child)
 }
@@ -89,26 +88,6 @@ fn put_edges(out: &mut [u8], at: usize, left: usize, bytes: &[u8]) -> usize
     place
 }
 
-// A node's ellipse, of the class that its role names.
-fn put_role(out: &mut [u8], at: usize, role: Role, x: usize, y: usize, node: usize) -> usize
-    ensures { λ r. ⌜ Puts (now (out .entry)) at (mark (className role) x y node) (now (out .exit)) r ⌝ }
-{
-    match role {
-        Role::Plain => put_mark(out, at, b"plain", x, y, node),
-        Role::Passed => put_mark(out, at, b"passed", x, y, node),
-        Role::Image => put_mark(out, at, b"image", x, y, node),
-        Role::Between => put_mark(out, at, b"between", x, y, node),
-        Role::Unused => put_mark(out, at, b"unused", x, y, node),
-    }
-}
-
-// Where the root stands: on the source's side of the sheet, or on the chip's.
-fn left_of(chip: bool) -> usize
-    ensures { λ r. ⌜ (r ≡ leftOf chip) × (r ≤ 446) ⌝ }
-{
-    if chip { CHIP_LEFT } else { SOURCE_LEFT }
-}
-
 // The role of a node on its side of the sheet.
 fn role_in(chip: bool, bytes: &[u8], images: &[u8], node: usize) -> Role
     requires { ⌜ node < length (now bytes) ⌝ }
@@ -118,13 +97,6 @@ fn role_in(chip: bool, bytes: &[u8], images: &[u8], node: usize) -> Role
         return role_of(bytes, images, node);
     }
     source_role(bytes[node])
-}
-
-// Whether `node` is one of the nodes `from` to `to` - 1.
-fn is_marked(from: usize, to: usize, node: usize) -> bool
-    ensures { λ r. ⌜ r ≡ leb from node && ltb node to ⌝ }
-{
-    if from <= node { node < to } else { false }
 }
 
 // A node, marked or in the style of its role.
@@ -142,7 +114,7 @@ fn put_node(
     ensures { λ r. ⌜ Puts (now (out .entry)) at (nodeOf chip (now (bytes .entry)) (now (images .entry)) from to node) (now (out .exit)) r ⌝ }
 {
     let x = column_of(left_of(chip), bytes, node);
-    let y = row_of(node);
+    let y = row_of(node as u8);
     if is_marked(from, to, node) {
         return put_mark(out, at, b"fault", x, y, node);
     }
@@ -170,24 +142,6 @@ fn put_nodes(
         k += 1;
     }
     place
-}
-
-// The label above a tree.
-fn put_label(out: &mut [u8], at: usize, chip: bool) -> usize
-    ensures { λ r. ⌜ Puts (now (out .entry)) at (labelOf chip) (now (out .exit)) r ⌝ }
-{
-    if chip {
-        return put_word(
-            out,
-            at,
-            b"<g><text class='label' x='446' y='32'>chip</text>\n",
-        );
-    }
-    put_word(
-        out,
-        at,
-        b"<g><text class='label' x='24' y='32'>source</text>\n",
-    )
 }
 
 // A tree with its label: all edges, then all nodes, which cover the ends of the edges. The nodes `from` to `to` - 1 are marked.
@@ -225,10 +179,10 @@ fn put_join_of(
         return put_word(out, at, &source[..0]);
     }
     let x = column_of(SOURCE_LEFT, source, node);
-    let y = row_of(node);
+    let y = row_of(node as u8);
     let chip_node = wide(image);
     let over = column_of(CHIP_LEFT, target, chip_node);
-    let down = row_of(chip_node);
+    let down = row_of(image);
     put_join(out, at, x, y, over, down, node, chip_node)
 }
 
@@ -246,18 +200,6 @@ fn put_joins(out: &mut [u8], at: usize, source: &[u8], target: &[u8], images: &[
     put_word(out, place, b"</g>\n")
 }
 
-fn larger(a: usize, b: usize) -> usize
-    ensures { λ r. ⌜ r ≡ max a b ⌝ }
-{
-    if a < b { b } else { a }
-}
-
-fn smaller(a: usize, b: usize) -> usize
-    ensures { λ r. ⌜ r ≡ min a b ⌝ }
-{
-    if a < b { a } else { b }
-}
-
 // Both trees and the lines between them. The source's nodes `from` to `to` - 1 are marked.
 fn put_pair(
     out: &mut [u8],
@@ -271,75 +213,12 @@ fn put_pair(
     requires { ⌜ (length (now source) ≤ 65) × (length (now target) ≤ 65) × (length (now images) ≤ 64) ⌝ }
     ensures { λ r. ⌜ Puts (now (out .entry)) at (pairOf (now (source .entry)) (now (target .entry)) (now (images .entry)) from to) (now (out .exit)) r ⌝ }
 {
-    let rows = larger(source.len(), target.len());
+    let rows = larger(source.len(), target.len()) as u8;
     let head = put_head(out, at, rows);
     let joins = put_joins(out, head, source, target, images);
     let left = put_tree(out, joins, false, source, images, from, to);
     let right = put_tree(out, left, true, target, images, 0, 0);
     put_legend(out, right, rows)
-}
-
-// The end of a note and of the sheet.
-fn put_note_end(out: &mut [u8], at: usize) -> usize
-    ensures { λ r. ⌜ Puts (now (out .entry)) at noteEnd (now (out .exit)) r ⌝ }
-{
-    put_word(out, at, b"</text>\n</svg>\n")
-}
-
-// The end of a sheet, with a refusal before it.
-fn put_refused(out: &mut [u8], at: usize, number: u8, offset: usize) -> usize
-    ensures { λ r. ⌜ Puts (now (out .entry)) at (refusedEnd number offset) (now (out .exit)) r ⌝ }
-{
-    let note = put_note(out, at, number as usize, offset);
-    put_note_end(out, note)
-}
-
-// A refusal alone: its number, and the offset of the command refused.
-fn draw_refusal(number: u8, offset: usize, out: &mut [u8], at: usize) -> usize
-    ensures { λ r. ⌜ Puts (now (out .entry)) at (refusal number offset) (now (out .exit)) r ⌝ }
-{
-    let head = put_head(out, at, 0);
-    put_refused(out, head, number, offset)
-}
-
-// The sheet of a script that ends before 04.
-fn draw_nothing(out: &mut [u8], at: usize) -> usize
-    ensures { λ r. ⌜ Puts (now (out .entry)) at nothing (now (out .exit)) r ⌝ }
-{
-    let head = put_head(out, at, 0);
-    put_word(
-        out,
-        head,
-        b"<text class='note' x='24' y='14'>nothing to draw</text>\n</svg>\n",
-    )
-}
-
-// The name of a side.
-fn put_side(out: &mut [u8], at: usize, chip: bool) -> usize
-    ensures { λ r. ⌜ Puts (now (out .entry)) at (sideName chip) (now (out .exit)) r ⌝ }
-{
-    if chip {
-        return put_word(out, at, b"chip");
-    }
-    put_word(out, at, b"source")
-}
-
-// The refusal of a tree at fault, in words, and the end of the sheet.
-fn put_fault_note(
-    out: &mut [u8],
-    at: usize,
-    chip: bool,
-    number: u8,
-    offset: usize,
-    node: usize,
-) -> usize
-    ensures { λ r. ⌜ Puts (now (out .entry)) at (faultNote chip number offset node) (now (out .exit)) r ⌝ }
-{
-    let note = put_note(out, at, number as usize, offset);
-    let lead = put_fault_lead(out, note, number, node);
-    let side = put_side(out, lead, chip);
-    let text = put_fault_text(out, side, number, node);
-    put_note_end(out, text)
 }
 
 // A tree at fault, as far as it was read, with the byte at fault marked, and the refusal in words.
@@ -356,9 +235,10 @@ fn put_fault(
     ensures { λ r. ⌜ Puts (now (out .entry)) at (faultOf chip limit (now (bytes .entry)) number offset) (now (out .exit)) r ⌝ }
 {
     let node = accepted_bytes(bytes, limit);
-    let rows = smaller(node + 1, bytes.len());
+    let part = smaller(node + 1, bytes.len());
+    let rows = part as u8;
     let head = put_head(out, at, rows);
-    let tree = put_tree(out, head, chip, &bytes[..rows], &bytes[..0], node, node + 1);
+    let tree = put_tree(out, head, chip, &bytes[..part], &bytes[..0], node, node + 1);
     let legend = put_legend(out, tree, rows);
     put_fault_note(out, legend, chip, number, offset, node)
 }

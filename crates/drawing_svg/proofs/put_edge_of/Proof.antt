@@ -39,10 +39,16 @@ column-of-requires c κs =
 trunk-from-requires : tie.Need-trunk-from-requires
 trunk-from-requires c κs = search needs
 
-row-of-requires : tie.Need-row-of-requires
-row-of-requires c κs =
+cast-row-of : tie.Need-cast-row-of
+cast-row-of c =
     let start = c .before .before .before .before .before .before .before in
     omega (arith, c .trunk-from .ensures, start .pre .1, trunk-most (now (start .args .bytes)) (start .args .node))
+
+row-of-requires : tie.Need-row-of-requires
+row-of-requires c κs = search needs
+
+cast-row-of-2 : tie.Need-cast-row-of-2
+cast-row-of-2 c = search needs
 
 row-of-requires-2 : tie.Need-row-of-requires-2
 row-of-requires-2 c κs = search needs
@@ -95,7 +101,9 @@ put-edge-of-spec =
     parent-requires
     column-of-requires
     trunk-from-requires
+    cast-row-of
     row-of-requires
+    cast-row-of-2
     row-of-requires-2
     child-number-requires
     put-edge-requires

@@ -22,17 +22,19 @@ add-smaller c =
 smaller-requires : tie.Need-smaller-requires
 smaller-requires c κs = search needs
 
-put-head-requires : tie.Need-put-head-requires
-put-head-requires c κs =
-    let rows = c .before in
-    let node = rows .before in
+cast-rows : tie.Need-cast-rows
+cast-rows c =
+    let node = c .before in
     let start = node .before .before .before in
     let args = start .args in
     omega (
       arith,
-      rows-few (args .limit) (now (args .bytes)) _ _ (node .accepted-bytes .ensures) (rows .smaller .ensures),
+      rows-few (args .limit) (now (args .bytes)) _ _ (node .accepted-bytes .ensures) (c .smaller .ensures),
       start .pre,
     )
+
+put-head-requires : tie.Need-put-head-requires
+put-head-requires c κs = search needs
 
 slice-aggregate-put-tree : tie.Need-slice-aggregate-put-tree
 slice-aggregate-put-tree c =
@@ -62,16 +64,7 @@ put-tree-requires c κs =
     )
 
 put-legend-requires : tie.Need-put-legend-requires
-put-legend-requires c κs =
-    let rows = c .before .before .before .before .before .before .before .before .before .before .before in
-    let node = rows .before in
-    let start = node .before .before .before in
-    let args = start .args in
-    omega (
-      arith,
-      rows-few (args .limit) (now (args .bytes)) _ _ (node .accepted-bytes .ensures) (rows .smaller .ensures),
-      start .pre,
-    )
+put-legend-requires c κs = search needs
 
 put-fault-note-requires : tie.Need-put-fault-note-requires
 put-fault-note-requires c κs = search needs
@@ -98,6 +91,7 @@ put-fault-spec =
     accepted-bytes-requires
     add-smaller
     smaller-requires
+    cast-rows
     put-head-requires
     slice-aggregate-put-tree
     slice-aggregate-put-tree-2

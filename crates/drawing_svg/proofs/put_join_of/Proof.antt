@@ -20,6 +20,9 @@ returns c = puts-as (join-none _ _ _ _ (c .before .before .before .before .befor
 column-of-requires : tie.Need-column-of-requires
 column-of-requires c κs = search needs
 
+cast-row-of : tie.Need-cast-row-of
+cast-row-of c = search needs
+
 row-of-requires : tie.Need-row-of-requires
 row-of-requires c κs = search needs
 
@@ -74,6 +77,7 @@ put-join-of-spec =
     same-length
     returns
     column-of-requires
+    cast-row-of
     row-of-requires
     wide-requires
     column-of-requires-2

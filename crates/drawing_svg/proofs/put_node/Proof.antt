@@ -11,6 +11,9 @@ left-of-requires c κs = search needs
 column-of-requires : tie.Need-column-of-requires
 column-of-requires c κs = search needs
 
+cast-row-of : tie.Need-cast-row-of
+cast-row-of c = search needs
+
 row-of-requires : tie.Need-row-of-requires
 row-of-requires c κs = search needs
 
@@ -98,6 +101,7 @@ put-node-spec =
     (tie.spec
     left-of-requires
     column-of-requires
+    cast-row-of
     row-of-requires
     is-marked-requires
     slice-aggregate-put-mark

@@ -2,7 +2,7 @@
 use mathlib.Core.Path.{ap}
 use native.Mathlib.Omega.{arith}
 use Rattle.text.proofs.Written.{puts-as, puts-then}
-use Rattle.drawing_svg.specs.Elements.{head, legend}
+use Rattle.drawing_elements.specs.Elements.{head, legend}
 use Rattle.drawing_svg.specs.Sheet.{pairOf}
 use borrow.Author.Needs.{needs}
 use Rattle.drawing_svg.proofs.put_pair.Statement.{statement}
@@ -11,11 +11,13 @@ use Rattle.drawing_svg.proofs.put_pair.Tie as tie
 larger-requires : tie.Need-larger-requires
 larger-requires c κs = search needs
 
+cast-rows : tie.Need-cast-rows
+cast-rows c =
+    let start = c .before .before .before .before .before in
+    omega (arith, c .larger .ensures, start .pre .0, start .pre .1)
+
 put-head-requires : tie.Need-put-head-requires
-put-head-requires c κs =
-    let rows = c .before in
-    let start = rows .before .before .before .before .before in
-    omega (arith, rows .larger .ensures, start .pre .0, start .pre .1)
+put-head-requires c κs = search needs
 
 put-joins-requires : tie.Need-put-joins-requires
 put-joins-requires c κs =
@@ -34,11 +36,7 @@ put-tree-requires-2 c κs =
     start .pre .1
 
 put-legend-requires : tie.Need-put-legend-requires
-put-legend-requires c κs =
-    let right = c .before .before .before in
-    let rows = right .before .before .before .before .before .before .before .before .before .before .before .before .before .before in
-    let start = rows .before .before .before .before .before in
-    omega (arith, rows .larger .ensures, start .pre .0, start .pre .1)
+put-legend-requires c κs = search needs
 
 same-length : tie.Need-same-length
 same-length c = search needs
@@ -62,6 +60,7 @@ put-pair-spec =
     tie.close
     (tie.spec
     larger-requires
+    cast-rows
     put-head-requires
     put-joins-requires
     put-tree-requires
