@@ -5,14 +5,12 @@ use Prim.Native.Nat.{ℕ, zero, suc, _+_, _-_, _≤_, _<_}
 use native.Mathlib.Nat.{not-suc-le-zero}
 use native.Mathlib.Omega.{arith}
 use mathlib.Core.List.{List, [], _++_, map}
-use mathlib.Core.Bool.{Bool, true, false, _&&_, cond}
+use mathlib.Core.Bool.{true, false}
 use lib.ListN.{length, take, drop, getD, set, replicate, length-replicate}
 use lib.Seq.{slice, length-take-le, take-suc, take-length, drop-cons, append-snoc, set-at, take-append-seam}
-use lib.Dec.{leb}
-use borrow.Author.Tests.{le-leb, lt-leb, leb-true}
 use Rattle.base.proofs.Replicate.{drop-replicate}
 use Rattle.base.specs.Refusals.{orElse}
-use Rattle.base.proofs.Tests.{and-parts, and-both, clash}
+use Rattle.base.proofs.Tests.{clash}
 use Rattle.topology.specs.Reader.{reading, fault, tree}
 use Rattle.topology.specs.declared.Reading.{Reading}
 use Rattle.topology.specs.declared.Reading.the-variants.{Tree, Refused}

@@ -1,5 +1,4 @@
 -- `put_chip` meets its contract: the filled template is the line, with the mark where the chip has more than 64 nodes.
-use native.Mathlib.Omega.{arith}
 use Rattle.text.proofs.Written.{puts-as}
 use Rattle.regular_table.proofs.Loadable.{line-plain, line-marked}
 use borrow.Author.Needs.{needs}
