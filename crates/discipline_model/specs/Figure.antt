@@ -60,7 +60,7 @@ finish d n c length = start d n c + (length * 256) / weightAt (d .rules) c
 
 -- the largest finish
 abbrev pub mostFinish : ℕ
-mostFinish = 4294967295
+mostFinish = 18446744073709551615
 
 -- ---- what a discipline does, by its number
 

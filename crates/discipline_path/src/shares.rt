@@ -8,7 +8,7 @@ ghost use Rattle.discipline_model.specs.Figure.{finishBy};
 ghost use Rattle.discipline_path.specs.InnerShares.{Shares};
 
 // The largest finish.
-const MOST_FINISH: Rank = 4294967295;
+const MOST_FINISH: Rank = 18446744073709551615;
 
 // A rank and, at a weighted node, the child's finish if it fits.
 pub(crate) struct Share {

@@ -11,7 +11,7 @@ ghost use mathlib.Core.Path.{_≡_};
 ghost use Prim.Native.Nat.{_<_};
 ghost use Rattle.queue_state.specs.Opening.{openFault, openedState};
 
-pub type Rank = u32;
+pub type Rank = u64;
 
 pub type Packet = u32;
 
