@@ -23,9 +23,9 @@ pub struct PlainEntry {
 #[repr(C)]
 pub struct PlainState {
     pub frame: Frame,
-    pub refused: u32,
     pub lengths: [u16; 64],
     pub entries: [PlainEntry; 2304],
+    pub refused: u32,
 }
 
 fn entry_of(plain: PlainEntry) -> Entry
@@ -68,9 +68,9 @@ pub fn state_of(plain: PlainState) -> State
     let entries = entries_of(given);
     State {
         frame,
-        refused: plain.refused,
         lengths,
         entries,
+        refused: plain.refused,
     }
 }
 
@@ -122,8 +122,8 @@ pub fn plain(state: State) -> PlainState
     let entries = plain_entries(given);
     PlainState {
         frame,
-        refused: state.refused,
         lengths,
         entries,
+        refused: state.refused,
     }
 }

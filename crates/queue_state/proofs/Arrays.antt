@@ -29,6 +29,6 @@ pub the-arrays : (s : State) (vs : List Val) â†’ Is (row State.the-type) s vs â†
 the-arrays s vs g =
     record {
       topology = the-topology (s .frame) (g .0 .0) (g .1 .1 .0);
-      lengths = kept _ (s .lengths) (g .1 .1 .1 .1 .0 .1 .0 .1);
-      entries = kept _ (s .entries) (g .1 .1 .1 .1 .1 .0 .1 .0 .1);
+      lengths = kept _ (s .lengths) (g .1 .1 .1 .0 .1 .0 .1);
+      entries = kept _ (s .entries) (g .1 .1 .1 .1 .0 .1 .0 .1);
     }

@@ -36,9 +36,9 @@ pub struct Frame {
 
 pub struct State {
     pub frame: Frame,
-    pub refused: u32,
     pub lengths: [u16; 64],
     pub entries: [Entry; 2304],
+    pub refused: u32,
 }
 
 // The answer to an opening: the empty tree and 0; or a state of zeros, on which every call is refused by 18, and the refusal's number.

@@ -32,11 +32,11 @@ pub(crate) fn empty(topology: [u8; 64], nodes: usize, limit: usize) -> State
             nodes,
             limit,
         },
-        refused: 0,
         lengths: [0u16; 64],
         entries: [Entry {
             rank: 0,
             item: Item::Child(0),
         }; 2304],
+        refused: 0,
     }
 }
