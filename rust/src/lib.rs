@@ -13,11 +13,13 @@ pub mod queue;
 mod structs;
 pub mod topology;
 pub mod tree;
+mod version;
 
 pub use structs::{
     Amount, Answer, Carried, Diagnosis, Disciplines, Entry, Frame, Opened, PairOpened, Path,
     Popped, Rule, Rules, State, Step, Taken, Tree, TreeAnswer, TreeOpened, Way,
 };
+pub use version::{layout, LAYOUT, VERSION};
 
 /// The most nodes of a source.
 pub const MAX_SOURCE_NODES: usize = 32;
