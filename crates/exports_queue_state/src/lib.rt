@@ -1,5 +1,5 @@
-// The opening of a queue tree and the questions for its counts, for a program in C or Rust: `tests/` links and compares them. A state is passed as
-// plain numbers.
+// The opening of a queue tree, the questions for its counts, and the number of the layout of all structs, for a program in C or Rust: `tests/` links
+// and compares them. A state is passed as plain numbers.
 use exports_plain_answers::PlainAmount;
 use exports_plain_answers::amount_of;
 use exports_plain_state::PlainState;
@@ -10,13 +10,24 @@ ghost use Rattle.queue_counts.specs.Amounts.{amount};
 ghost use Rattle.queue_state.specs.State.{wellFormed, treeOf};
 ghost use Rattle.exports_plain_state.specs.Plain.{stateOf};
 ghost use Rattle.exports_plain_answers.specs.Answers.{plainAmount};
-ghost use Rattle.exports_queue_state.specs.Answers.{plainOpened};
+ghost use Rattle.exports_queue_state.specs.Answers.{layout, plainOpened};
 
 // The answer to an opening: the empty tree and 0; or a state of zeros, on which every call is refused by 18, and the refusal's number.
 #[repr(C)]
 pub struct PlainOpened {
     pub state: PlainState,
     pub refusal: u8,
+}
+
+// The layout's number: it rises when a struct that C or Rust shares is laid out anew, and the header has the one that it describes.
+const LAYOUT: usize = 2;
+
+// Which layout the structs of all calls have, so that a program can compare it with its header's.
+#[no_mangle]
+pub extern "C" fn linduvar_layout() -> usize
+    ensures { λ r. ⌜ r ≡ layout ⌝ }
+{
+    LAYOUT
 }
 
 // Opens an empty tree with a packet limit.

@@ -1,4 +1,5 @@
 pub mod Walks
+pub mod FirstByte
 pub mod OperandBytes
 pub mod ReadAt
 pub mod ReadsFrom

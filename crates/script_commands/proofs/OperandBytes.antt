@@ -18,7 +18,8 @@ use Rattle.script_commands.specs.declared.Setup.the-variants.{Source, Ta
 use Rattle.script_commands.specs.declared.Call.the-variants.{Step, Push, Pop}
 use Rattle.script_commands.specs.declared.Read.the-variants.{End, Next, Refused}
 use Rattle.script_commands.specs.declared.Read.{Read}
-use Rattle.script_commands.specs.Reading.{number, operand, sizeOf, sized, commandBy, readAt}
+use Rattle.script_commands.proofs.FirstByte.{by-code}
+use Rattle.script_commands.specs.Reading.{number, operand, sizeBy, sized, commandBy, readAt}
 use Rattle.script_commands.specs.InnerOperands.{byteAt, wordAt, Below}
 use Rattle.script_commands.specs.declared.operands.Byte.{Byte}
 use Rattle.script_commands.specs.declared.operands.Byte.the-variants.{Is as IsByte, Missing as NoByte}
@@ -39,22 +40,43 @@ operand-2 l i h =
     let e : i + 1 ≡ suc i = omega arith in
     number-next l i 1 0 (omega arith) ∙ number-next l (suc i) 0 _ (omega arith) ∙ rw e (omega arith)
 
+-- four bytes more
+number-next-4 : (l : List ℕ) (i k before : ℕ) → i + 4 ≤ length l
+    → number before (take (suc (suc (suc (suc k)))) (drop i l))
+    ≡ number ((((before * 256 + getD l i 0) * 256 + getD l (suc i) 0) * 256 + getD l (suc (suc i)) 0) * 256 + getD l (suc (suc (suc i))) 0) (take k (drop (suc (suc (suc (suc i)))) l))
+number-next-4 l i k before h =
+    number-next l i (suc (suc (suc k))) before (omega arith)
+    ∙ number-next l (suc i) (suc (suc k)) _ (omega arith)
+    ∙ number-next l (suc (suc i)) (suc k) _ (omega arith)
+    ∙ number-next l (suc (suc (suc i))) k _ (omega arith)
+
 pub operand-4 : (l : List ℕ) (i : ℕ) → i + 4 ≤ length l → operand i 4 l ≡ operand i 2 l * 65536 + operand (i + 2) 2 l
 unfolding operand
 operand-4 l i h =
     let e : i + 2 ≡ suc (suc i) = omega arith in
     let high = number-next l i 1 0 (omega arith) ∙ number-next l (suc i) 0 _ (omega arith) in
     let low = number-next l (suc (suc i)) 1 0 (omega arith) ∙ number-next l (suc (suc (suc i))) 0 _ (omega arith) in
-    number-next l i 3 0 (omega arith)
-    ∙ number-next l (suc i) 2 _ (omega arith)
-    ∙ number-next l (suc (suc i)) 1 _ (omega arith)
-    ∙ number-next l (suc (suc (suc i))) 0 _ (omega arith)
-    ∙ rw (e, high, low) (omega arith)
+    number-next-4 l i 0 0 h ∙ rw (e, high, low) (omega arith)
+
+operand-8 : (l : List ℕ) (i : ℕ) → i + 8 ≤ length l → operand i 8 l ≡ operand i 4 l * 4294967296 + operand (i + 4) 4 l
+unfolding operand
+operand-8 l i h =
+    let e : i + 4 ≡ suc (suc (suc (suc i))) = omega arith in
+    let high = number-next-4 l i 0 0 (omega arith) in
+    let low = number-next-4 l (suc (suc (suc (suc i)))) 0 0 (omega arith) in
+    number-next-4 l i 4 0 (omega arith) ∙ number-next-4 l (suc (suc (suc (suc i)))) 0 _ (omega arith) ∙ rw (e, high, low) (omega arith)
 
 -- the bytes of an operand exist, and it is the number found
 pub record There (count place : ℕ) (bytes : List ℕ) (n : ℕ) : Type 0 where
   pub fits : place + count ≤ length bytes
   pub is : n ≡ operand place count bytes
+
+-- an operand of eight bytes, by its high and its low four
+wide-there : (bytes : List ℕ) (place high low : ℕ) → There 4 place bytes high → There 4 (place + 4) bytes low
+    → There 8 place bytes (high * 4294967296 + low)
+wide-there bytes place high low th tl =
+    let fits : place + 8 ≤ length bytes = omega (arith, tl .fits) in
+    record { fits = fits; is = rw (operand-8 bytes place fits, ← th .is, ← tl .is) refl }
 
 module _ (bytes : List ℕ) (place : ℕ) where
   pub byte-there : (r : Byte) (n : ℕ) → r ≡ byteAt bytes place → r ≡ IsByte n → There 1 place bytes n
@@ -118,68 +140,60 @@ pub below : (r : Word) (n most : ℕ) → Below most r → r ≡ Is n → n < mo
 below (Is m) n most h e = let q : m ≡ n = cc in rw (← q) h
 below Missing n most h e = absurd (clash (cc))
 
--- The reader's answer by the first byte of the command: cut short, or with its operands.
-module _ (bytes : List ℕ) (at : ℕ) (command : Command) where
-  complete : sizeOf command ≤ length bytes → Next command at ≡ sized bytes at command
-  unfolding sized
-  complete h = simp (le-leb (sizeOf command) (length bytes) h)
-
-  cut : length bytes < sizeOf command → Refused 21 at ≡ sized bytes at command
-  unfolding sized
-  cut h = simp (lt-leb (sizeOf command) (length bytes) h)
-
+-- The reader's answer by the first byte of the command: unknown, cut short, or with its operands.
 module _ (code : ℕ) (bytes : List ℕ) (at : ℕ) where
-  pub unknown : code ≢ 1 → code ≢ 2 → code ≢ 3 → code ≢ 4 → code ≢ 5 → code ≢ 6 → code ≢ 7 → Refused 20 at ≡ commandBy code bytes at
-  unfolding commandBy
-  unknown a b c d e f g = simp (ne-eqb code 1 a, ne-eqb code 2 b, ne-eqb code 3 c, ne-eqb code 4 d, ne-eqb code 5 e, ne-eqb code 6 f, ne-eqb code 7 g)
+  complete : (k : ℕ) (c : Command) → sizeBy k ≤ length bytes → Next c at ≡ sized k bytes at c
+  unfolding sized
+  complete k c h = simp (le-leb (sizeBy k) (length bytes) h)
 
-  pub source-cut : code ≡ 1 → length bytes < 2 → Refused 21 at ≡ commandBy code bytes at
-  unfolding commandBy
-  source-cut e h = rw e (cut bytes at _ h)
+  pub unknown : sizeBy code ≡ 0 → Refused 20 at ≡ commandBy code bytes at
+  unknown z = by-code (λ r. Refused 20 at ≡ r) at code bytes (λ c s h. absurd (omega arith)) (λ h. absurd (omega arith)) (λ e. refl)
+
+  pub cut-short : (k n : ℕ) → code ≡ k → n ≤ sizeBy k → length bytes < n → Refused 21 at ≡ commandBy code bytes at
+  cut-short k n e l h =
+      rw e (by-code (λ r. Refused 21 at ≡ r) at k bytes (λ c s g. absurd (omega arith)) (λ g. refl) (λ z. absurd (omega arith)))
 
   pub source-read : (m : ℕ) → code ≡ 1 → There 1 1 bytes m → Next (Setup (Source m)) at ≡ commandBy code bytes at
   unfolding commandBy
-  source-read m e tm = rw (e, tm .is) (complete bytes at _ (tm .fits))
-
-  pub target-cut : code ≡ 2 → length bytes < 2 → Refused 21 at ≡ commandBy code bytes at
-  unfolding commandBy
-  target-cut e h = rw e (cut bytes at _ h)
+  source-read m e tm = rw (e, tm .is) (complete 1 _ (tm .fits))
 
   pub target-read : (m : ℕ) → code ≡ 2 → There 1 1 bytes m → Next (Setup (Target m)) at ≡ commandBy code bytes at
   unfolding commandBy
-  target-read m e tm = rw (e, tm .is) (complete bytes at _ (tm .fits))
-
-  pub limit-cut : code ≡ 3 → length bytes < 3 → Refused 21 at ≡ commandBy code bytes at
-  unfolding commandBy
-  limit-cut e h = rw e (cut bytes at _ h)
+  target-read m e tm = rw (e, tm .is) (complete 2 _ (tm .fits))
 
   pub limit-read : (m : ℕ) → code ≡ 3 → There 2 1 bytes m → Next (Setup (Limit m)) at ≡ commandBy code bytes at
   unfolding commandBy
-  limit-read m e tm = rw (e, tm .is) (complete bytes at _ (tm .fits))
+  limit-read m e tm = rw (e, tm .is) (complete 3 _ (tm .fits))
 
   pub compile-read : code ≡ 4 → 0 < length bytes → Next Compile at ≡ commandBy code bytes at
   unfolding commandBy
-  compile-read e h = rw e (complete bytes at _ h)
-
-  pub step-cut : (n : ℕ) → n ≤ 6 → code ≡ 5 → length bytes < n → Refused 21 at ≡ commandBy code bytes at
-  unfolding commandBy
-  step-cut n l e h = rw e (cut bytes at _ (omega arith))
+  compile-read e h = rw e (complete 4 _ h)
 
   pub step-read : (m n : ℕ) → code ≡ 5 → There 1 1 bytes m → There 4 2 bytes n → Next (Call (Step m n)) at ≡ commandBy code bytes at
   unfolding commandBy
-  step-read m n e tm tn = rw (e, tm .is, tn .is) (complete bytes at _ (tn .fits))
-
-  pub push-cut : (n : ℕ) → n ≤ 9 → code ≡ 6 → length bytes < n → Refused 21 at ≡ commandBy code bytes at
-  unfolding commandBy
-  push-cut n l e h = rw e (cut bytes at _ (omega arith))
+  step-read m n e tm tn = rw (e, tm .is, tn .is) (complete 5 _ (tn .fits))
 
   pub push-read : (m n : ℕ) → code ≡ 6 → There 4 1 bytes m → There 4 5 bytes n → Next (Call (Push m n)) at ≡ commandBy code bytes at
   unfolding commandBy
-  push-read m n e tm tn = rw (e, tm .is, tn .is) (complete bytes at _ (tn .fits))
+  push-read m n e tm tn = rw (e, tm .is, tn .is) (complete 6 _ (tn .fits))
 
   pub pop-read : code ≡ 7 → 0 < length bytes → Next (Call Pop) at ≡ commandBy code bytes at
   unfolding commandBy
-  pop-read e h = rw e (complete bytes at _ h)
+  pop-read e h = rw e (complete 7 _ h)
+
+  pub wide-step-read : (m high low rank : ℕ) → code ≡ 9 → There 1 1 bytes m → There 4 2 bytes high → There 4 6 bytes low
+      → rank ≡ high * 4294967296 + low → Next (Call (Step m rank)) at ≡ commandBy code bytes at
+  unfolding commandBy
+  wide-step-read m high low rank e tm th tl er =
+      let wide = wide-there bytes 2 high low th tl in
+      rw (e, tm .is, er, wide .is) (complete 9 _ (wide .fits))
+
+  pub wide-push-read : (m high low rank : ℕ) → code ≡ 10 → There 4 1 bytes m → There 4 5 bytes high → There 4 9 bytes low
+      → rank ≡ high * 4294967296 + low → Next (Call (Push m rank)) at ≡ commandBy code bytes at
+  unfolding commandBy
+  wide-push-read m high low rank e tm th tl er =
+      let wide = wide-there bytes 5 high low th tl in
+      rw (e, tm .is, er, wide .is) (complete 10 _ (wide .fits))
 
 drop-all : (n : ℕ) (l : List ℕ) → length l ≤ n → drop n l ≡ []
 drop-all zero [] h = refl

@@ -1,13 +1,10 @@
 // What is read at an offset of a script, and where the next command begins.
 use super::Batch;
-use super::Call;
-use super::Command;
 use super::Read;
-use super::Setup;
 use super::Slot;
 use super::operands::command_at;
 ghost use mathlib.Core.Path.{_≡_};
-ghost use Rattle.script_commands.specs.Reading.{setupSize, callSize, sizeOf, readAt, nextAt};
+ghost use Rattle.script_commands.specs.Reading.{sizeBy, readAt, nextAt};
 ghost use Rattle.script_commands.specs.Batches.{firstReads, after, readsOf};
 
 // What is read at an offset, and the offset of the next command.
@@ -22,34 +19,21 @@ pub(crate) struct CursorBatch {
     pub next: usize,
 }
 
-fn setup_size(setup: Setup) -> usize
-    ensures { λ r. ⌜ r ≡ setupSize setup ⌝ }
+// How many bytes a command has, by its first byte; 0 if no command begins with it.
+fn size_by(code: u8) -> usize
+    ensures { λ r. ⌜ r ≡ sizeBy code ⌝ }
 {
-    match setup {
-        Setup::Source(_) => 2,
-        Setup::Target(_) => 2,
-        Setup::Limit(_) => 3,
-    }
-}
-
-fn call_size(call: Call) -> usize
-    ensures { λ r. ⌜ r ≡ callSize call ⌝ }
-{
-    match call {
-        Call::Step(_, _) => 6,
-        Call::Push(_, _) => 9,
-        Call::Pop => 1,
-    }
-}
-
-// How many bytes a command has.
-fn size_of(command: Command) -> usize
-    ensures { λ r. ⌜ r ≡ sizeOf command ⌝ }
-{
-    match command {
-        Command::Setup(setup) => setup_size(setup),
-        Command::Compile => 1,
-        Command::Call(call) => call_size(call),
+    match code {
+        1 => 2,
+        2 => 2,
+        3 => 3,
+        4 => 1,
+        5 => 6,
+        6 => 9,
+        7 => 1,
+        9 => 10,
+        10 => 13,
+        _ => 0,
     }
 }
 
@@ -59,9 +43,9 @@ pub(crate) fn read_at(script: &[u8], at: usize) -> CursorRead
     let read = command_at(script, at);
     match read {
         Read::End => CursorRead { read, next: at },
-        Read::Next(command, _) => CursorRead {
+        Read::Next(_, _) => CursorRead {
             read,
-            next: at + size_of(command),
+            next: at + size_by(script[at]),
         },
         Read::Refused(_, _) => CursorRead { read, next: at },
     }

@@ -17,10 +17,10 @@ pub enum Setup {
 
 // A command after 04.
 pub enum Call {
-    // a step's child and rank
-    Step(u8, u32),
-    // a push's packet and leaf rank
-    Push(u32, u32),
+    // a step's child and rank, by 05 or 09
+    Step(u8, u64),
+    // a push's packet and leaf rank, by 06 or 0A
+    Push(u32, u64),
     Pop,
 }
 

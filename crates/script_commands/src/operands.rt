@@ -4,7 +4,7 @@ use super::Command;
 use super::Read;
 use super::Setup;
 ghost use mathlib.Core.Path.{_≡_};
-ghost use Prim.Native.Nat.{_<_, _≤_};
+ghost use Prim.Native.Nat.{_<_, _≤_, _*_, _+_};
 ghost use lib.ListN.{length};
 ghost use Rattle.script_commands.specs.Reading.{readAt, commandBy};
 ghost use Rattle.script_commands.specs.InnerOperands.{byteAt, wordAt, Below};
@@ -36,7 +36,7 @@ fn byte_at(bytes: &[u8], place: usize) -> Byte
 }
 
 fn half_at(bytes: &[u8], place: usize) -> Word
-    requires { ⌜ place ≤ 7 ⌝ }
+    requires { ⌜ place ≤ 11 ⌝ }
     ensures { λ r. ⌜ (r ≡ wordAt 2 (now (bytes .entry)) place) × Below 65536 r ⌝ }
 {
     if bytes.len() < place + 2 {
@@ -48,7 +48,7 @@ fn half_at(bytes: &[u8], place: usize) -> Word
 }
 
 fn word_at(bytes: &[u8], place: usize) -> Word
-    requires { ⌜ place ≤ 5 ⌝ }
+    requires { ⌜ place ≤ 9 ⌝ }
     ensures { λ r. ⌜ r ≡ wordAt 4 (now (bytes .entry)) place ⌝ }
 {
     let Word::Is(high) = half_at(bytes, place) else {
@@ -58,6 +58,13 @@ fn word_at(bytes: &[u8], place: usize) -> Word
         return Word::Missing;
     };
     Word::Is(high * 65536 + low)
+}
+
+// A rank of eight bytes, by its high and its low four.
+fn wide_rank(high: u32, low: u32) -> u64
+    ensures { λ r. ⌜ r ≡ high * 4294967296 + low ⌝ }
+{
+    high as u64 * 4294967296 + low as u64
 }
 
 // The command whose first byte is `code`, if `bytes` is the script from its offset on.
@@ -92,7 +99,7 @@ fn command_by(code: u8, bytes: &[u8], at: usize) -> Read
             let Word::Is(rank) = word_at(bytes, 2) else {
                 return Read::Refused(21, at);
             };
-            Read::Next(Command::Call(Call::Step(child, rank)), at)
+            Read::Next(Command::Call(Call::Step(child, rank as u64)), at)
         }
         6 => {
             let Word::Is(packet) = word_at(bytes, 1) else {
@@ -101,9 +108,33 @@ fn command_by(code: u8, bytes: &[u8], at: usize) -> Read
             let Word::Is(leaf_rank) = word_at(bytes, 5) else {
                 return Read::Refused(21, at);
             };
-            Read::Next(Command::Call(Call::Push(packet, leaf_rank)), at)
+            Read::Next(Command::Call(Call::Push(packet, leaf_rank as u64)), at)
         }
         7 => Read::Next(Command::Call(Call::Pop), at),
+        9 => {
+            let Byte::Is(child) = byte_at(bytes, 1) else {
+                return Read::Refused(21, at);
+            };
+            let Word::Is(high) = word_at(bytes, 2) else {
+                return Read::Refused(21, at);
+            };
+            let Word::Is(low) = word_at(bytes, 6) else {
+                return Read::Refused(21, at);
+            };
+            Read::Next(Command::Call(Call::Step(child, wide_rank(high, low))), at)
+        }
+        10 => {
+            let Word::Is(packet) = word_at(bytes, 1) else {
+                return Read::Refused(21, at);
+            };
+            let Word::Is(high) = word_at(bytes, 5) else {
+                return Read::Refused(21, at);
+            };
+            let Word::Is(low) = word_at(bytes, 9) else {
+                return Read::Refused(21, at);
+            };
+            Read::Next(Command::Call(Call::Push(packet, wide_rank(high, low))), at)
+        }
         _ => Read::Refused(20, at),
     }
 }
