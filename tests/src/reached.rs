@@ -79,7 +79,7 @@ impl Reached {
         {
             match (command, answer) {
                 (0x05 | 0x09, Ok(_)) => steps.push(*command),
-                (0x05 | 0x09, Err((22, case))) => {
+                (0x05 | 0x09, Err((22, case))) if !steps.is_empty() => {
                     self.met
                         .meet(&format!("{case}, after {}", gathered(&steps)));
                 }

@@ -218,7 +218,7 @@ fn put_out_of_turn(commands: &mut Vec<Command>, random: &mut Random) -> usize {
     let end = commands.len();
     let (before, after) = (0..=opened, opened + 1..=end);
     let any = random.below(256) as u8;
-    let (at, command) = match random.below(13) {
+    let (at, command) = match random.below(15) {
         0 => (random.within(after), source_node(any)),
         1 => (random.within(after), target_node(any)),
         2 => (random.within(after), limit(1)),
@@ -233,11 +233,12 @@ fn put_out_of_turn(commands: &mut Vec<Command>, random: &mut Random) -> usize {
         _ => {
             let at = random.within(after);
             let (one, other) = (any_step(1, random), any_step(1, random));
-            // What was gathered before does not matter: nine are too many.
             for _ in 0..8 {
                 commands.insert(at, random.pick(&[&one, &other]).clone());
             }
-            (at + 8, any_step(any, random))
+            // The steps that were gathered before are cleared.
+            commands.insert(at, push(1, 1));
+            (at + 9, any_step(any, random))
         }
     };
     commands.insert(at, command);
