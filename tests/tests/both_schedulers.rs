@@ -97,6 +97,14 @@ fn examples(kinds: &mut Kinds) {
     assert_eq!(trees.chip.disciplines.finish[..5], [0, 0, 0, 828, 0]);
     trees.answers(&path(&[(2, 1)], 3), (14, 0), kinds);
     trees.answers(&path(&[(3, 1)], 3), (13, 0), kinds);
+    // The largest finish there, from a time by path, and one above it.
+    for (over, answer) in [(0, (0, 1)), (1, (23, 0))] {
+        let mut trees = Trees::open(&source, &target, 1, &rules);
+        let start = u64::MAX - 256 + over;
+        trees.answers(&path(&[(2, 9), (2, start)], 1), (0, 1), kinds);
+        trees.answers(&Request::Pop, (0, 1), kinds);
+        trees.answers(&to_leaf(4, 1, 2), answer, kinds);
+    }
 
     // The root and node 2 are passed over: they give rank 0, keep nothing and
     // leave what stands in their places. Node 2 has a weight under node 1.

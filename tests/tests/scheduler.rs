@@ -35,7 +35,7 @@ const OPENINGS: usize = 10_000;
 const SHORT_LISTS: usize = 2_000;
 const LONG_LISTS: usize = 20;
 const STATES: usize = 3_000;
-const ENDS: usize = 16_000;
+const ENDS: usize = 18_000;
 const DAMAGED_TREES: usize = 8_000;
 const MANY_ROUNDS: usize = 1_000;
 
@@ -558,12 +558,10 @@ fn ends(comparison: &mut Comparison) {
         let (mut plain, drawing) = any_plain_tree(&habits, random);
         let leaf = some_leaf(&drawing, random);
         let length = length(random);
-        let (answer, end, finish) = random.pick(&[
-            (0, "the largest finish", u128::from(u64::MAX)),
-            (23, "one above the largest finish", 1 << 64),
-            (0, "the largest finish of 32 bits", u128::from(u32::MAX)),
-            (0, "one above the largest finish of 32 bits", 1 << 32),
-        ]);
+        let (answer, end, finish) = match random.one_in(4) {
+            true => random.pick(&FINISHES),
+            false => random.pick(&FINISHES[..2]),
+        };
         let disciplines = &mut plain.disciplines;
         let Some(above) = finish_at(disciplines, &drawing, leaf, length, finish, random) else {
             continue;
@@ -585,6 +583,14 @@ fn ends(comparison: &mut Comparison) {
         comparison.kinds.meet(&format!("{end}, {above}"));
     }
 }
+
+/// Finishes at an end, with the answer to a packet that has one.
+const FINISHES: [(u8, &str, u128); 4] = [
+    (0, "the largest finish", u64::MAX as u128),
+    (23, "one above the largest finish", 1 << 64),
+    (0, "the largest finish of 32 bits", u32::MAX as u128),
+    (0, "one above the largest finish of 32 bits", 1 << 32),
+];
 
 /// Gives a packet to that leaf that finish at one weighted node on its way, and a
 /// small one at all others. Answers where that node is, or None if there is no
