@@ -7,7 +7,7 @@ use Rattle.topology.specs.Tree.{Topo, node, fnil, fcons, leaf}
 use Rattle.topology.specs.Address.{addr, childOf}
 use Rattle.pifo_model.specs.Queue.{Rank}
 use Rattle.pifo_model.specs.Tree.{step}
-use Rattle.pifo_model.specs.Machine.{pushing, popping, Answer, accepted, departed, opened}
+use Rattle.pifo_model.specs.Machine.{pushing, popping, Answer, accepted, departed, refused, opened}
 use Rattle.discipline_model.specs.Figure.{arrival, weighted, virtualAt, finishAt, stepsDown, mostFinish, fresh}
 use Rattle.discipline_model.specs.Scheduler.{Request, calling, pushingTo, rankAt, with, serveOwn, observedOver}
 use Rattle.discipline_model.specs.declared.Rule.{Rule}
@@ -79,6 +79,25 @@ pub starts-now : table (second 21 ∷ second 22 ∷ second 23 ∷ second 24 ∷ 
     ∷ []
 unfolding addr childOf rankAt
 starts-now = refl
+
+-- The largest finish. A push along a path and its pop make the virtual time 4,294,967,295, and packet 11 finishes above that, which was refused by 23
+-- before request 2.5. Then they make it 76800 less than the largest finish: packet 12 finishes there, and packet 13, which would finish later, is
+-- refused by 23 and changes nothing.
+abbrev along : ℕ → ℕ → Request ℕ
+along rank p = calling (pushing (step 1 rank ∷ []) 0 p)
+
+pub largest-finish : table (along 4294967295 31 ∷ pop ∷ first 11 ∷ pop ∷ along 18446744073709474815 32 ∷ pop ∷ first 12 ∷ first 13 ∷ [])
+    ≡ (accepted 1, 0, 0, 0)
+    ∷ (departed 31, 4294967295, 0, 0)
+    ∷ (accepted 1, 4294967295, 4295044095, 0)
+    ∷ (departed 11, 4294967295, 4295044095, 0)
+    ∷ (accepted 1, 4294967295, 4295044095, 0)
+    ∷ (departed 32, 18446744073709474815, 4295044095, 0)
+    ∷ (accepted 1, 18446744073709474815, 18446744073709551615, 0)
+    ∷ (refused 23, 18446744073709474815, 18446744073709551615, 0)
+    ∷ []
+unfolding addr childOf rankAt
+largest-finish = refl
 
 -- 1 2 0 0: the same drawing as the branch of node 1, below a weighted root, which is a passed node
 abbrev hut : Topo

@@ -1,0 +1,3 @@
+pub mod AsBefore
+pub mod Widths
+pub mod Worked
