@@ -21,6 +21,11 @@
 extern "C" {
 #endif
 
+// The version of the library, and the number of its layout. This number rises whenever a struct of this header changes its layout, so that a program
+// can see whether header and library fit (linduvar_layout), and a stored state can say which layout it has. Layout 1 had ranks of 32 bits.
+#define LINDUVAR_VERSION "0.2.0"
+#define LINDUVAR_LAYOUT 2
+
 // A tree is drawn as one byte for each node in preorder: its number of children, 0 for a leaf. Nodes are numbered from 0 in this order, and the
 // children of a node from 1.
 #define LINDUVAR_MAX_SOURCE_NODES 32
@@ -31,9 +36,9 @@ extern "C" {
 #define LINDUVAR_MAX_STEPS 9 // places of a path or a way; a ninth step is refused by 13
 #define LINDUVAR_MAX_ENTRIES 2304
 
-// The stack of a thread that calls, in bytes. Measured and rounded up, and no bound that is proved (docs/C.md): a call touches up to 219,800 bytes, and
+// The stack of a thread that calls, in bytes. Measured and rounded up, and no bound that is proved (docs/C.md): a call touches up to 284,360 bytes, and
 // the answer and the caller's own variables come on top.
-#define LINDUVAR_STACK_BYTES 655360
+#define LINDUVAR_STACK_BYTES 851968
 
 // Answers of 255 that are no refusals.
 #define LINDUVAR_PASSED_OVER 255 // in a map: an inner node with one child, which has no image
@@ -55,14 +60,14 @@ extern "C" {
 // One step of a path: to a child, by its number from 1, with the rank that it enters the node's queue with.
 typedef struct linduvar_step {
     uint8_t child;
-    uint32_t rank;
+    uint64_t rank;
 } linduvar_step;
 
 // A path from the root to a leaf: its first `count` steps, and the rank at the leaf. What stands behind them is ignored.
 typedef struct linduvar_path {
     linduvar_step steps[LINDUVAR_MAX_STEPS];
     size_t count;
-    uint32_t leaf_rank;
+    uint64_t leaf_rank;
 } linduvar_path;
 
 // A path that was carried over, with zeros behind its last step; or the refusal and the path as it was given.
@@ -75,7 +80,7 @@ typedef struct linduvar_carried {
 typedef struct linduvar_taken {
     uint8_t node;
     uint8_t child;
-    uint32_t rank;
+    uint64_t rank;
 } linduvar_taken;
 
 // The way of a pop from the root down: its first `count` places. The others are 0.
@@ -104,7 +109,7 @@ typedef struct linduvar_diagnosis {
 // An entry of a queue: the child `child` if `tag` is 0, else the packet `packet`. In every answer, even in a refusal, `tag` is 0 or 1 and the number
 // that is not used is 0, whatever was handed in. The bytes between the fields may be any: compare entries field by field.
 typedef struct linduvar_entry {
-    uint32_t rank;
+    uint64_t rank;
     uint8_t tag;
     uint8_t child;
     uint32_t packet;
@@ -175,8 +180,8 @@ typedef struct linduvar_rules {
 // with more than one child keeps a virtual time and the finishes of its children; the other numbers mean nothing and stay as they came.
 typedef struct linduvar_disciplines {
     linduvar_rule rules[LINDUVAR_MAX_TARGET_NODES];
-    uint32_t virtual_time[LINDUVAR_MAX_TARGET_NODES];
-    uint32_t finish[LINDUVAR_MAX_TARGET_NODES];
+    uint64_t virtual_time[LINDUVAR_MAX_TARGET_NODES];
+    uint64_t finish[LINDUVAR_MAX_TARGET_NODES];
 } linduvar_disciplines;
 
 // A queue tree with disciplines: a tree by itself, or a chip's tree. Of the disciplines 18 tests what 24 tests at an opening, the rules of the nodes of
@@ -206,6 +211,11 @@ typedef struct linduvar_pair_opened {
     uint8_t map[LINDUVAR_MAX_SOURCE_NODES];
     uint8_t refusal;
 } linduvar_pair_opened;
+
+// ---- Calls: the library itself ----
+
+// The number of the layout that the library has. If it is not LINDUVAR_LAYOUT, make no other call: header and library do not fit.
+size_t linduvar_layout(void);
 
 // ---- Calls: reading a tree ----
 
@@ -327,27 +337,27 @@ linduvar_amount linduvar_chip_refusals(const uint8_t *source, size_t source_leng
 
 LINDUVAR_SIZE(size_t, 8);
 
-LINDUVAR_SIZE(linduvar_step, 8);
+LINDUVAR_SIZE(linduvar_step, 16);
 LINDUVAR_FIELD(linduvar_step, child, 0);
-LINDUVAR_FIELD(linduvar_step, rank, 4);
+LINDUVAR_FIELD(linduvar_step, rank, 8);
 
-LINDUVAR_SIZE(linduvar_path, 88);
+LINDUVAR_SIZE(linduvar_path, 160);
 LINDUVAR_FIELD(linduvar_path, steps, 0);
-LINDUVAR_FIELD(linduvar_path, count, 72);
-LINDUVAR_FIELD(linduvar_path, leaf_rank, 80);
+LINDUVAR_FIELD(linduvar_path, count, 144);
+LINDUVAR_FIELD(linduvar_path, leaf_rank, 152);
 
-LINDUVAR_SIZE(linduvar_carried, 96);
+LINDUVAR_SIZE(linduvar_carried, 168);
 LINDUVAR_FIELD(linduvar_carried, path, 0);
-LINDUVAR_FIELD(linduvar_carried, refusal, 88);
+LINDUVAR_FIELD(linduvar_carried, refusal, 160);
 
-LINDUVAR_SIZE(linduvar_taken, 8);
+LINDUVAR_SIZE(linduvar_taken, 16);
 LINDUVAR_FIELD(linduvar_taken, node, 0);
 LINDUVAR_FIELD(linduvar_taken, child, 1);
-LINDUVAR_FIELD(linduvar_taken, rank, 4);
+LINDUVAR_FIELD(linduvar_taken, rank, 8);
 
-LINDUVAR_SIZE(linduvar_way, 80);
+LINDUVAR_SIZE(linduvar_way, 152);
 LINDUVAR_FIELD(linduvar_way, taken, 0);
-LINDUVAR_FIELD(linduvar_way, count, 72);
+LINDUVAR_FIELD(linduvar_way, count, 144);
 
 LINDUVAR_SIZE(linduvar_diagnosis, 32);
 LINDUVAR_FIELD(linduvar_diagnosis, refusal, 0);
@@ -356,35 +366,35 @@ LINDUVAR_FIELD(linduvar_diagnosis, node, 8);
 LINDUVAR_FIELD(linduvar_diagnosis, needed, 16);
 LINDUVAR_FIELD(linduvar_diagnosis, there, 24);
 
-LINDUVAR_SIZE(linduvar_entry, 12);
+LINDUVAR_SIZE(linduvar_entry, 16);
 LINDUVAR_FIELD(linduvar_entry, rank, 0);
-LINDUVAR_FIELD(linduvar_entry, tag, 4);
-LINDUVAR_FIELD(linduvar_entry, child, 5);
-LINDUVAR_FIELD(linduvar_entry, packet, 8);
+LINDUVAR_FIELD(linduvar_entry, tag, 8);
+LINDUVAR_FIELD(linduvar_entry, child, 9);
+LINDUVAR_FIELD(linduvar_entry, packet, 12);
 
 LINDUVAR_SIZE(linduvar_frame, 80);
 LINDUVAR_FIELD(linduvar_frame, topology, 0);
 LINDUVAR_FIELD(linduvar_frame, nodes, 64);
 LINDUVAR_FIELD(linduvar_frame, limit, 72);
 
-LINDUVAR_SIZE(linduvar_state, 27864);
+LINDUVAR_SIZE(linduvar_state, 37080);
 LINDUVAR_FIELD(linduvar_state, frame, 0);
 LINDUVAR_FIELD(linduvar_state, refused, 80);
 LINDUVAR_FIELD(linduvar_state, lengths, 84);
-LINDUVAR_FIELD(linduvar_state, entries, 212);
+LINDUVAR_FIELD(linduvar_state, entries, 216);
 
-LINDUVAR_SIZE(linduvar_opened, 27872);
+LINDUVAR_SIZE(linduvar_opened, 37088);
 LINDUVAR_FIELD(linduvar_opened, state, 0);
-LINDUVAR_FIELD(linduvar_opened, refusal, 27864);
+LINDUVAR_FIELD(linduvar_opened, refusal, 37080);
 
-LINDUVAR_SIZE(linduvar_answer, 27872);
+LINDUVAR_SIZE(linduvar_answer, 37088);
 LINDUVAR_FIELD(linduvar_answer, state, 0);
-LINDUVAR_FIELD(linduvar_answer, refusal, 27864);
-LINDUVAR_FIELD(linduvar_answer, value, 27868);
+LINDUVAR_FIELD(linduvar_answer, refusal, 37080);
+LINDUVAR_FIELD(linduvar_answer, value, 37084);
 
-LINDUVAR_SIZE(linduvar_popped, 27952);
+LINDUVAR_SIZE(linduvar_popped, 37240);
 LINDUVAR_FIELD(linduvar_popped, answer, 0);
-LINDUVAR_FIELD(linduvar_popped, way, 27872);
+LINDUVAR_FIELD(linduvar_popped, way, 37088);
 
 LINDUVAR_SIZE(linduvar_amount, 8);
 LINDUVAR_FIELD(linduvar_amount, refusal, 0);
@@ -397,29 +407,29 @@ LINDUVAR_FIELD(linduvar_rule, weight, 1);
 LINDUVAR_SIZE(linduvar_rules, 128);
 LINDUVAR_FIELD(linduvar_rules, rules, 0);
 
-LINDUVAR_SIZE(linduvar_disciplines, 640);
+LINDUVAR_SIZE(linduvar_disciplines, 1152);
 LINDUVAR_FIELD(linduvar_disciplines, rules, 0);
 LINDUVAR_FIELD(linduvar_disciplines, virtual_time, 128);
-LINDUVAR_FIELD(linduvar_disciplines, finish, 384);
+LINDUVAR_FIELD(linduvar_disciplines, finish, 640);
 
-LINDUVAR_SIZE(linduvar_tree, 28504);
+LINDUVAR_SIZE(linduvar_tree, 38232);
 LINDUVAR_FIELD(linduvar_tree, state, 0);
-LINDUVAR_FIELD(linduvar_tree, disciplines, 27864);
+LINDUVAR_FIELD(linduvar_tree, disciplines, 37080);
 
-LINDUVAR_SIZE(linduvar_tree_opened, 28512);
+LINDUVAR_SIZE(linduvar_tree_opened, 38240);
 LINDUVAR_FIELD(linduvar_tree_opened, tree, 0);
-LINDUVAR_FIELD(linduvar_tree_opened, refusal, 28504);
+LINDUVAR_FIELD(linduvar_tree_opened, refusal, 38232);
 
-LINDUVAR_SIZE(linduvar_tree_answer, 28512);
+LINDUVAR_SIZE(linduvar_tree_answer, 38240);
 LINDUVAR_FIELD(linduvar_tree_answer, tree, 0);
-LINDUVAR_FIELD(linduvar_tree_answer, refusal, 28504);
-LINDUVAR_FIELD(linduvar_tree_answer, value, 28508);
+LINDUVAR_FIELD(linduvar_tree_answer, refusal, 38232);
+LINDUVAR_FIELD(linduvar_tree_answer, value, 38236);
 
-LINDUVAR_SIZE(linduvar_pair_opened, 57048);
+LINDUVAR_SIZE(linduvar_pair_opened, 76504);
 LINDUVAR_FIELD(linduvar_pair_opened, source, 0);
-LINDUVAR_FIELD(linduvar_pair_opened, chip, 28504);
-LINDUVAR_FIELD(linduvar_pair_opened, map, 57008);
-LINDUVAR_FIELD(linduvar_pair_opened, refusal, 57040);
+LINDUVAR_FIELD(linduvar_pair_opened, chip, 38232);
+LINDUVAR_FIELD(linduvar_pair_opened, map, 76464);
+LINDUVAR_FIELD(linduvar_pair_opened, refusal, 76496);
 
 #undef LINDUVAR_FIELD
 #undef LINDUVAR_SIZE

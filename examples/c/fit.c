@@ -1,6 +1,6 @@
 // A drawing fitted to a chip: the least map or why there is none, a path carried over, and packets sent through both trees by their disciplines.
 //
-// A tree has 28,504 bytes and both trees with their map 57,048, so they are static here and not on the stack. A call needs stack all the same
+// A tree has 38,232 bytes and both trees with their map 76,504, so they are static here and not on the stack. A call needs stack all the same
 // (docs/C.md), so the calls are made in a thread with LINDUVAR_STACK_BYTES of it.
 #include <inttypes.h>
 #include <linduvar.h>
@@ -48,7 +48,7 @@ static void carry(const uint8_t *map, linduvar_path path) {
     }
     printf("steps on the chip:");
     for (size_t i = 0; i < carried.path.count; i++) {
-        printf(" child %d rank %" PRIu32 "%s", carried.path.steps[i].child, carried.path.steps[i].rank, i + 1 < carried.path.count ? "," : "\n");
+        printf(" child %d rank %" PRIu64 "%s", carried.path.steps[i].child, carried.path.steps[i].rank, i + 1 < carried.path.count ? "," : "\n");
     }
 }
 
@@ -110,6 +110,10 @@ static void *fit(void *unused) {
 }
 
 int main(void) {
+    if (linduvar_layout() != LINDUVAR_LAYOUT) {
+        fprintf(stderr, "the library has layout %zu, the header %d\n", linduvar_layout(), LINDUVAR_LAYOUT);
+        return 1;
+    }
     pthread_attr_t attributes;
     pthread_t thread;
     if (pthread_attr_init(&attributes) != 0 || pthread_attr_setstacksize(&attributes, LINDUVAR_STACK_BYTES) != 0 ||

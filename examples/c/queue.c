@@ -1,6 +1,6 @@
 // The queue tree alone: opening, pushes by path, pops, counts, and refusals by number.
 //
-// A state has 27,864 bytes, so states and answers are static here and not on the stack. A call needs stack all the same: a thread that calls should
+// A state has 37,080 bytes, so states and answers are static here and not on the stack. A call needs stack all the same: a thread that calls should
 // have LINDUVAR_STACK_BYTES, as in fit.c.
 #include <inttypes.h>
 #include <linduvar.h>
@@ -33,11 +33,15 @@ static void pop(void) {
     printf("out %" PRIX32 ", by", popped.answer.value);
     for (size_t i = 0; i < popped.way.count; i++) {
         const linduvar_taken *taken = &popped.way.taken[i];
-        printf(" node %d child %d rank %" PRIu32 "%s", taken->node, taken->child, taken->rank, i + 1 < popped.way.count ? "," : "\n");
+        printf(" node %d child %d rank %" PRIu64 "%s", taken->node, taken->child, taken->rank, i + 1 < popped.way.count ? "," : "\n");
     }
 }
 
 int main(void) {
+    if (linduvar_layout() != LINDUVAR_LAYOUT) {
+        fprintf(stderr, "the library has layout %zu, the header %d\n", linduvar_layout(), LINDUVAR_LAYOUT);
+        return 1;
+    }
     // The root has three children: the roses, the glasshouses with two children of their own (palms and orchids), and the gate.
     static const uint8_t garden[] = {3, 0, 2, 0, 0, 0};
     static linduvar_opened opened;

@@ -3,9 +3,10 @@
 //! does the same in C.
 
 use linduvar::chip::{self, Behind};
-use linduvar::{maps, tree, PairOpened, Path, Rule, Step};
+use linduvar::{layout, maps, tree, PairOpened, Path, Rule, Step, LAYOUT};
 use linduvar::{ARRIVAL, MAX_SOURCE_NODES, MAX_TARGET_NODES, STACK_BYTES, WEIGHTED};
 use linduvar::{LACKS_DEPTH, LACKS_LEAVES};
+use std::process::exit;
 use std::thread;
 
 /// The root has three children: the roses, the glasshouses with two children of
@@ -24,6 +25,10 @@ const FIVE_COURSES: [u8; 6] = [5, 0, 0, 0, 0, 0];
 const CHIP: [u8; 7] = [2, 2, 0, 0, 2, 0, 0];
 
 fn main() {
+    if layout() != LAYOUT {
+        eprintln!("the library has layout {}, the crate {LAYOUT}", layout());
+        exit(1);
+    }
     // A thread with as much stack as the calls need.
     let thread = thread::Builder::new().stack_size(STACK_BYTES).spawn(fit);
     thread.expect("a thread starts").join().expect("it ends");

@@ -1,9 +1,14 @@
 //! The queue tree alone: opening, pushes by path, pops, counts, and refusals by
 //! number. examples/c/queue.c does the same in C.
 
-use linduvar::{queue, Path, State, Step};
+use linduvar::{layout, queue, Path, State, Step, LAYOUT};
+use std::process::exit;
 
 fn main() {
+    if layout() != LAYOUT {
+        eprintln!("the library has layout {}, the crate {LAYOUT}", layout());
+        exit(1);
+    }
     // The root has three children: the roses, the glasshouses with two children
     // of their own (palms and orchids), and the gate.
     let garden = [3, 0, 2, 0, 0, 0];

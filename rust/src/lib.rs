@@ -13,11 +13,13 @@ pub mod queue;
 mod structs;
 pub mod topology;
 pub mod tree;
+mod version;
 
 pub use structs::{
     Amount, Answer, Carried, Diagnosis, Disciplines, Entry, Frame, Opened, PairOpened, Path,
     Popped, Rule, Rules, State, Step, Taken, Tree, TreeAnswer, TreeOpened, Way,
 };
+pub use version::{layout, LAYOUT, VERSION};
 
 /// The most nodes of a source.
 pub const MAX_SOURCE_NODES: usize = 32;
@@ -35,7 +37,7 @@ pub const MAX_STEPS: usize = 9;
 pub const MAX_ENTRIES: usize = 2304;
 /// The stack of a thread that calls, in bytes. Measured and rounded up, and no
 /// bound that is proved (docs/C.md).
-pub const STACK_BYTES: usize = 655_360;
+pub const STACK_BYTES: usize = 851_968;
 /// In a map: an inner node with one child, which has no image.
 pub const PASSED_OVER: u8 = 255;
 /// From [`maps::search`]: there is a map, but no room for it.

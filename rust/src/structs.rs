@@ -9,7 +9,7 @@ use std::mem::offset_of;
 #[derive(Clone, Copy, Debug, PartialEq, Eq)]
 pub struct Step {
     pub child: u8,
-    pub rank: u32,
+    pub rank: u64,
 }
 
 /// A path from the root to a leaf: its first `count` steps, and the rank at the
@@ -19,7 +19,7 @@ pub struct Step {
 pub struct Path {
     pub steps: [Step; MAX_STEPS],
     pub count: usize,
-    pub leaf_rank: u32,
+    pub leaf_rank: u64,
 }
 
 /// A path that was carried over, with zeros behind its last step; or the refusal
@@ -38,7 +38,7 @@ pub struct Carried {
 pub struct Taken {
     pub node: u8,
     pub child: u8,
-    pub rank: u32,
+    pub rank: u64,
 }
 
 /// The way of a pop from the root down: its first `count` places. The others
@@ -76,7 +76,7 @@ pub struct Diagnosis {
 #[repr(C)]
 #[derive(Clone, Copy, Debug, PartialEq, Eq)]
 pub struct Entry {
-    pub rank: u32,
+    pub rank: u64,
     pub tag: u8,
     pub child: u8,
     pub packet: u32,
@@ -177,8 +177,8 @@ pub(crate) struct RulesByValue {
 #[derive(Clone, Copy, Debug, PartialEq, Eq)]
 pub struct Disciplines {
     pub rules: Rules,
-    pub virtual_time: [u32; MAX_TARGET_NODES],
-    pub finish: [u32; MAX_TARGET_NODES],
+    pub virtual_time: [u64; MAX_TARGET_NODES],
+    pub finish: [u64; MAX_TARGET_NODES],
 }
 
 /// A queue tree with disciplines: a tree by itself, or a chip's tree. Of the
@@ -222,7 +222,7 @@ pub struct PairOpened {
 
 impl Path {
     /// Only the first nine steps of a longer path; zeros past the last step.
-    pub fn new(steps: &[Step], leaf_rank: u32) -> Path {
+    pub fn new(steps: &[Step], leaf_rank: u64) -> Path {
         let mut path = Path {
             steps: [Step { child: 0, rank: 0 }; MAX_STEPS],
             count: steps.len().min(MAX_STEPS),
@@ -255,24 +255,24 @@ macro_rules! layout {
 
 // The layouts that the library has.
 const _: () = {
-    layout!(Step, 8: child 0, rank 4);
-    layout!(Path, 88: steps 0, count 72, leaf_rank 80);
-    layout!(Carried, 96: path 0, refusal 88);
-    layout!(Taken, 8: node 0, child 1, rank 4);
-    layout!(Way, 80: taken 0, count 72);
+    layout!(Step, 16: child 0, rank 8);
+    layout!(Path, 160: steps 0, count 144, leaf_rank 152);
+    layout!(Carried, 168: path 0, refusal 160);
+    layout!(Taken, 16: node 0, child 1, rank 8);
+    layout!(Way, 152: taken 0, count 144);
     layout!(Diagnosis, 32: refusal 0, lack 1, node 8, needed 16, there 24);
-    layout!(Entry, 12: rank 0, tag 4, child 5, packet 8);
+    layout!(Entry, 16: rank 0, tag 8, child 9, packet 12);
     layout!(Frame, 80: topology 0, nodes 64, limit 72);
-    layout!(State, 27_864: frame 0, refused 80, lengths 84, entries 212);
-    layout!(Opened, 27_872: state 0, refusal 27_864);
-    layout!(Answer, 27_872: state 0, refusal 27_864, value 27_868);
-    layout!(Popped, 27_952: answer 0, way 27_872);
+    layout!(State, 37_080: frame 0, refused 80, lengths 84, entries 216);
+    layout!(Opened, 37_088: state 0, refusal 37_080);
+    layout!(Answer, 37_088: state 0, refusal 37_080, value 37_084);
+    layout!(Popped, 37_240: answer 0, way 37_088);
     layout!(Amount, 8: refusal 0, value 4);
     layout!(Rule, 2: discipline 0, weight 1);
     layout!(RulesByValue, 128: rules 0);
-    layout!(Disciplines, 640: rules 0, virtual_time 128, finish 384);
-    layout!(Tree, 28_504: state 0, disciplines 27_864);
-    layout!(TreeOpened, 28_512: tree 0, refusal 28_504);
-    layout!(TreeAnswer, 28_512: tree 0, refusal 28_504, value 28_508);
-    layout!(PairOpened, 57_048: source 0, chip 28_504, map 57_008, refusal 57_040);
+    layout!(Disciplines, 1152: rules 0, virtual_time 128, finish 640);
+    layout!(Tree, 38_232: state 0, disciplines 37_080);
+    layout!(TreeOpened, 38_240: tree 0, refusal 38_232);
+    layout!(TreeAnswer, 38_240: tree 0, refusal 38_232, value 38_236);
+    layout!(PairOpened, 76_504: source 0, chip 38_232, map 76_464, refusal 76_496);
 };

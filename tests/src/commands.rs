@@ -29,13 +29,37 @@ pub fn push(packet: u32, leaf_rank: u32) -> Command {
     [vec![0x06], numbers.concat()].concat()
 }
 
-/// The steps of a path and the push along them.
-pub fn push_along(steps: &[Step], packet: u32, leaf_rank: u32) -> Vec<Command> {
+/// A step with a rank of 64 bits.
+pub fn wide_step(child: u8, rank: u64) -> Command {
+    [vec![0x09, child], rank.to_be_bytes().to_vec()].concat()
+}
+
+/// A push with a leaf rank of 64 bits.
+pub fn wide_push(packet: u32, leaf_rank: u64) -> Command {
+    let (packet, leaf_rank) = (packet.to_be_bytes(), leaf_rank.to_be_bytes());
+    [vec![0x0A], packet.to_vec(), leaf_rank.to_vec()].concat()
+}
+
+/// The steps of a path and the push along them. A rank above 32 bits takes a
+/// wide command, and any other one where `wide` says so.
+pub fn push_along(
+    steps: &[Step],
+    packet: u32,
+    leaf_rank: u64,
+    mut wide: impl FnMut() -> bool,
+) -> Vec<Command> {
+    let mut narrow = |rank: u64| u32::try_from(rank).ok().filter(|_| !wide());
     let mut commands: Vec<Command> = steps
         .iter()
-        .map(|taken| step(taken.child, taken.rank))
+        .map(|taken| match narrow(taken.rank) {
+            Some(rank) => step(taken.child, rank),
+            None => wide_step(taken.child, taken.rank),
+        })
         .collect();
-    commands.push(push(packet, leaf_rank));
+    commands.push(match narrow(leaf_rank) {
+        Some(rank) => push(packet, rank),
+        None => wide_push(packet, leaf_rank),
+    });
     commands
 }
 

@@ -7,12 +7,12 @@ use crate::scheduler::{Rules, ARRIVAL, STRICT, WEIGHTED};
 use crate::topology::Topology;
 use crate::translator::Path;
 
-const MOST_FINISH: u64 = 4_294_967_295;
+const MOST_FINISH: u128 = 18_446_744_073_709_551_615;
 
 /// An entry that came to the queue of a node.
 struct Entered {
     node: usize,
-    rank: u64,
+    rank: u128,
     item: Item,
     left: bool,
 }
@@ -23,8 +23,8 @@ pub struct History {
     rules: Rules,
     limit: usize,
     entered: Vec<Entered>,
-    popped: Vec<(usize, u64)>,
-    finished: Vec<(usize, u64)>,
+    popped: Vec<(usize, u128)>,
+    finished: Vec<(usize, u128)>,
     turned_away: u32,
 }
 
@@ -54,14 +54,14 @@ impl History {
     }
 
     /// 0 where the node keeps none.
-    pub fn virtual_time(&self, node: usize) -> u64 {
+    pub fn virtual_time(&self, node: usize) -> u128 {
         match self.discipline(node) {
             WEIGHTED => last(&self.popped, node),
             _ => 0,
         }
     }
 
-    pub fn finish(&self, node: usize) -> u64 {
+    pub fn finish(&self, node: usize) -> u128 {
         last(&self.finished, node)
     }
 
@@ -74,13 +74,13 @@ impl History {
             if child == 0 || usize::from(child) > children.len() {
                 return Err((13, 0));
             }
-            way.push((node, u64::from(rank), Item::Child(child)));
+            way.push((node, u128::from(rank), Item::Child(child)));
             node = children[usize::from(child) - 1];
         }
         if self.drawing.child_count(node) > 0 {
             return Err((14, 0));
         }
-        way.push((node, u64::from(path.leaf_rank), Item::Packet(packet)));
+        way.push((node, u128::from(path.leaf_rank), Item::Packet(packet)));
         self.find_room()?;
         Ok(self.enter(way))
     }
@@ -107,7 +107,7 @@ impl History {
             let number = number.expect("a child of its parent").1;
             way.push((node, rank, Item::Child(number)));
             if self.discipline(node) == WEIGHTED {
-                let finish = rank + u64::from(length) * 256 / u64::from(self.rules[child].weight);
+                let finish = rank + u128::from(length) * 256 / u128::from(self.rules[child].weight);
                 finishes.push((child, finish));
             }
             child = node;
@@ -149,10 +149,10 @@ impl History {
     }
 
     /// The rank at a node of a packet to its child, or of one that stays there.
-    fn rank(&self, node: usize, child: usize, class: u8) -> u64 {
+    fn rank(&self, node: usize, child: usize, class: u8) -> u128 {
         match self.discipline(node) {
             ARRIVAL => 0,
-            STRICT => u64::from(class),
+            STRICT => u128::from(class),
             _ => self.virtual_time(node).max(self.finish(child)),
         }
     }
@@ -166,7 +166,7 @@ impl History {
         Err((15, self.turned_away))
     }
 
-    fn enter(&mut self, way: Vec<(usize, u64, Item)>) -> u32 {
+    fn enter(&mut self, way: Vec<(usize, u128, Item)>) -> u32 {
         for (node, rank, item) in way {
             self.entered.push(Entered {
                 node,
@@ -180,7 +180,7 @@ impl History {
 }
 
 /// The last number for a node; 0 before there was one.
-fn last(numbers: &[(usize, u64)], node: usize) -> u64 {
+fn last(numbers: &[(usize, u128)], node: usize) -> u128 {
     let mut of_node = numbers.iter().rev().filter(|(other, _)| *other == node);
     of_node.next().map_or(0, |&(_, number)| number)
 }

@@ -17,6 +17,13 @@ impl Kinds {
         }
     }
 
+    /// Adds what another has met.
+    pub fn add(&mut self, other: Kinds) {
+        for (kind, times) in other.met {
+            *self.met.entry(kind).or_default() += times;
+        }
+    }
+
     pub fn print(&self) {
         for (kind, times) in &self.met {
             println!("  {times:6}  {kind}");

@@ -64,6 +64,10 @@ pub fn scripts() -> Vec<(&'static str, Vec<u8>)> {
             "8 steps to each push, all refused",
             filled(&lane, 0, &[1], level(&[1; 8])),
         ),
+        (
+            "8 wide steps to each wide push",
+            filled(&deep, 0, &[], |turn| wide_push(&[2; 8], turn)),
+        ),
         ("a hard search", hard_search()),
     ]
 }
@@ -100,14 +104,24 @@ fn push_pop(path: &[u8]) -> impl Fn(u32) -> Vec<u8> + '_ {
 /// 256 pushes, then three pops for each, and again.
 fn fill_and_empty(turn: u32) -> Vec<u8> {
     match turn % 1024 < 256 {
-        true => push(&[1], turn, turn % 3),
+        true => push(&[1], turn, u64::from(turn % 3)),
         false => vec![POP],
     }
 }
 
-fn push(path: &[u8], packet: u32, rank: u32) -> Vec<u8> {
-    let steps: Vec<Step> = path.iter().map(|&child| Step { child, rank }).collect();
-    push_along(&steps, packet, rank).concat()
+fn push(path: &[u8], packet: u32, rank: u64) -> Vec<u8> {
+    push_along(&level_steps(path, rank), packet, rank, || false).concat()
+}
+
+/// A push whose ranks are of 64 bits and below all before.
+fn wide_push(path: &[u8], packet: u32) -> Vec<u8> {
+    let rank = u64::MAX - u64::from(packet);
+    push_along(&level_steps(path, rank), packet, rank, || true).concat()
+}
+
+/// Steps of one rank.
+fn level_steps(path: &[u8], rank: u64) -> Vec<Step> {
+    path.iter().map(|&child| Step { child, rank }).collect()
 }
 
 /// One way of eight steps and one of one.

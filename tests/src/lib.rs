@@ -14,6 +14,7 @@ pub mod generate;
 pub mod history;
 pub mod kinds;
 pub mod laborious;
+pub mod misread;
 pub mod pairs;
 pub mod paper;
 pub mod plain;

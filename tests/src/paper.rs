@@ -1,7 +1,9 @@
 //! The paper's own examples as scripts, and some worked by hand from its
 //! words, each with its whole output.
 
-use crate::commands::{limit, opening, push, source_node, step, target_node, OPEN, POP};
+use crate::commands::{
+    limit, opening, push, source_node, step, target_node, wide_push, wide_step, OPEN, POP,
+};
 
 /// Each script prints what it should.
 pub fn check(run: impl Fn(&[u8]) -> Vec<u8>) {
@@ -25,6 +27,7 @@ pub fn scripts() -> Vec<(Vec<u8>, String)> {
     scripts.extend(pairs());
     scripts.extend(topologies());
     scripts.extend(worked_by_hand());
+    scripts.extend(wide_ranks());
     scripts
 }
 
@@ -189,5 +192,90 @@ fn worked_by_hand() -> Vec<(Vec<u8>, String)> {
         script(vec![OPEN, 0x01, 0x00], "no 22 0\n"),
         script(vec![0x00, 0x06], "no 20 0\n"),
         script(vec![0x08], "no 20 0\n"),
+        script(vec![0x0B], "no 20 0\n"),
+    ]
+}
+
+/// The commands for ranks of 64 bits.
+fn wide_ranks() -> Vec<(Vec<u8>, String)> {
+    const TWO_32: u64 = 1 << 32;
+    let cut = |command: &[u8]| command[..command.len() - 1].to_vec();
+    let leaf = opening(&[0], &[0], 9);
+    let fan = opening(&[2, 0, 0], &[2, 0, 0], 9);
+    let script = |opening: &[Vec<u8>], commands: &[Vec<u8>], printed: &str| {
+        let script = [opening, commands].concat().concat();
+        (script, printed.to_string())
+    };
+    vec![
+        // 21 before 22, and 22 before 04.
+        script(&[], &[cut(&wide_step(1, 1))], "no 21 0\n"),
+        script(&[], &[cut(&wide_push(1, 1))], "no 21 0\n"),
+        script(&[], &[wide_step(1, 1)], "no 22 0\n"),
+        script(&[], &[wide_push(1, 1)], "no 22 0\n"),
+        script(&leaf, &[vec![0x09]], "map 0\nno 21 8\n"),
+        script(&leaf, &[vec![0x0A]], "map 0\nno 21 8\n"),
+        script(&leaf, &[cut(&wide_push(1, 1))], "map 0\nno 21 8\n"),
+        // Steps of both kinds count toward the ninth.
+        script(
+            &leaf,
+            &[step(1, 1).repeat(7), wide_step(1, 1), step(1, 1)],
+            "map 0\nno 22 60\n",
+        ),
+        script(
+            &leaf,
+            &[wide_step(1, 1).repeat(7), step(1, 1), wide_step(1, 1)],
+            "map 0\nno 22 84\n",
+        ),
+        script(
+            &leaf,
+            &[wide_step(1, 1).repeat(8), cut(&wide_step(1, 1))],
+            "map 0\nno 21 88\n",
+        ),
+        // The greatest rank and those around 2^32, at a leaf.
+        script(
+            &leaf,
+            &[
+                wide_push(1, u64::MAX),
+                wide_push(2, TWO_32 + 1),
+                push(3, u32::MAX),
+                wide_push(4, TWO_32),
+                wide_push(5, TWO_32 - 1),
+                push(6, 0),
+                vec![POP; 6],
+            ],
+            "map 0\nin 1\nin 2\nin 3\nin 4\nin 5\nin 6\nout 00000006\nout 00000003\n\
+             out 00000005\nout 00000004\nout 00000002\nout 00000001\n",
+        ),
+        // Both pushes go along steps of both kinds, whose ranks are compared in full.
+        script(
+            &fan,
+            &[
+                wide_step(1, TWO_32 + 1),
+                push(1, 0),
+                wide_step(2, TWO_32),
+                push(2, 0),
+                step(1, 2),
+                wide_push(3, 0),
+                wide_step(1, 2 * TWO_32),
+                wide_push(4, TWO_32),
+                vec![POP; 4],
+            ],
+            "map 0 1 2\nin 1\nin 2\nin 3\nin 4\nout 00000001\nout 00000002\n\
+             out 00000003\nout 00000004\n",
+        ),
+        // 0A clears the steps, refused or not.
+        script(
+            &fan,
+            &[
+                wide_step(3, 0),
+                wide_push(1, 0),
+                step(1, 0),
+                wide_push(2, 0),
+                wide_push(3, 0),
+                wide_step(2, 0),
+                push(4, 0),
+            ],
+            "map 0 1 2\nno 13 26\nin 1\nno 14 58\nin 2\n",
+        ),
     ]
 }

@@ -44,7 +44,7 @@ pub enum Item {
 
 #[derive(Clone, Copy, Debug, PartialEq, Eq)]
 pub struct Entry {
-    pub rank: u32,
+    pub rank: u64,
     pub item: Item,
 }
 
@@ -70,13 +70,13 @@ impl Node {
     }
 
     /// Enters before the first entry of greater rank.
-    fn enter(&mut self, rank: u32, item: Item) {
+    fn enter(&mut self, rank: u64, item: Item) {
         let at = self.queue.iter().position(|entry| entry.rank > rank);
         let at = at.unwrap_or(self.queue.len());
         self.queue.insert(at, Entry { rank, item });
     }
 
-    fn push(&mut self, steps: &[Step], leaf_rank: u32, packet: u32) {
+    fn push(&mut self, steps: &[Step], leaf_rank: u64, packet: u32) {
         match steps {
             [step, rest @ ..] => {
                 self.enter(step.rank, Item::Child(step.child));
@@ -144,7 +144,7 @@ impl QueueTree {
     }
 
     /// Answers how many packets are then held.
-    pub fn push(&mut self, steps: &[Step], leaf_rank: u32, packet: u32) -> Result<usize, Refusal> {
+    pub fn push(&mut self, steps: &[Step], leaf_rank: u64, packet: u32) -> Result<usize, Refusal> {
         let mut node = &mut self.root;
         for step in steps {
             node = node.child(step.child).ok_or(Refusal::NoSuchChild)?;
@@ -301,7 +301,7 @@ fn ranks_never_fall(queue: &[Entry]) -> bool {
 /// The loop that the benchmark times: in each round a pop and then a push of
 /// the round's number, along the first path in even rounds and the second in
 /// odd ones. Refusals are passed over.
-pub fn rounds(tree: &mut QueueTree, paths: [(&[Step], u32); 2], rounds: u32) {
+pub fn rounds(tree: &mut QueueTree, paths: [(&[Step], u64); 2], rounds: u32) {
     for round in 0..rounds {
         let (steps, leaf_rank) = paths[round as usize % 2];
         _ = tree.pop();

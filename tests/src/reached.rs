@@ -1,31 +1,23 @@
 //! Counts what scripts have reached: every command, every refusal with its
-//! cases, and scripts of every kind.
+//! cases, scripts of every kind, and what else is worth to be met.
 
+use crate::kinds::Kinds;
+use crate::misread::{self, MISREADINGS};
 use crate::pairs::shares_a_node;
 use crate::reduced::PASSED_OVER;
-use crate::script::{outcomes, Done, Outcome, Refused, REFUSALS, SCRIPT_BYTES};
+use crate::script::{outcomes, run, Done, Outcome, REFUSALS, SCRIPT_BYTES};
 use crate::scripts::{KINDS, LONG_KINDS};
-use std::collections::BTreeMap;
 
-/// Each refusal must be met this often, but those at the end of the longest
+/// Each thing must be met this often, but those at the end of the longest
 /// script, which take long to reach.
 const OFTEN_ENOUGH: usize = 5;
 const AT_THE_END: usize = 3;
 
 #[derive(Default)]
 pub struct Reached {
-    kinds: BTreeMap<&'static str, usize>,
-    commands: BTreeMap<u8, usize>,
-    refusals: BTreeMap<Refused, usize>,
+    met: Kinds,
+    scripts: usize,
     most_held: usize,
-    /// Maps by which two branches of the source share a chip node.
-    shared: usize,
-    /// Maps of sources with nodes that are passed over, and among them those of
-    /// which one leaf is left.
-    passed: usize,
-    lone_leaves: usize,
-    /// Scripts past the longest that end with a whole command.
-    ended_by_length: usize,
 }
 
 impl Reached {
@@ -34,14 +26,15 @@ impl Reached {
     }
 
     /// Runs a script and counts.
-    pub fn script(&mut self, kind: &'static str, script: &[u8]) {
-        *self.kinds.entry(kind).or_default() += 1;
+    pub fn script(&mut self, kind: &str, script: &[u8]) {
+        self.scripts += 1;
+        self.met.meet(kind);
         let outcomes = outcomes(script);
         for outcome in &outcomes {
             match &outcome.answer {
-                Err(refused) => *self.refusals.entry(*refused).or_default() += 1,
+                Err((number, case)) => self.met.meet(&format!("{number} {case}")),
                 Ok(done) => {
-                    *self.commands.entry(outcome.command).or_default() += 1;
+                    self.met.meet(&format!("{:02X}", outcome.command));
                     match done {
                         Done::Held(packets) => self.most_held = self.most_held.max(*packets),
                         Done::Map(map) => self.map(&target(script, &outcomes), map),
@@ -50,79 +43,157 @@ impl Reached {
                 }
             }
         }
+        self.pushes(&outcomes);
+        match outcomes.iter().any(Outcome::is_wide) {
+            true => self.wide_ranks(script, &outcomes),
+            false => self.met.meet("neither 09 nor 0A is reached"),
+        }
         let stopped = outcomes.last().is_some_and(Outcome::stops);
         if script.len() > SCRIPT_BYTES && !stopped {
-            self.ended_by_length += 1;
+            self.met.meet("ended by its length alone");
         }
     }
 
     fn map(&mut self, target: &[u8], map: &[u8]) {
         let passed = map.iter().filter(|&&image| image == PASSED_OVER).count();
-        self.shared += usize::from(shares_a_node(target, map));
-        self.passed += usize::from(passed > 0);
-        self.lone_leaves += usize::from(passed > 0 && passed + 1 == map.len());
+        for (met, kind) in [
+            (shares_a_node(target, map), MAPS[0]),
+            (passed > 0, MAPS[1]),
+            (passed > 0 && passed + 1 == map.len(), MAPS[2]),
+        ] {
+            if met {
+                self.met.meet(kind);
+            }
+        }
+    }
+
+    /// By which commands the steps of a push were gathered, or those before a
+    /// ninth; and pushes that are accepted after one that was refused along some
+    /// steps.
+    fn pushes(&mut self, outcomes: &[Outcome]) {
+        let mut steps = Vec::new();
+        let mut refused = None;
+        for Outcome {
+            command, answer, ..
+        } in outcomes
+        {
+            match (command, answer) {
+                (0x05 | 0x09, Ok(_)) => steps.push(*command),
+                (0x05 | 0x09, Err((22, case))) if !steps.is_empty() => {
+                    self.met
+                        .meet(&format!("{case}, after {}", gathered(&steps)));
+                }
+                (0x06 | 0x0A, Ok(_)) => {
+                    let gathered = gathered(&steps);
+                    self.met.meet(&format!("{command:02X} along {gathered}"));
+                    if let Some((command, number)) = refused.take() {
+                        self.met.meet(&accepted_after(command, number));
+                    }
+                    steps.clear();
+                }
+                (0x06 | 0x0A, Err((number, _))) => {
+                    refused = (!steps.is_empty()).then_some((*command, *number));
+                    steps.clear();
+                }
+                _ => {}
+            }
+        }
+    }
+
+    /// Whether a script would print something else if its ranks were misread.
+    fn wide_ranks(&mut self, script: &[u8], outcomes: &[Outcome]) {
+        self.met.meet("09 or 0A is reached");
+        let printed = run(script);
+        for (name, reading) in MISREADINGS {
+            if run(&misread::of_script(script, outcomes, reading)) != printed {
+                self.met.meet(&another_text(name));
+            }
+        }
     }
 
     /// Adds what another has counted.
     pub fn add(&mut self, other: Reached) {
-        for (kind, times) in other.kinds {
-            *self.kinds.entry(kind).or_default() += times;
-        }
-        for (command, times) in other.commands {
-            *self.commands.entry(command).or_default() += times;
-        }
-        for (refused, times) in other.refusals {
-            *self.refusals.entry(refused).or_default() += times;
-        }
+        self.met.add(other.met);
+        self.scripts += other.scripts;
         self.most_held = self.most_held.max(other.most_held);
-        self.shared += other.shared;
-        self.passed += other.passed;
-        self.lone_leaves += other.lone_leaves;
-        self.ended_by_length += other.ended_by_length;
     }
 
     pub fn print(&self) {
-        let scripts: usize = self.kinds.values().sum();
-        println!("{scripts} scripts; how many of each kind:");
-        for (kind, times) in &self.kinds {
-            println!("  {times:7}  {kind}");
-        }
-        println!("how often each command was accepted:");
-        for (command, times) in &self.commands {
-            println!("  {times:7}  {command:02X}");
-        }
-        println!("how often each refusal was met:");
-        for ((number, case), times) in &self.refusals {
-            println!("  {times:7}  {number:2} {case}");
-        }
         println!(
-            "at most {} packets held; {} maps share a chip node, {} pass over nodes, {} of them down to a leaf; \
-             {} scripts ended by their length alone",
-            self.most_held, self.shared, self.passed, self.lone_leaves, self.ended_by_length
+            "{} scripts, at most {} packets held; how often each kind of script, each command, \
+             each refusal and each occasion was met:",
+            self.scripts, self.most_held
         );
+        self.met.print();
     }
 
     pub fn require_everything(&self) {
+        let require = |kind: &str| self.met.require(kind, OFTEN_ENOUGH);
         for kind in KINDS.iter().map(|(kind, _)| kind).chain(&LONG_KINDS) {
-            assert!(self.kinds.contains_key(kind), "no script: {kind}");
+            require(kind);
         }
-        for command in 1..=7 {
-            assert!(self.commands.contains_key(&command), "never {command:02X}");
+        for command in ["01", "02", "03", "04", "05", "06", "07", "09", "0A"] {
+            require(command);
         }
-        for refused in REFUSALS {
-            let times = self.refusals.get(&refused).copied().unwrap_or(0);
-            let enough = match refused.1 {
+        for (number, case) in REFUSALS {
+            let enough = match case {
                 "cut short by the longest script" => AT_THE_END,
                 _ => OFTEN_ENOUGH,
             };
-            assert!(times >= enough, "{refused:?} was met only {times} times");
+            self.met.require(&format!("{number} {case}"), enough);
         }
-        assert!(self.ended_by_length >= AT_THE_END);
-        for maps in [self.shared, self.passed, self.lone_leaves] {
-            assert!(maps >= OFTEN_ENOUGH, "only {maps} maps of a kind");
+        for steps in ["05", "09", "05 and 09"] {
+            for step in ["05", "09"] {
+                require(&format!("ninth step by {step}, after {steps}"));
+            }
+            for push in ["06", "0A"] {
+                require(&format!("{push} along {steps}"));
+            }
         }
+        for push in [0x06, 0x0A] {
+            for number in [13, 14, 15] {
+                require(&accepted_after(push, number));
+            }
+        }
+        for (name, _) in MISREADINGS {
+            require(&another_text(name));
+        }
+        require("neither 09 nor 0A is reached");
+        require("09 or 0A is reached");
+        for map in MAPS {
+            require(map);
+        }
+        self.met.require("ended by its length alone", AT_THE_END);
         assert_eq!(self.most_held, 256, "no tree was full at the highest limit");
     }
+}
+
+/// Maps by which two branches of the source share a chip node, maps of sources
+/// with nodes that are passed over, and among them those of which one leaf is
+/// left.
+const MAPS: [&str; 3] = [
+    "a map that shares a chip node",
+    "a map that passes over nodes",
+    "a map that passes over all nodes but a leaf",
+];
+
+/// By which commands steps were gathered.
+fn gathered(steps: &[u8]) -> &'static str {
+    match (steps.contains(&0x05), steps.contains(&0x09)) {
+        (true, true) => "05 and 09",
+        (true, false) => "05",
+        (false, true) => "09",
+        (false, false) => "no steps",
+    }
+}
+
+/// Had the refused push left its steps, the next one would go along them too.
+fn accepted_after(command: u8, number: u8) -> String {
+    format!("a push accepted after steps and {command:02X}, refused by {number}")
+}
+
+fn another_text(misreading: &str) -> String {
+    format!("another text if ranks are read {misreading}")
 }
 
 /// The target that a script drew.

@@ -122,8 +122,8 @@ pub fn passed_over(
         }
         if drawing.is_passed_over(node) && rules[node].discipline == WEIGHTED {
             met.push("passed over: weighted");
-            let service = u32::from(length) * 256 / u32::from(rules[child].weight);
-            if virtual_time[node].max(finish[child]) > u32::MAX - service {
+            let service = u64::from(length) * 256 / u64::from(rules[child].weight);
+            if virtual_time[node].max(finish[child]) > u64::MAX - service {
                 met.push("passed over: a finish above the largest");
             }
         }

@@ -89,7 +89,8 @@ pub fn break_rules(
     Some(())
 }
 
-/// Puts any numbers in place of those kept, many of them near the largest.
+/// Puts any numbers in place of those kept, many of them near the largest, and
+/// some near the largest of 32 bits.
 pub fn keep_anything(disciplines: &mut Disciplines, random: &mut Random) {
     let Disciplines {
         virtual_time,
@@ -97,7 +98,8 @@ pub fn keep_anything(disciplines: &mut Disciplines, random: &mut Random) {
         ..
     } = disciplines;
     for number in virtual_time.iter_mut().chain(finish) {
-        let (any, near) = (random.number() as u32, random.below(17_000_000) as u32);
-        *number = random.pick(&[0, 1, any, u32::MAX - near, u32::MAX - near % 256, u32::MAX]);
+        let (any, near) = (random.number(), random.below(17_000_000) as u64);
+        let end = random.pick(&[u64::MAX, u64::MAX, u64::from(u32::MAX)]);
+        *number = random.pick(&[0, 1, any, end - near, end - near % 256, end]);
     }
 }

@@ -63,9 +63,9 @@ pub struct Scheduler {
     drawing: Topology,
     given: Disciplines,
     /// Each weighted node that is kept has one.
-    virtual_time: BTreeMap<usize, u32>,
+    virtual_time: BTreeMap<usize, u64>,
     /// Each child of such a node has one.
-    last_finish: BTreeMap<Flow, u32>,
+    last_finish: BTreeMap<Flow, u64>,
 }
 
 impl Scheduler {
@@ -138,14 +138,14 @@ impl Scheduler {
 
     /// Figure 1's start of a packet to a child of a node that keeps a virtual
     /// time.
-    fn start(&self, flow: Flow) -> u32 {
+    fn start(&self, flow: Flow) -> u64 {
         self.virtual_time[&flow.0].max(self.last_finish[&flow])
     }
 
     /// Figure 1's finish; None if it is too large.
-    fn finish(&self, flow: Flow, length: u16) -> Option<u32> {
+    fn finish(&self, flow: Flow, length: u16) -> Option<u64> {
         let weight = self.given.rules[self.child(flow)].weight;
-        let service = u32::from(length) * 256 / u32::from(weight);
+        let service = u64::from(length) * 256 / u64::from(weight);
         self.start(flow).checked_add(service)
     }
 
@@ -176,16 +176,16 @@ impl Scheduler {
     }
 
     /// The rank at a node that keeps no virtual time.
-    fn plain_rank(&self, node: usize, class: u8) -> u32 {
+    fn plain_rank(&self, node: usize, class: u8) -> u64 {
         match self.discipline(node) {
-            STRICT if !self.drawing.is_passed_over(node) => u32::from(class),
+            STRICT if !self.drawing.is_passed_over(node) => u64::from(class),
             _ => 0,
         }
     }
 
     /// The finishes that a packet to a leaf leaves behind; None if one of them
     /// is too large.
-    fn finishes(&self, leaf: usize, length: u16) -> Option<Vec<(Flow, u32)>> {
+    fn finishes(&self, leaf: usize, length: u16) -> Option<Vec<(Flow, u64)>> {
         let flows = self.flows(leaf).into_iter();
         flows
             .filter(|flow| self.last_finish.contains_key(flow))
@@ -194,7 +194,7 @@ impl Scheduler {
     }
 
     /// A pop took an entry of that rank at the node.
-    fn popped(&mut self, node: usize, rank: u32) {
+    fn popped(&mut self, node: usize, rank: u64) {
         if let Some(time) = self.virtual_time.get_mut(&node) {
             *time = rank;
         }

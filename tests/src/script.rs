@@ -12,16 +12,33 @@ pub const SCRIPT_BYTES: usize = 65_536;
 
 /// What a script prints.
 pub fn run(script: &[u8]) -> Vec<u8> {
-    let mut output = String::new();
-    for outcome in outcomes(script) {
-        output += &outcome.line();
-    }
-    output.into_bytes()
+    print(outcomes(script))
+}
+
+fn print(outcomes: Vec<Outcome>) -> Vec<u8> {
+    let lines = outcomes.iter().map(Outcome::line);
+    lines.collect::<String>().into_bytes()
 }
 
 /// Every command that was met, and what came of it.
 pub fn outcomes(script: &[u8]) -> Vec<Outcome> {
-    let mut walk = Walk::new(&script[..script.len().min(SCRIPT_BYTES)]);
+    outcomes_of(script, operand_bytes)
+}
+
+/// What a script printed before 2.5, when 09 and 0A were unknown; and whether it
+/// reaches one of them.
+pub fn run_before_wide(script: &[u8]) -> (Vec<u8>, bool) {
+    let outcomes = outcomes_of(script, |command| match command {
+        0x09 | 0x0A => None,
+        _ => operand_bytes(command),
+    });
+    let reaches = outcomes.iter().any(Outcome::is_wide);
+    (print(outcomes), reaches)
+}
+
+fn outcomes_of(script: &[u8], operand_bytes: fn(u8) -> Option<usize>) -> Vec<Outcome> {
+    let script = &script[..script.len().min(SCRIPT_BYTES)];
+    let mut walk = Walk::new(script, operand_bytes);
     let mut outcomes = Vec::new();
     while let Some(outcome) = walk.next_command() {
         let stop = outcome.stops();
@@ -52,7 +69,7 @@ pub enum Done {
 pub type Refused = (u8, &'static str);
 
 /// Every refusal that a script can meet.
-pub const REFUSALS: [Refused; 36] = [
+pub const REFUSALS: [Refused; 42] = [
     (1, "source"),
     (2, "source"),
     (3, "source"),
@@ -71,12 +88,15 @@ pub const REFUSALS: [Refused; 36] = [
     (17, "limit 0"),
     (17, "limit above 256"),
     (20, "command 00"),
-    (20, "command above 07"),
+    (20, "command 08"),
+    (20, "command above 0A"),
     (21, "01 cut short"),
     (21, "02 cut short"),
     (21, "03 cut short"),
     (21, "05 cut short"),
     (21, "06 cut short"),
+    (21, "09 cut short"),
+    (21, "0A cut short"),
     (21, "cut short and out of turn"),
     (21, "cut short by the longest script"),
     (22, "01 after 04"),
@@ -88,7 +108,10 @@ pub const REFUSALS: [Refused; 36] = [
     (22, "05 before 04"),
     (22, "06 before 04"),
     (22, "07 before 04"),
-    (22, "ninth 05"),
+    (22, "09 before 04"),
+    (22, "0A before 04"),
+    (22, "ninth step by 05"),
+    (22, "ninth step by 09"),
 ];
 
 const NO_MAP: &str = "no map";
@@ -117,6 +140,11 @@ impl Outcome {
     pub fn stops(&self) -> bool {
         matches!(self.answer, Err((number, _)) if !(13..=16).contains(&number))
     }
+
+    /// Whether the command carries a rank of 64 bits.
+    pub fn is_wide(&self) -> bool {
+        matches!(self.command, 0x09 | 0x0A)
+    }
 }
 
 /// How many bytes follow a command; None for one that is unknown.
@@ -127,6 +155,8 @@ fn operand_bytes(command: u8) -> Option<usize> {
         0x04 | 0x07 => Some(0),
         0x05 => Some(5),
         0x06 => Some(8),
+        0x09 => Some(9),
+        0x0A => Some(12),
         _ => None,
     }
 }
@@ -134,6 +164,7 @@ fn operand_bytes(command: u8) -> Option<usize> {
 /// A script and how far it has come.
 struct Walk<'a> {
     script: &'a [u8],
+    operand_bytes: fn(u8) -> Option<usize>,
     next: usize,
     source: Vec<u8>,
     target: Vec<u8>,
@@ -144,9 +175,10 @@ struct Walk<'a> {
 }
 
 impl<'a> Walk<'a> {
-    fn new(script: &'a [u8]) -> Walk<'a> {
+    fn new(script: &'a [u8], operand_bytes: fn(u8) -> Option<usize>) -> Walk<'a> {
         Walk {
             script,
+            operand_bytes,
             next: 0,
             source: Vec::new(),
             target: Vec::new(),
@@ -173,10 +205,11 @@ impl<'a> Walk<'a> {
 
     /// Takes the operands of the next command: refusals 20 and 21.
     fn operands(&mut self, command: u8) -> Result<&'a [u8], Refused> {
-        let Some(length) = operand_bytes(command) else {
+        let Some(length) = (self.operand_bytes)(command) else {
             return Err(match command {
-                0 => (20, "command 00"),
-                _ => (20, "command above 07"),
+                0x00 => (20, "command 00"),
+                0x08 => (20, "command 08"),
+                _ => (20, "command above 0A"),
             });
         };
         let start = self.next + 1;
@@ -199,7 +232,9 @@ impl<'a> Walk<'a> {
             0x02 => "02 cut short",
             0x03 => "03 cut short",
             0x05 => "05 cut short",
-            _ => "06 cut short",
+            0x06 => "06 cut short",
+            0x09 => "09 cut short",
+            _ => "0A cut short",
         }
     }
 
@@ -216,7 +251,10 @@ impl<'a> Walk<'a> {
             0x05 if !opened => "05 before 04",
             0x06 if !opened => "06 before 04",
             0x07 if !opened => "07 before 04",
-            0x05 if self.steps.len() == MOST_STEPS => "ninth 05",
+            0x09 if !opened => "09 before 04",
+            0x0A if !opened => "0A before 04",
+            0x05 if self.steps.len() == MOST_STEPS => "ninth step by 05",
+            0x09 if self.steps.len() == MOST_STEPS => "ninth step by 09",
             _ => return Ok(()),
         };
         Err((22, rule))
@@ -228,12 +266,15 @@ impl<'a> Walk<'a> {
             0x01 => self.source.push(operands[0]),
             0x02 => self.target.push(operands[0]),
             0x03 => self.limit = Some(number(operands) as usize),
-            0x05 => self.steps.push(Step {
+            0x05 | 0x09 => self.steps.push(Step {
                 child: operands[0],
                 rank: number(&operands[1..]),
             }),
             0x04 => return self.open(),
-            0x06 => return self.push(number(&operands[..4]), number(&operands[4..])),
+            0x06 | 0x0A => {
+                let (packet, leaf_rank) = operands.split_at(4);
+                return self.push(number(packet) as u32, number(leaf_rank));
+            }
             _ => return self.pop(),
         }
         Ok(Done::Read)
@@ -264,9 +305,9 @@ impl<'a> Walk<'a> {
     }
 
     /// Pushes along the steps gathered, and clears them.
-    fn push(&mut self, packet: u32, leaf_rank: u32) -> Result<Done, Refused> {
+    fn push(&mut self, packet: u32, leaf_rank: u64) -> Result<Done, Refused> {
         let steps = std::mem::take(&mut self.steps);
-        let trees = self.trees.as_mut().expect("06 comes after 04");
+        let trees = self.trees.as_mut().expect("a push comes after 04");
         trees
             .push(&Path { steps, leaf_rank }, packet)
             .map_err(refused)?;
@@ -290,9 +331,9 @@ fn refused(refusal: queue_tree::Refusal) -> Refused {
     (refusal.number(), case)
 }
 
-/// A number of up to 4 bytes, big endian.
-fn number(bytes: &[u8]) -> u32 {
+/// A number of up to 8 bytes, big endian.
+fn number(bytes: &[u8]) -> u64 {
     bytes
         .iter()
-        .fold(0, |number, &byte| number << 8 | u32::from(byte))
+        .fold(0, |number, &byte| number << 8 | u64::from(byte))
 }

@@ -4,7 +4,8 @@
 //! commands can be put in or cut at a chosen place.
 
 use crate::commands::{
-    limit, opening, push, push_along, source_node, step, target_node, Command, OPEN, POP,
+    limit, opening, push, push_along, source_node, step, target_node, wide_push, wide_step,
+    Command, OPEN, POP,
 };
 use crate::generate;
 use crate::pairs::{self, Drawn};
@@ -36,52 +37,73 @@ fn shuffled_opening(
     commands
 }
 
-/// A push for a source, along a path that is mostly right. Now and then a pop
-/// comes while the steps are gathered, and leaves them.
-fn any_push(source: &[u8], habits: &Habits, random: &mut Random) -> Vec<Command> {
-    let (path, _, _) = any_path(source, habits, random);
-    let mut steps = path.steps().to_vec();
-    // A ninth step would end the script.
-    steps.truncate(MOST_STEPS_DOWN);
-    let mut commands = push_along(&steps, habits.packet(random), path.leaf_rank);
-    if random.one_in(12) {
-        commands.insert(random.below(commands.len()), vec![POP]);
-    }
-    commands
+/// What the pushes of a script are like.
+struct Pushes {
+    habits: Habits,
+    /// Whether there are wide commands.
+    wide: bool,
 }
 
-/// Pushes and pops for a source, as many calls as are asked for.
-pub fn calls(source: &[u8], count: usize, random: &mut Random) -> Vec<Command> {
-    let habits = Habits::any(random);
-    let mut commands = Vec::new();
-    let mut pushes_in_ten = 7;
-    for _ in 0..count {
-        if random.one_in(20) {
-            pushes_in_ten = random.pick(&[1, 3, 5, 7, 9, 10]);
-        }
-        if random.below(10) < pushes_in_ten {
-            commands.extend(any_push(source, &habits, random));
-        } else {
-            commands.push(vec![POP]);
-        }
+impl Pushes {
+    /// Every other script has no wide commands.
+    fn any(random: &mut Random) -> Pushes {
+        let wide = random.one_in(2);
+        let habits = match wide {
+            true => Habits::any(random),
+            false => Habits::narrow(random),
+        };
+        Pushes { habits, wide }
     }
-    commands
-}
 
-/// Pushes enough to fill a tree, though some are refused.
-fn fill(source: &[u8], packets: usize, random: &mut Random) -> Vec<Command> {
-    let habits = Habits::any(random);
-    (0..2 * packets + 10)
-        .flat_map(|_| any_push(source, &habits, random))
-        .collect()
+    /// A push for a source, along a path that is mostly right. Now and then a pop
+    /// comes while the steps are gathered, and leaves them.
+    fn push(&self, source: &[u8], random: &mut Random) -> Vec<Command> {
+        let (path, _, _) = any_path(source, &self.habits, random);
+        let mut steps = path.steps().to_vec();
+        // A ninth step would end the script.
+        steps.truncate(MOST_STEPS_DOWN);
+        let packet = self.habits.packet(random);
+        let mut commands = push_along(&steps, packet, path.leaf_rank, || {
+            self.wide && random.one_in(2)
+        });
+        if random.one_in(12) {
+            commands.insert(random.below(commands.len()), vec![POP]);
+        }
+        commands
+    }
+
+    /// Pushes and pops for a source, as many calls as are asked for.
+    fn calls(&self, source: &[u8], count: usize, random: &mut Random) -> Vec<Command> {
+        let mut commands = Vec::new();
+        let mut pushes_in_ten = 7;
+        for _ in 0..count {
+            if random.one_in(20) {
+                pushes_in_ten = random.pick(&[1, 3, 5, 7, 9, 10]);
+            }
+            if random.below(10) < pushes_in_ten {
+                commands.extend(self.push(source, random));
+            } else {
+                commands.push(vec![POP]);
+            }
+        }
+        commands
+    }
+
+    /// Pushes enough to fill a tree, though some are refused.
+    fn fill(&self, source: &[u8], packets: usize, random: &mut Random) -> Vec<Command> {
+        (0..2 * packets + 10)
+            .flat_map(|_| self.push(source, random))
+            .collect()
+    }
 }
 
 /// A large pair opened with that limit, filled, and calls after that.
 pub fn at_limit(packets: usize, random: &mut Random) -> Vec<u8> {
     let drawn = pairs::embedded(random, SOURCE_NODES, TARGET_NODES);
+    let pushes = Pushes::any(random);
     let mut script = opening(&drawn.source, &drawn.target, packets);
-    script.extend(fill(&drawn.source, packets, random));
-    script.extend(calls(&drawn.source, packets + 20, random));
+    script.extend(pushes.fill(&drawn.source, packets, random));
+    script.extend(pushes.calls(&drawn.source, packets + 20, random));
     script.concat()
 }
 
@@ -145,11 +167,12 @@ fn whole(drawn: &Drawn, random: &mut Random) -> Vec<Command> {
     let any = random.within(1..=MOST_PACKETS);
     let packets = random.pick(&[1, 2, 3, 10, 255, MOST_PACKETS, any]);
     let mut commands = shuffled_opening(&drawn.source, &drawn.target, packets, random);
+    let pushes = Pushes::any(random);
     if random.one_in(12) {
-        commands.extend(fill(&drawn.source, packets, random));
+        commands.extend(pushes.fill(&drawn.source, packets, random));
     }
     let count = random.pick(&[0, 4, 12, 40, 100]);
-    commands.extend(calls(&drawn.source, count, random));
+    commands.extend(pushes.calls(&drawn.source, count, random));
     commands
 }
 
@@ -175,8 +198,8 @@ fn limit_out_of_range(random: &mut Random) -> Vec<Command> {
 }
 
 fn put_unknown(commands: &mut Vec<Command>, random: &mut Random) {
-    let any = random.within(8..=255) as u8;
-    let byte = random.pick(&[0, 8, 9, 10, 11, 255, any]);
+    let any = random.within(11..=255) as u8;
+    let byte = random.pick(&[0, 8, 11, 12, 255, any]);
     commands.insert(random.within(0..=commands.len()), vec![byte]);
 }
 
@@ -184,7 +207,7 @@ fn damage_a_byte(commands: &mut [Command], random: &mut Random) {
     let command = &mut commands[random.below(commands.len())];
     let at = random.below(command.len());
     let any = random.below(256) as u8;
-    command[at] = random.pick(&[any, any, 0, 1, 4, 7, command[at] ^ 1]);
+    command[at] = random.pick(&[any, any, 0, 1, 4, 7, 9, 10, command[at] ^ 1]);
 }
 
 /// Puts one command out of turn into a script that has none. Where it is.
@@ -195,7 +218,7 @@ fn put_out_of_turn(commands: &mut Vec<Command>, random: &mut Random) -> usize {
     let end = commands.len();
     let (before, after) = (0..=opened, opened + 1..=end);
     let any = random.below(256) as u8;
-    let (at, command) = match random.below(10) {
+    let (at, command) = match random.below(15) {
         0 => (random.within(after), source_node(any)),
         1 => (random.within(after), target_node(any)),
         2 => (random.within(after), limit(1)),
@@ -205,17 +228,29 @@ fn put_out_of_turn(commands: &mut Vec<Command>, random: &mut Random) -> usize {
         6 => (random.within(before), step(any, 1)),
         7 => (random.within(before), push(u32::from(any), 1)),
         8 => (random.within(before), vec![POP]),
+        9 => (random.within(before), wide_step(any, 1)),
+        10 => (random.within(before), wide_push(u32::from(any), 1)),
         _ => {
             let at = random.within(after);
-            // What was gathered before does not matter: nine are too many.
+            let (one, other) = (any_step(1, random), any_step(1, random));
             for _ in 0..8 {
-                commands.insert(at, step(1, 1));
+                commands.insert(at, random.pick(&[&one, &other]).clone());
             }
-            (at + 8, step(any, 1))
+            // The steps that were gathered before are cleared.
+            commands.insert(at, push(1, 1));
+            (at + 9, any_step(any, random))
         }
     };
     commands.insert(at, command);
     at
+}
+
+/// A step by 05 or by 09.
+fn any_step(child: u8, random: &mut Random) -> Command {
+    match random.one_in(2) {
+        true => step(child, 1),
+        false => wide_step(child, 1),
+    }
 }
 
 /// Cuts a script anywhere, or within a command of some sort that it has.
@@ -226,7 +261,7 @@ fn cut(commands: &mut Vec<Command>, random: &mut Random) {
         *commands = vec![script];
         return;
     }
-    let sort = random.pick(&[0x01, 0x02, 0x03, 0x05, 0x06]);
+    let sort = random.pick(&[0x01, 0x02, 0x03, 0x05, 0x06, 0x09, 0x0A]);
     let of_sort: Vec<usize> = (0..commands.len())
         .filter(|&at| commands[at][0] == sort)
         .collect();
@@ -245,7 +280,7 @@ fn cut_operands(commands: &mut [Command], random: &mut Random) {
 
 /// Bytes with no plan behind them, mostly known commands.
 fn noise(random: &mut Random) -> Vec<u8> {
-    let highest = random.pick(&[4, 7, 8, 255]);
+    let highest = random.pick(&[4, 7, 8, 10, 255]);
     (0..random.within(0..=60))
         .map(|_| random.within(0..=highest) as u8)
         .collect()
@@ -279,19 +314,22 @@ pub fn over_long(kind: &str, random: &mut Random) -> Vec<u8> {
     let mut script = shuffled_opening(&drawn.source, &drawn.target, packets, random).concat();
     // Steps take much room and little work.
     let idle = [step(1, 1).repeat(8), push(1, 1)].concat();
+    let pushes = Pushes::any(random);
     while script.len() + 300 < SCRIPT_BYTES {
         if random.one_in(20) {
-            script.extend(calls(&drawn.source, 3, random).concat());
+            script.extend(pushes.calls(&drawn.source, 3, random).concat());
         } else {
             script.extend(&idle);
         }
     }
-    let long = [step(1, 1), push(1, 1), push(2, 1), limit(1), source_node(0)];
-    let short = [vec![POP], vec![OPEN], vec![0x08], step(1, 1), push(1, 1)];
+    let both = [step(1, 1), push(1, 1), wide_step(1, 1), wide_push(1, 1)];
+    let long = [limit(1), source_node(0)];
+    let short = [vec![POP], vec![OPEN], vec![0x08]];
     let last = match kind {
-        "over-long, cut within a command" => &long[random.below(long.len())],
-        _ => &short[random.below(short.len())],
+        "over-long, cut within a command" => [&both[..], &long].concat(),
+        _ => [&both[..], &short].concat(),
     };
+    let last = &last[random.below(last.len())];
     let before = match kind {
         "over-long, cut within a command" => random.within(1..=last.len() - 1),
         "over-long, a command ends there" => last.len(),
@@ -302,6 +340,6 @@ pub fn over_long(kind: &str, random: &mut Random) -> Vec<u8> {
     }
     script.extend(last);
     // More that would be printed if it were read.
-    script.extend((0..random.within(1..=20)).map(|_| random.within(0..=8) as u8));
+    script.extend((0..random.within(1..=20)).map(|_| random.within(0..=11) as u8));
     script
 }

@@ -78,25 +78,52 @@ impl Course {
 
 /// What ranks and packets a list of calls makes use of.
 pub struct Habits {
-    ranks: usize,
-    high: bool,
+    ranks: Ranks,
+}
+
+#[derive(Clone, Copy)]
+enum Ranks {
+    /// So few that ties are common.
+    Below(u64),
+    /// Ranks of 32 bits, many of them at far ends.
+    Narrow,
+    /// The five around 2^32.
+    AroundNarrow,
+    /// Ranks of 64 bits with few words of 32 bits, so that many agree in their
+    /// low words, and many have another order by these.
+    FewWords,
+    /// Ranks of 64 bits, many of them at far ends.
+    Wide,
 }
 
 impl Habits {
     pub fn any(random: &mut Random) -> Habits {
-        Habits {
-            ranks: random.pick(&[1, 2, 3, 3, 10, 1_000_000]),
-            high: random.one_in(3),
+        let wide = random.pick(&[Ranks::AroundNarrow, Ranks::FewWords, Ranks::Wide]);
+        match random.one_in(2) {
+            true => Habits { ranks: wide },
+            false => Habits::narrow(random),
         }
     }
 
-    /// Few ranks, so that ties are common, now and then at far ends.
-    pub fn rank(&self, random: &mut Random) -> u32 {
-        if self.high {
-            let any = random.number() as u32;
-            random.pick(&[0, 1, 65_535, 65_536, 1 << 31, u32::MAX - 1, u32::MAX, any])
-        } else {
-            random.below(self.ranks) as u32
+    /// With ranks of 32 bits alone.
+    pub fn narrow(random: &mut Random) -> Habits {
+        let few = random.pick(&[1, 2, 3, 3, 10, 1_000_000]);
+        let ranks = random.pick(&[Ranks::Below(few), Ranks::Below(few), Ranks::Narrow]);
+        Habits { ranks }
+    }
+
+    pub fn rank(&self, random: &mut Random) -> u64 {
+        const NARROW: u64 = u32::MAX as u64;
+        let any = random.number();
+        let mut word = || random.pick(&[0, 1, 2, NARROW]);
+        match self.ranks {
+            Ranks::Below(few) => any % few,
+            Ranks::Narrow => {
+                random.pick(&[0, 1, 65_535, 65_536, 1 << 31, NARROW - 1, NARROW, any >> 32])
+            }
+            Ranks::AroundNarrow => NARROW - 1 + any % 5,
+            Ranks::FewWords => word() << 32 | word(),
+            Ranks::Wide => random.pick(&[0, NARROW, 1 << 32, 1 << 63, u64::MAX - 1, u64::MAX, any]),
         }
     }
 
@@ -228,7 +255,7 @@ pub fn dressed(state: &State, kind: &str, random: &mut Random) -> linduvar::Stat
     }
     match kind {
         "noise behind the entries" => plain.entries[used..].fill_with(|| linduvar::Entry {
-            rank: random.number() as u32,
+            rank: random.number(),
             tag: random.below(256) as u8,
             child: random.below(256) as u8,
             packet: random.number() as u32,
@@ -247,13 +274,13 @@ pub fn dressed(state: &State, kind: &str, random: &mut Random) -> linduvar::Stat
 /// An entry of the highest rank, which may stand behind all others.
 fn last(item: Item) -> Entry {
     Entry {
-        rank: u32::MAX,
+        rank: u64::MAX,
         item,
     }
 }
 
 /// Ways to break a clause of well-formedness.
-pub const DAMAGES: [&str; 24] = [
+pub const DAMAGES: [&str; 25] = [
     "topology byte",
     "number of nodes",
     "limit 0",
@@ -267,6 +294,7 @@ pub const DAMAGES: [&str; 24] = [
     "entries of two queues exchanged",
     "falling rank at an inner node",
     "falling rank at a leaf",
+    "falling rank, its low word the same",
     "packet for a child at an inner node",
     "packet more at an inner node",
     "child for a packet at a leaf",
@@ -368,20 +396,25 @@ pub fn damage(state: &mut linduvar::State, kind: &str, random: &mut Random) -> O
             }
             state.entries.swap(one, other);
         }
-        "falling rank at an inner node" | "falling rank at a leaf" => {
-            let inside = kind == "falling rank at an inner node";
-            let first = if inside { inner_entry? } else { leaf_entry? };
+        "falling rank at an inner node"
+        | "falling rank at a leaf"
+        | "falling rank, its low word the same" => {
+            let first = match kind {
+                "falling rank at an inner node" => inner_entry?,
+                "falling rank at a leaf" => leaf_entry?,
+                _ => any_entry?,
+            };
             // Against the next of the same queue.
             let second = first + 1;
             if second == used || owner(second) != owner(first) {
                 return None;
             }
-            let (low, mut high) = (state.entries[first].rank, state.entries[second].rank);
-            if low == high {
-                high = high.checked_add(1)?;
-            }
-            state.entries[first].rank = high;
-            state.entries[second].rank = low;
+            let (low, high) = (state.entries[first].rank, state.entries[second].rank);
+            (state.entries[first].rank, state.entries[second].rank) = match kind {
+                "falling rank, its low word the same" => (high.checked_add(1 << 32)?, high),
+                _ if low == high => (high.checked_add(1)?, low),
+                _ => (high, low),
+            };
         }
         "packet for a child at an inner node" => {
             state.entries[inner_entry?].tag = random.pick(&[1, 2, 255]);

@@ -10,7 +10,7 @@ use crate::topology::Topology;
 #[derive(Clone, Debug)]
 pub struct Path {
     pub steps: Vec<Step>,
-    pub leaf_rank: u32,
+    pub leaf_rank: u64,
 }
 
 /// The path carried over, or the number of the refusal.
@@ -62,7 +62,7 @@ impl Translator {
     }
 
     /// The steps of one rank from a target node down to another.
-    fn steps_down(&self, from: usize, to: usize, rank: u32) -> Vec<Step> {
+    fn steps_down(&self, from: usize, to: usize, rank: u64) -> Vec<Step> {
         let numbers = way_down(&self.pair.target, from, to).into_iter();
         numbers.map(|child| Step { child, rank }).collect()
     }

@@ -12,8 +12,8 @@ pub struct Row {
     pub packet: u32,
     pub leaf: usize,
     pub length: u16,
-    pub start: u32,
-    pub finish: u32,
+    pub start: u64,
+    pub finish: u64,
     pub place: usize,
 }
 
@@ -35,7 +35,7 @@ pub fn rows() -> Vec<Row> {
 
 fn row(line: &str) -> Row {
     let cells = line.trim_matches('|').split('|');
-    let numbers: Vec<u32> = cells
+    let numbers: Vec<u64> = cells
         .map(|cell| cell.trim().replace(',', ""))
         .map(|cell| cell.parse().unwrap_or_else(|_| panic!("{cell}: {line}")))
         .collect();
@@ -43,7 +43,7 @@ fn row(line: &str) -> Row {
         panic!("six numbers, and not {line}");
     };
     Row {
-        packet,
+        packet: packet as u32,
         leaf: leaf as usize,
         length: length as u16,
         start,

@@ -82,7 +82,7 @@ fn examples(kinds: &mut Kinds) {
     rules[4] = rule((ARRIVAL, 1));
     let mut trees = Trees::open(&source, &target, 3, &rules);
     assert_eq!(trees.map, [0, 2, 4, 5, 6]);
-    let path = |steps: &[(u8, u32)], packet: u32| {
+    let path = |steps: &[(u8, u64)], packet: u32| {
         let steps: Vec<Step> = steps
             .iter()
             .map(|&(child, rank)| Step { child, rank })
@@ -97,6 +97,14 @@ fn examples(kinds: &mut Kinds) {
     assert_eq!(trees.chip.disciplines.finish[..5], [0, 0, 0, 828, 0]);
     trees.answers(&path(&[(2, 1)], 3), (14, 0), kinds);
     trees.answers(&path(&[(3, 1)], 3), (13, 0), kinds);
+    // The largest finish there, from a time by path, and one above it.
+    for (over, answer) in [(0, (0, 1)), (1, (23, 0))] {
+        let mut trees = Trees::open(&source, &target, 1, &rules);
+        let start = u64::MAX - 256 + over;
+        trees.answers(&path(&[(2, 9), (2, start)], 1), (0, 1), kinds);
+        trees.answers(&Request::Pop, (0, 1), kinds);
+        trees.answers(&to_leaf(4, 1, 2), answer, kinds);
+    }
 
     // The root and node 2 are passed over: they give rank 0, keep nothing and
     // leave what stands in their places. Node 2 has a weight under node 1.
@@ -107,7 +115,7 @@ fn examples(kinds: &mut Kinds) {
     let mut trees = Trees::open(&[1, 2, 1, 0, 0], &[2, 0, 0], 4, &rules);
     assert_eq!(trees.map, [255, 0, 255, 1, 2]);
     trees.source.disciplines.virtual_time[..3].copy_from_slice(&[77, 0, 88]);
-    trees.source.disciplines.finish[..4].copy_from_slice(&[9, u32::MAX, 0, u32::MAX]);
+    trees.source.disciplines.finish[..4].copy_from_slice(&[9, u64::MAX, 0, u64::MAX]);
     trees.chip.disciplines = trees.source.disciplines;
     trees.read_again();
     for (leaf, packet, held) in [(3, 31, 1), (4, 41, 2), (3, 32, 3)] {
@@ -118,7 +126,7 @@ fn examples(kinds: &mut Kinds) {
         trees.answers(&Request::Pop, (0, packet), kinds);
         assert_eq!(trees.chip.disciplines.virtual_time[..3], [77, time, 88]);
     }
-    let finishes = [9, u32::MAX, 2560, u32::MAX, 2560];
+    let finishes = [9, u64::MAX, 2560, u64::MAX, 2560];
     assert_eq!(trees.chip.disciplines.finish[..5], finishes);
 
     // 24 is about the rules as given.
@@ -524,11 +532,14 @@ impl Trees {
         agree(|| format!("queues after {what}"), rattle, rust);
     }
 
-    /// What a call moved of what the chip keeps, where the chip's number of the
-    /// node is another or it has none.
+    /// What a call moved of what the chip keeps: above 32 bits, and where the
+    /// chip's number of the node is another or it has none.
     fn count_moves(&self, before: &linduvar::Tree, kinds: &mut Kinds) {
         let (old, new) = (&before.disciplines, &self.chip.disciplines);
         for (node, &image) in self.map.iter().enumerate() {
+            if old.finish[node] < 1 << 32 && new.finish[node] >= 1 << 32 {
+                kinds.meet("a finish moved above 32 bits");
+            }
             let elsewhere = usize::from(image) != node;
             let place = match self.drawing[node] {
                 1 => "that is passed over",
@@ -589,7 +600,7 @@ const ANSWERS: [(&str, &[u8]); 8] = [
 ];
 
 /// What is worth to be met besides.
-const OCCASIONS: [&str; 19] = [
+const OCCASIONS: [&str; 20] = [
     "both full at a limit of 1",
     "both full at a limit of 2",
     "both full at a limit of 256",
@@ -604,6 +615,7 @@ const OCCASIONS: [&str; 19] = [
     "a virtual time moved at a node with another image",
     "a finish moved at a node with another image",
     "a finish moved at a node that is passed over",
+    "a finish moved above 32 bits",
     "a lone leaf: push",
     "a lone leaf: push to a leaf",
     "a lone leaf: pop",

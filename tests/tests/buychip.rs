@@ -87,8 +87,11 @@ fn examples(comparison: &mut Comparison) {
     prints(&[2, 0, 4], "no 1 2\n");
     prints(&[1, 2, 1, 0], "no 1 4\n");
     prints(&[1, 0, 1, 0, 4, 9], "no 2 4\n");
-    prints(&[1, 9, 9, 4], "no 20 2\n");
+    prints(&[1, 9, 8, 4], "no 20 2\n");
     prints(&[1, 0, 3, 0], "no 21 2\n");
+    prints(&[1, 0, 9, 4], "no 21 2\n");
+    prints(&[&[1, 0, 9][..], &[4; 9]].concat(), "no 22 2\n");
+    prints(&[&[1, 0, 10][..], &[4; 12]].concat(), "no 22 2\n");
     prints(&[1, 0, 7, 4], "no 22 2\n");
     prints(&[1, 0, 3, 0, 1, 3, 0, 1, 4], "no 22 5\n");
     println!("examples: as they should be");
@@ -124,7 +127,7 @@ fn drawing_alone(random: &mut Random) -> Vec<u8> {
     }
     if random.one_in(2) {
         commands.push(vec![OPEN]);
-        let any = (0..random.below(4)).map(|_| random.below(9) as u8);
+        let any = (0..random.below(4)).map(|_| random.below(12) as u8);
         commands.push(any.collect());
     }
     commands.concat()

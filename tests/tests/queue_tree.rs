@@ -5,6 +5,7 @@
 use linduvar::queue;
 use linduvar_tests::generate;
 use linduvar_tests::kinds::Kinds;
+use linduvar_tests::misread;
 use linduvar_tests::plain;
 use linduvar_tests::queue_tree::{
     self, QueueTree, Refusal, Step, Taken, MOST_ENTRIES, MOST_PACKETS,
@@ -109,10 +110,10 @@ fn examples() {
     // One leaf and nothing else.
     let mut tree = Literal::open(&[0], 3);
     tree.push(&[(1, 0)], 0, 9, (13, 0));
-    tree.push(&[], u32::MAX, 1, (0, 1));
+    tree.push(&[], u64::MAX, 1, (0, 1));
     tree.push(&[], 0, 2, (0, 2));
-    tree.push(&[], 1 << 31, 3, (0, 3));
-    for (packet, rank) in [(2, 0), (3, 1 << 31), (1, u32::MAX)] {
+    tree.push(&[], 1 << 63, 3, (0, 3));
+    for (packet, rank) in [(2, 0), (3, 1 << 63), (1, u64::MAX)] {
         tree.pop((0, packet), &[(0, 0, rank)]);
     }
 
@@ -140,7 +141,7 @@ impl Literal {
         }
     }
 
-    fn push(&mut self, path: &[(u8, u32)], leaf_rank: u32, packet: u32, answer: (u8, u32)) {
+    fn push(&mut self, path: &[(u8, u64)], leaf_rank: u64, packet: u32, answer: (u8, u32)) {
         let steps: Vec<Step> = path
             .iter()
             .map(|&(child, rank)| Step { child, rank })
@@ -152,7 +153,7 @@ impl Literal {
         self.state = rattle.state;
     }
 
-    fn pop(&mut self, answer: (u8, u32), way: &[(u8, u8, u32)]) {
+    fn pop(&mut self, answer: (u8, u32), way: &[(u8, u8, u64)]) {
         let linduvar::Popped {
             answer: rattle,
             way: met,
@@ -185,7 +186,8 @@ fn openings(comparison: &mut Comparison) {
     }
 }
 
-/// Every list of up to 4 calls on small trees with limit 3 and ranks 0 and 1.
+/// Every list of up to 4 calls on small trees with limit 3 and two ranks, of
+/// which the second is the higher one and has the lower low word.
 fn every_short_list(comparison: &mut Comparison) {
     for (topology, paths) in [
         (&[0][..], &[&[][..]][..]),
@@ -196,7 +198,7 @@ fn every_short_list(comparison: &mut Comparison) {
         let mut calls = vec![Call::Pop];
         for path in paths {
             for ranks in 0..2 << path.len() {
-                let rank = |bit: usize| ranks >> bit & 1;
+                let rank = |bit: usize| [1, 1 << 32][ranks >> bit & 1];
                 let steps: Vec<Step> = path
                     .iter()
                     .zip(0..)
@@ -534,6 +536,11 @@ impl Comparison {
                 if path.count > 0 && path.steps[0].child == 8 {
                     self.kinds.meet("accepted through an eighth child");
                 }
+                for queue in sides.tree.state().queues {
+                    for kind in misread::of_queue(&queue) {
+                        self.kinds.meet(&kind);
+                    }
+                }
             }
             (0, Call::Pop) => {
                 self.kinds
@@ -628,7 +635,8 @@ impl Comparison {
         }
         let paths = PATHS.iter().map(|(kind, _)| kind);
         let states = DRESSES.iter().chain(&DAMAGES);
-        for kind in paths.chain(states).chain(&OCCASIONS) {
+        let occasions = OCCASIONS.iter().chain(&misread::QUEUE_KINDS);
+        for kind in paths.chain(states).chain(occasions) {
             self.kinds.require(kind, OFTEN_ENOUGH);
         }
     }

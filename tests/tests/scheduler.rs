@@ -35,7 +35,7 @@ const OPENINGS: usize = 10_000;
 const SHORT_LISTS: usize = 2_000;
 const LONG_LISTS: usize = 20;
 const STATES: usize = 3_000;
-const ENDS: usize = 16_000;
+const ENDS: usize = 18_000;
 const DAMAGED_TREES: usize = 8_000;
 const MANY_ROUNDS: usize = 1_000;
 
@@ -142,29 +142,35 @@ fn examples() {
     // The largest finish, and one above it; a full tree comes first.
     let alike = [(WEIGHTED, 0), (ARRIVAL, 1), (ARRIVAL, 1)];
     let mut tree = Literal::open(&[2, 0, 0], 2, &alike);
-    tree.tree.disciplines.finish[1] = u32::MAX - 255;
+    tree.tree.disciplines.finish[1] = u64::MAX - 255;
     tree.push_to_leaf(1, 0, 1, 1, (23, 0));
-    tree.keeps(&[0], &[(1, u32::MAX - 255)]);
-    tree.tree.disciplines.finish[1] = u32::MAX - 256;
+    tree.keeps(&[0], &[(1, u64::MAX - 255)]);
+    tree.tree.disciplines.finish[1] = u64::MAX - 256;
     tree.push_to_leaf(1, 0, 1, 1, (0, 1));
-    tree.keeps(&[0], &[(1, u32::MAX)]);
+    tree.keeps(&[0], &[(1, u64::MAX)]);
     tree.push_to_leaf(1, 0, 1, 2, (23, 0));
     tree.push_to_leaf(1, 0, 0, 2, (0, 2));
     tree.push_to_leaf(1, 0, 1, 3, (15, 1));
     tree.pop((0, 1));
     tree.pop((0, 2));
-    tree.keeps(&[u32::MAX], &[(1, u32::MAX)]);
+    tree.keeps(&[u64::MAX], &[(1, u64::MAX)]);
 
-    // The greatest service: 65,535 at weight 1, from a time by path.
-    let mut tree = Literal::open(&[2, 0, 0], 1, &alike);
-    for (over, answer) in [(0, (0, 1)), (1, (23, 0))] {
-        tree.push(&[(1, u32::MAX - 65_535 * 256 + over)], 0, 1, (0, 1));
+    // The greatest service: 65,535 at weight 1, from a time by path. What was the
+    // largest finish with ranks of 32 bits is one no more.
+    const SERVICE: u64 = 65_535 * 256;
+    for (start, answer) in [
+        (u64::from(u32::MAX) - SERVICE, (0, 1)),
+        (u64::from(u32::MAX) - SERVICE + 1, (0, 1)),
+        (u64::from(u32::MAX), (0, 1)),
+        (u64::MAX - SERVICE, (0, 1)),
+        (u64::MAX - SERVICE + 1, (23, 0)),
+    ] {
+        let mut tree = Literal::open(&[2, 0, 0], 1, &alike);
+        tree.push(&[(1, start)], 0, 1, (0, 1));
         tree.pop((0, 1));
-        tree.tree.disciplines.finish[1] = 7;
         tree.push_to_leaf(1, 0, u16::MAX, 2, answer);
-        if answer.0 == 0 {
-            tree.pop((0, 2));
-        }
+        let finish = if answer.0 == 0 { start + SERVICE } else { 0 };
+        tree.keeps(&[start], &[(1, finish)]);
     }
 
     // A node with one child is passed over: whatever its discipline, ranks there
@@ -173,7 +179,7 @@ fn examples() {
     for discipline in [ARRIVAL, STRICT, WEIGHTED] {
         let mut tree = Literal::open(&[1, 0], 2, &[(discipline, 0), (STRICT, 1)]);
         tree.tree.disciplines.virtual_time[0] = 5;
-        tree.tree.disciplines.finish[1] = u32::MAX;
+        tree.tree.disciplines.finish[1] = u64::MAX;
         tree.push_to_leaf(1, 9, u16::MAX, 1, (0, 1));
         tree.push_to_leaf(1, 3, u16::MAX, 2, (0, 2));
         let state = plain::read(&tree.tree.state).expect("a state");
@@ -182,7 +188,7 @@ fn examples() {
         tree.pop((0, 1));
         tree.push(&[(1, 8)], 0, 3, (0, 1));
         tree.pop((0, 3));
-        tree.keeps(&[5], &[(1, u32::MAX)]);
+        tree.keeps(&[5], &[(1, u64::MAX)]);
     }
     // 24 is about the rules as given.
     let opened = tree::open(&[1, 0], 1, &rules(&[(WEIGHTED, 0), (ARRIVAL, 0)]));
@@ -214,7 +220,7 @@ impl Literal {
         );
     }
 
-    fn push(&mut self, steps: &[(u8, u32)], leaf_rank: u32, packet: u32, answer: Answer) {
+    fn push(&mut self, steps: &[(u8, u64)], leaf_rank: u64, packet: u32, answer: Answer) {
         let steps: Vec<Step> = steps
             .iter()
             .map(|&(child, rank)| Step { child, rank })
@@ -234,7 +240,7 @@ impl Literal {
     }
 
     /// The virtual times of the first nodes, and some finishes.
-    fn keeps(&self, times: &[u32], finishes: &[(usize, u32)]) {
+    fn keeps(&self, times: &[u64], finishes: &[(usize, u64)]) {
         let kept = &self.tree.disciplines;
         assert_eq!(kept.virtual_time[..times.len()], *times, "virtual times");
         for &(node, finish) in finishes {
@@ -314,8 +320,8 @@ fn compare_history(tree: &Tree, history: &History, topology: &[u8]) {
     let kept = tree.disciplines();
     for node in 0..topology.len() {
         let (time, finish) = (kept.virtual_time[node], kept.finish[node]);
-        assert_eq!(u64::from(time), history.virtual_time(node));
-        assert_eq!(u64::from(finish), history.finish(node));
+        assert_eq!(u128::from(time), history.virtual_time(node));
+        assert_eq!(u128::from(finish), history.finish(node));
     }
 }
 
@@ -543,25 +549,27 @@ fn any_plain_tree(habits: &Habits, random: &mut Random) -> (linduvar::Tree, Topo
     (linduvar::Tree { state, disciplines }, drawing)
 }
 
-/// Packets whose finish is just the largest, or one above it.
+/// Packets whose finish is just the largest, or one above it; and the same of
+/// what was the largest with ranks of 32 bits.
 fn ends(comparison: &mut Comparison) {
     for _ in 0..ENDS {
         let random = &mut comparison.random;
         let habits = Habits::any(random);
         let (mut plain, drawing) = any_plain_tree(&habits, random);
         let leaf = some_leaf(&drawing, random);
-        let (length, over) = (length(random), random.below(2) as u32);
-        let Some(above) = end_at(&mut plain.disciplines, &drawing, leaf, length, over, random)
-        else {
+        let length = length(random);
+        let (answer, end, finish) = match random.one_in(4) {
+            true => random.pick(&FINISHES),
+            false => random.pick(&FINISHES[..2]),
+        };
+        let disciplines = &mut plain.disciplines;
+        let Some(above) = finish_at(disciplines, &drawing, leaf, length, finish, random) else {
             continue;
         };
         let mut sides = Sides::read(plain);
-        let full = sides.tree.held() == sides.tree.limit();
-        let (answer, end) = match (full, over) {
-            (true, 0) => (15, "full, at the largest finish"),
-            (true, _) => (15, "full, one above the largest finish"),
-            (false, 0) => (0, "the largest finish"),
-            (false, _) => (23, "one above the largest finish"),
+        let (answer, end) = match sides.tree.held() == sides.tree.limit() {
+            true => (15, format!("full, {end}")),
+            false => (answer, end.to_string()),
         };
         let request = Request::PushToLeaf {
             leaf,
@@ -571,20 +579,28 @@ fn ends(comparison: &mut Comparison) {
         };
         let met = comparison.call(&mut sides, &request).0;
         assert_eq!(met, answer, "{request:?}");
-        comparison.kinds.meet(end);
+        comparison.kinds.meet(&end);
         comparison.kinds.meet(&format!("{end}, {above}"));
     }
 }
 
-/// Makes the finish of a packet to that leaf, at one weighted node on its way,
-/// the largest and that many over it; at all others it is small. Answers where
-/// that node is, or None if there is no such node or no such number.
-fn end_at(
+/// Finishes at an end, with the answer to a packet that has one.
+const FINISHES: [(u8, &str, u128); 4] = [
+    (0, "the largest finish", u64::MAX as u128),
+    (23, "one above the largest finish", 1 << 64),
+    (0, "the largest finish of 32 bits", u32::MAX as u128),
+    (0, "one above the largest finish of 32 bits", 1 << 32),
+];
+
+/// Gives a packet to that leaf that finish at one weighted node on its way, and a
+/// small one at all others. Answers where that node is, or None if there is no
+/// such node or no such start.
+fn finish_at(
     disciplines: &mut Disciplines,
     drawing: &Topology,
     leaf: usize,
     length: u16,
-    over: u32,
+    finish: u128,
     random: &mut Random,
 ) -> Option<&'static str> {
     let mut children = vec![leaf];
@@ -598,14 +614,14 @@ fn end_at(
         disciplines.rules[node].discipline == WEIGHTED && !drawing.is_passed_over(node)
     });
     for &child in &children {
-        disciplines.virtual_time[parent(child)] = random.below(9) as u32;
-        disciplines.finish[child] = random.below(9) as u32;
+        disciplines.virtual_time[parent(child)] = random.below(9) as u64;
+        disciplines.finish[child] = random.below(9) as u64;
     }
     let at = random.below(children.len().max(1));
     let child = *children.get(at)?;
-    let weight = u32::from(disciplines.rules[child].weight);
-    let service = u32::from(length) * 256 / weight;
-    let start = (u32::MAX - service).checked_add(over)?;
+    let weight = u128::from(disciplines.rules[child].weight);
+    let service = u128::from(length) * 256 / weight;
+    let start = u64::try_from(finish - service).ok()?;
     if random.one_in(2) {
         disciplines.virtual_time[parent(child)] = start;
     } else {
@@ -717,12 +733,13 @@ const ANSWERS: [(&str, &[u8]); 6] = [
 ];
 
 /// What is worth to be met besides the kinds of paths, leaves and damages.
-const OCCASIONS: [&str; 29] = [
+const OCCASIONS: [&str; 33] = [
     "a tree of 64 nodes",
     "a finish moved past node 31",
     "a virtual time moved past node 31",
     "a finish moved from the virtual time on",
     "a finish moved from the last finish on",
+    "a finish moved above 32 bits",
     "a finish moved at weight 1",
     "a finish moved at weight 255",
     "a finish moved by length 65535",
@@ -732,6 +749,7 @@ const OCCASIONS: [&str; 29] = [
     "3 finishes moved",
     "4 finishes moved",
     "a virtual time rose",
+    "a virtual time rose above 32 bits",
     "a virtual time fell",
     "1 virtual times moved",
     "2 virtual times moved",
@@ -747,6 +765,8 @@ const OCCASIONS: [&str; 29] = [
     "one above the largest finish, at the last weighted node",
     "one above the largest finish, at a weighted node between others",
     "full, one above the largest finish",
+    "the largest finish of 32 bits",
+    "one above the largest finish of 32 bits",
 ];
 
 impl Comparison {
@@ -847,7 +867,7 @@ impl Comparison {
         let (old, new) = (&before.disciplines, &after.disciplines);
         let bytes = &before.state.frame.topology[..before.state.frame.nodes];
         let drawing = Topology::read(bytes, TARGET_NODES).expect("a valid tree");
-        let moved = |old: &[u32], new: &[u32]| -> Vec<usize> {
+        let moved = |old: &[u64], new: &[u64]| -> Vec<usize> {
             (0..bytes.len())
                 .filter(|&node| old[node] != new[node])
                 .collect()
@@ -862,6 +882,9 @@ impl Comparison {
             let rose = new.virtual_time[node] > old.virtual_time[node];
             let way = if rose { "rose" } else { "fell" };
             self.kinds.meet(&format!("a virtual time {way}"));
+            if old.virtual_time[node] < 1 << 32 && new.virtual_time[node] >= 1 << 32 {
+                self.kinds.meet("a virtual time rose above 32 bits");
+            }
             if node >= SOURCE_NODES {
                 self.kinds.meet("a virtual time moved past node 31");
             }
@@ -880,6 +903,9 @@ impl Comparison {
             };
             self.kinds
                 .meet(&format!("a finish moved from the {from} on"));
+            if old.finish[node] < 1 << 32 && new.finish[node] >= 1 << 32 {
+                self.kinds.meet("a finish moved above 32 bits");
+            }
             if node >= SOURCE_NODES {
                 self.kinds.meet("a finish moved past node 31");
             }

@@ -50,7 +50,7 @@ fn main() {
 fn examples(seed: u64) {
     let mut comparison = Comparison::new(seed);
     let mut carry =
-        |drawn: (&[u8], &[u8], &[u8]), steps: &[(u8, u32)], answer: Result<Vec<(u8, u32)>, u8>| {
+        |drawn: (&[u8], &[u8], &[u8]), steps: &[(u8, u64)], answer: Result<Vec<(u8, u64)>, u8>| {
             let (source, target, map) = drawn;
             let path = plain_path(steps);
             let carried = comparison.carry(source, target, map, &path);
@@ -89,7 +89,7 @@ fn examples(seed: u64) {
         &[(1, 4), (2, 9)],
         Ok(vec![(2, 4), (1, 4), (1, 9), (1, 9)]),
     );
-    carry(apart, &[(2, u32::MAX)], Ok(vec![(1, u32::MAX)]));
+    carry(apart, &[(2, u64::MAX)], Ok(vec![(1, u64::MAX)]));
     carry(apart, &[(1, 4)], Err(14));
     carry(apart, &[(3, 4), (1, 1)], Err(13));
     carry(apart, &[(2, 4), (1, 1)], Err(13));
@@ -98,7 +98,7 @@ fn examples(seed: u64) {
     let long_and_short = [vec![2], chain(8), vec![0]].concat();
     let lane: (&[u8], &[u8], &[u8]) = (&[2, 0, 0], &long_and_short, &[0, 8, 9]);
     carry(lane, &[(1, 7)], Ok(vec![(1, 7); 8]));
-    let ranks: Vec<(u8, u32)> = (1..=8).map(|rank| (2, rank)).collect();
+    let ranks: Vec<(u8, u64)> = (1..=8).map(|rank| (2, rank)).collect();
     let comb = [[2, 0].repeat(8), vec![0]].concat();
     let all: Vec<u8> = (0..17).collect();
     carry((&comb, &comb, &all), &ranks, Ok(ranks.clone()));
@@ -160,12 +160,12 @@ fn examples(seed: u64) {
     println!("examples: as worked by hand");
 }
 
-fn plain_path(steps: &[(u8, u32)]) -> linduvar::Path {
+fn plain_path(steps: &[(u8, u64)]) -> linduvar::Path {
     let steps: Vec<Step> = steps
         .iter()
         .map(|&(child, rank)| Step { child, rank })
         .collect();
-    linduvar::Path::new(&steps, 1_000_000_007)
+    linduvar::Path::new(&steps, 18_000_000_000_000_000_007)
 }
 
 /// All that comes back: a carried path has zeros past its last step, and a
@@ -175,7 +175,7 @@ fn whole_paths() {
     let path = |count: usize| linduvar::Path {
         steps: [1, 2, 3, 4, 5, 6, 7, 8, 9].map(|at| Step {
             child: at,
-            rank: 100 + u32::from(at),
+            rank: 100 + (u64::from(at) << 32),
         }),
         count,
         leaf_rank: 77,
@@ -183,7 +183,7 @@ fn whole_paths() {
     let mut steps = [Step { child: 0, rank: 0 }; MAX_STEPS];
     steps[..2].fill(Step {
         child: 1,
-        rank: 101,
+        rank: 100 + (1 << 32),
     });
     let carried = linduvar::Carried {
         path: linduvar::Path {
@@ -254,13 +254,14 @@ fn every_chain(seed: u64) {
 }
 
 /// What is worth to be met besides the answers and the kinds of paths.
-const OCCASIONS: [&str; 6] = [
+const OCCASIONS: [&str; 7] = [
     "carried, with noise behind the steps",
     "refused, with noise behind the steps",
     "refused by 13, with a count above nine",
     "carried, with nodes passed over",
     "carried, above a lone leaf",
     "refused by 13 or 14, with nodes passed over",
+    "carried, with a step rank and a leaf rank above 32 bits",
 ];
 
 /// Asks both sides, and counts what was met.
@@ -386,6 +387,7 @@ impl Comparison {
             carried.refusal == 0 && passing,
             carried.refusal == 0 && lone_leaf && length > 0,
             [13, 14].contains(&carried.refusal) && passing,
+            carried.refusal == 0 && wide(&carried.path),
         ];
         for (occasion, met) in OCCASIONS.into_iter().zip(met) {
             *self.kinds.entry(occasion).or_default() += usize::from(met);
@@ -427,6 +429,12 @@ impl Comparison {
             require("steps more on the chip", &self.longer_by, longer);
         }
     }
+}
+
+/// Whether a step's rank and the leaf's are above 32 bits.
+fn wide(path: &linduvar::Path) -> bool {
+    const NARROW: u64 = u32::MAX as u64;
+    path.leaf_rank > NARROW && path.steps().iter().any(|step| step.rank > NARROW)
 }
 
 fn require<K: Ord + fmt::Debug>(what: &str, counts: &BTreeMap<K, usize>, key: K) {

@@ -75,14 +75,14 @@ impl Filled {
             (0..depth)
                 .map(|at| Step {
                     child: if at == 0 { chain + 1 } else { 1 } as u8,
-                    rank: random.below(4) as u32,
+                    rank: random.below(4) as u64,
                 })
                 .collect()
         };
         let paths = [path(0, random), path(CHAINS - 1, random)];
         let mut tree = QueueTree::open(&topology, MOST_PACKETS).expect("a valid tree");
         for packet in 0..packets {
-            let (rank, steps) = (random.below(7) as u32, path(packet % CHAINS, random));
+            let (rank, steps) = (random.below(7) as u64, path(packet % CHAINS, random));
             tree.push(&steps, rank, packet as u32)
                 .expect("a right path");
         }

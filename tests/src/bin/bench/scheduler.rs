@@ -117,7 +117,7 @@ impl Weighted {
         less.pop().expect("a packet is held");
         let step = |at: usize| Step {
             child: if at == 0 { COMBS } else { 2 } as u8,
-            rank: u32::MAX,
+            rank: u64::MAX,
         };
         let steps: Vec<Step> = (0..depth).map(step).collect();
         Weighted {

@@ -87,7 +87,7 @@ fn down(topology: &[u8], random: &mut Random) -> Vec<Step> {
     let mut node = 0;
     while topology.child_count(node) > 0 {
         let child = random.below(topology.child_count(node));
-        let rank = random.below(9) as u32;
+        let rank = random.below(9) as u64;
         steps.push(Step {
             child: child as u8 + 1,
             rank,
