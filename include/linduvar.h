@@ -132,9 +132,9 @@ typedef struct linduvar_frame {
 // be served.
 typedef struct linduvar_state {
     linduvar_frame frame;
-    uint32_t refused;
     uint16_t lengths[LINDUVAR_MAX_TARGET_NODES];
     linduvar_entry entries[LINDUVAR_MAX_ENTRIES];
+    uint32_t refused;
 } linduvar_state;
 
 // The empty tree; or the refusal and a state of zeros, which every call refuses by 18.
@@ -379,9 +379,9 @@ LINDUVAR_FIELD(linduvar_frame, limit, 72);
 
 LINDUVAR_SIZE(linduvar_state, 37080);
 LINDUVAR_FIELD(linduvar_state, frame, 0);
-LINDUVAR_FIELD(linduvar_state, refused, 80);
-LINDUVAR_FIELD(linduvar_state, lengths, 84);
-LINDUVAR_FIELD(linduvar_state, entries, 216);
+LINDUVAR_FIELD(linduvar_state, lengths, 80);
+LINDUVAR_FIELD(linduvar_state, entries, 208);
+LINDUVAR_FIELD(linduvar_state, refused, 37072);
 
 LINDUVAR_SIZE(linduvar_opened, 37088);
 LINDUVAR_FIELD(linduvar_opened, state, 0);

@@ -108,9 +108,9 @@ pub struct Frame {
 #[derive(Clone, Copy, Debug, PartialEq, Eq)]
 pub struct State {
     pub frame: Frame,
-    pub refused: u32,
     pub lengths: [u16; MAX_TARGET_NODES],
     pub entries: [Entry; MAX_ENTRIES],
+    pub refused: u32,
 }
 
 /// The empty tree; or the refusal and a state of zeros, which every call refuses
@@ -263,7 +263,7 @@ const _: () = {
     layout!(Diagnosis, 32: refusal 0, lack 1, node 8, needed 16, there 24);
     layout!(Entry, 16: rank 0, tag 8, child 9, packet 12);
     layout!(Frame, 80: topology 0, nodes 64, limit 72);
-    layout!(State, 37_080: frame 0, refused 80, lengths 84, entries 216);
+    layout!(State, 37_080: frame 0, lengths 80, entries 208, refused 37_072);
     layout!(Opened, 37_088: state 0, refusal 37_080);
     layout!(Answer, 37_088: state 0, refusal 37_080, value 37_084);
     layout!(Popped, 37_240: answer 0, way 37_088);
