@@ -413,6 +413,16 @@ const OCCASIONS: [&str; 28] = [
     "all entries used",
 ];
 
+/// Ranks that must be met at a leaf: those around 2^32, and the largest.
+const RANKS: [u64; 6] = [
+    (1 << 32) - 2,
+    (1 << 32) - 1,
+    1 << 32,
+    (1 << 32) + 1,
+    (1 << 32) + 2,
+    u64::MAX,
+];
+
 impl Comparison {
     fn new(seed: u64) -> Comparison {
         Comparison {
@@ -536,6 +546,9 @@ impl Comparison {
                 if path.count > 0 && path.steps[0].child == 8 {
                     self.kinds.meet("accepted through an eighth child");
                 }
+                if RANKS.contains(&path.leaf_rank) {
+                    self.kinds.meet(&format!("leaf rank {}", path.leaf_rank));
+                }
                 for queue in sides.tree.state().queues {
                     for kind in misread::of_queue(&queue) {
                         self.kinds.meet(&kind);
@@ -635,6 +648,10 @@ impl Comparison {
         }
         let paths = PATHS.iter().map(|(kind, _)| kind);
         let states = DRESSES.iter().chain(&DAMAGES);
+        for rank in RANKS {
+            self.kinds
+                .require(&format!("leaf rank {rank}"), OFTEN_ENOUGH);
+        }
         let occasions = OCCASIONS.iter().chain(&misread::QUEUE_KINDS);
         for kind in paths.chain(states).chain(occasions) {
             self.kinds.require(kind, OFTEN_ENOUGH);
