@@ -1,5 +1,5 @@
 //! Counts what scripts have reached: every command, every refusal with its
-//! cases, scripts of every kind, and what else is worth to be met.
+//! cases, scripts of every kind, and what else has to be met.
 
 use crate::kinds::Kinds;
 use crate::misread::{self, MISREADINGS};

@@ -1,4 +1,4 @@
-// Counts a program's copies of more than 1 KB. Loaded before the C library
+// Counts a program's copies of more than 2 KB. Loaded before the C library
 // (LD_PRELOAD), it takes the program's calls of memcpy and memmove. When the
 // program ends it writes how many were that large, and their bytes, to standard
 // error. To be compiled without optimisation: it would make the loops calls of
@@ -11,7 +11,7 @@ static unsigned long copies, bytes;
 void *memmove(void *to, const void *from, size_t n) {
     char *t = to;
     const char *f = from;
-    if (n > 1024) {
+    if (n > 2048) {
         copies += 1;
         bytes += n;
     }

@@ -1,4 +1,4 @@
-//! How many copies of more than 1 KB a call makes. Unlike a time, a count has
+//! How many copies of more than 2 KB a call makes. Unlike a time, a count has
 //! no noise.
 //!
 //! What is counted runs in a process of its own, under the library of copies.c,
@@ -20,7 +20,7 @@ use std::process::{Command, Stdio};
 const CALLS: usize = 100;
 
 pub fn run() {
-    println!("copies of more than 1 KB, and their bytes over the {STATE} of a state:");
+    println!("copies of more than 2 KB, and their bytes over the {STATE} of a state:");
     let library = library();
     rounds(&library);
     commands(&library);
