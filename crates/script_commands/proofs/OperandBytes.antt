@@ -1,5 +1,5 @@
--- Operands as the code reads them, if all their bytes exist: byte by byte, and four bytes as two halves. And what follows from an answer of the
--- operands' reader: it found the number and the bytes exist, or they are cut short.
+-- Operands as the code reads them, if all their bytes exist: byte by byte, four bytes as two halves, and eight as two fours. And what follows from an
+-- answer of the operands' reader: it found the number and the bytes exist, or they are cut short.
 use mathlib.Core.Path.{_≡_, refl, sym, _∙_}
 use Prim.Native.Nat.{ℕ, zero, suc, _+_, _*_, _-_, _≤_, _<_}
 use native.Mathlib.Nat.{not-suc-le-zero, le-of-suc-le-suc}
@@ -9,8 +9,7 @@ use mathlib.Core.Bool.{Bool, true, false, cond}
 use lib.ListN.{length, take, drop, getD, length-drop}
 use lib.Seq.{drop-cons, take-all}
 use lib.Dec.{leb}
-use borrow.Author.Tests.{leb-true, leb-false, le-leb, lt-leb, ne-eqb}
-use mathlib.Core.Logic.{_≢_}
+use borrow.Author.Tests.{leb-true, leb-false, le-leb, lt-leb}
 use Rattle.base.proofs.Tests.{clash}
 use Rattle.script_commands.specs.declared.Command.{Command}
 use Rattle.script_commands.specs.declared.Command.the-variants.{Setup, Compile, Call}

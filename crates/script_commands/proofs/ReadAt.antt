@@ -1,6 +1,6 @@
 -- What the reader reads at an offset: the end, a command that ends within the script, or refusal 20 or 21 at that offset. A property of these three is
 -- a property of every read (`read-all`).
-use mathlib.Core.Path.{_≡_, refl, sym, ap, _∙_}
+use mathlib.Core.Path.{_≡_, refl, sym, ap}
 use Prim.Native.Nat.{ℕ, _+_, _-_, _≤_, _<_}
 use native.Mathlib.Omega.{arith}
 use mathlib.Core.List.{List, [], _∷_}

@@ -1,8 +1,8 @@
 -- Commands of both widths. A rank of eight bytes that is below 2^32 begins with four zeros, and the other four are the rank of 05 or 06. Either kind of
 -- step is read as a step, so that the steps gathered are counted together.
-use mathlib.Core.Path.{_≡_, refl, sym, ap, subst, _∙_}
+use mathlib.Core.Path.{_≡_, refl, sym, subst}
 use mathlib.Core.Logic.{_⊎_, inl, inr}
-use Prim.Native.Nat.{ℕ, zero, suc, _+_, _*_, _≤_, _<_}
+use Prim.Native.Nat.{ℕ, zero, suc, _+_, _≤_, _<_}
 use native.Mathlib.Omega.{arith}
 use mathlib.Core.List.{List, [], _∷_, _++_, append-nil}
 use lib.ListN.{length, drop, getD, length-append, length-drop}
@@ -17,7 +17,7 @@ use Rattle.script_commands.specs.declared.Call.the-variants.{Step as StepTo}
 use Rattle.script_commands.specs.declared.Read.{Read}
 use Rattle.script_commands.specs.declared.Read.the-variants.{Next}
 use Rattle.script_commands.specs.Batches.{after}
-use Rattle.script_commands.specs.Reading.{number, operand, sizeBy, sized, commandBy, commandOf, readAt, nextAt, readsBy, reads}
+use Rattle.script_commands.specs.Reading.{number, operand, sizeBy, sized, commandBy, commandOf, readAt, nextAt, reads}
 use Rattle.script_commands.proofs.ReadsFrom.{reads-by}
 use Rattle.script_run.specs.Execute.{serving, execute}
 use Rattle.script_run.specs.Output.{textOf}
