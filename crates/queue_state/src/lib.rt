@@ -34,6 +34,7 @@ pub struct Frame {
     pub limit: usize,
 }
 
+// The fields stand in an order in which no byte lies idle between two of them: idle bytes cost copies (docs/PERFORMANCE.md, "The floor").
 pub struct State {
     pub frame: Frame,
     pub lengths: [u16; 64],

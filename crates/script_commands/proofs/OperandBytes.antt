@@ -139,12 +139,12 @@ pub below : (r : Word) (n most : ℕ) → Below most r → r ≡ Is n → n < mo
 below (Is m) n most h e = let q : m ≡ n = cc in rw (← q) h
 below Missing n most h e = absurd (clash (cc))
 
--- The reader's answer by the first byte of the command: unknown, cut short, or with its operands.
-module _ (code : ℕ) (bytes : List ℕ) (at : ℕ) where
-  complete : (k : ℕ) (c : Command) → sizeBy k ≤ length bytes → Next c at ≡ sized k bytes at c
-  unfolding sized
-  complete k c h = simp (le-leb (sizeBy k) (length bytes) h)
+-- The reader's answer by the first byte of the command: with its operands, unknown, or cut short.
+pub complete : (code : ℕ) (bytes : List ℕ) (at : ℕ) (c : Command) → sizeBy code ≤ length bytes → Next c at ≡ sized code bytes at c
+unfolding sized
+complete code bytes at c h = simp (le-leb (sizeBy code) (length bytes) h)
 
+module _ (code : ℕ) (bytes : List ℕ) (at : ℕ) where
   pub unknown : sizeBy code ≡ 0 → Refused 20 at ≡ commandBy code bytes at
   unknown z = by-code (λ r. Refused 20 at ≡ r) at code bytes (λ c s h. absurd (omega arith)) (λ h. absurd (omega arith)) (λ e. refl)
 
@@ -154,45 +154,45 @@ module _ (code : ℕ) (bytes : List ℕ) (at : ℕ) where
 
   pub source-read : (m : ℕ) → code ≡ 1 → There 1 1 bytes m → Next (Setup (Source m)) at ≡ commandBy code bytes at
   unfolding commandBy
-  source-read m e tm = rw (e, tm .is) (complete 1 _ (tm .fits))
+  source-read m e tm = rw (e, tm .is) (complete 1 bytes at _ (tm .fits))
 
   pub target-read : (m : ℕ) → code ≡ 2 → There 1 1 bytes m → Next (Setup (Target m)) at ≡ commandBy code bytes at
   unfolding commandBy
-  target-read m e tm = rw (e, tm .is) (complete 2 _ (tm .fits))
+  target-read m e tm = rw (e, tm .is) (complete 2 bytes at _ (tm .fits))
 
   pub limit-read : (m : ℕ) → code ≡ 3 → There 2 1 bytes m → Next (Setup (Limit m)) at ≡ commandBy code bytes at
   unfolding commandBy
-  limit-read m e tm = rw (e, tm .is) (complete 3 _ (tm .fits))
+  limit-read m e tm = rw (e, tm .is) (complete 3 bytes at _ (tm .fits))
 
   pub compile-read : code ≡ 4 → 0 < length bytes → Next Compile at ≡ commandBy code bytes at
   unfolding commandBy
-  compile-read e h = rw e (complete 4 _ h)
+  compile-read e h = rw e (complete 4 bytes at _ h)
 
   pub step-read : (m n : ℕ) → code ≡ 5 → There 1 1 bytes m → There 4 2 bytes n → Next (Call (Step m n)) at ≡ commandBy code bytes at
   unfolding commandBy
-  step-read m n e tm tn = rw (e, tm .is, tn .is) (complete 5 _ (tn .fits))
+  step-read m n e tm tn = rw (e, tm .is, tn .is) (complete 5 bytes at _ (tn .fits))
 
   pub push-read : (m n : ℕ) → code ≡ 6 → There 4 1 bytes m → There 4 5 bytes n → Next (Call (Push m n)) at ≡ commandBy code bytes at
   unfolding commandBy
-  push-read m n e tm tn = rw (e, tm .is, tn .is) (complete 6 _ (tn .fits))
+  push-read m n e tm tn = rw (e, tm .is, tn .is) (complete 6 bytes at _ (tn .fits))
 
   pub pop-read : code ≡ 7 → 0 < length bytes → Next (Call Pop) at ≡ commandBy code bytes at
   unfolding commandBy
-  pop-read e h = rw e (complete 7 _ h)
+  pop-read e h = rw e (complete 7 bytes at _ h)
 
   pub wide-step-read : (m high low rank : ℕ) → code ≡ 9 → There 1 1 bytes m → There 4 2 bytes high → There 4 6 bytes low
       → rank ≡ high * 4294967296 + low → Next (Call (Step m rank)) at ≡ commandBy code bytes at
   unfolding commandBy
   wide-step-read m high low rank e tm th tl er =
       let wide = wide-there bytes 2 high low th tl in
-      rw (e, tm .is, er, wide .is) (complete 9 _ (wide .fits))
+      rw (e, tm .is, er, wide .is) (complete 9 bytes at _ (wide .fits))
 
   pub wide-push-read : (m high low rank : ℕ) → code ≡ 10 → There 4 1 bytes m → There 4 5 bytes high → There 4 9 bytes low
       → rank ≡ high * 4294967296 + low → Next (Call (Push m rank)) at ≡ commandBy code bytes at
   unfolding commandBy
   wide-push-read m high low rank e tm th tl er =
       let wide = wide-there bytes 5 high low th tl in
-      rw (e, tm .is, er, wide .is) (complete 10 _ (wide .fits))
+      rw (e, tm .is, er, wide .is) (complete 10 bytes at _ (wide .fits))
 
 drop-all : (n : ℕ) (l : List ℕ) → length l ≤ n → drop n l ≡ []
 drop-all zero [] h = refl

@@ -1,6 +1,6 @@
 -- Commands of both widths. A rank of eight bytes that is below 2^32 begins with four zeros, and the other four are the rank of 05 or 06. Either kind of
 -- step is read as a step, and either kind of push as a push, so that they are out of turn together and counted together.
-use mathlib.Core.Path.{_≡_, refl, sym, subst}
+use mathlib.Core.Path.{_≡_, refl, sym, subst, _∙_}
 use mathlib.Core.Logic.{_⊎_, inl, inr}
 use Prim.Native.Nat.{ℕ, zero, suc, _+_, _≤_, _<_}
 use native.Mathlib.Omega.{arith}
@@ -8,7 +8,7 @@ use mathlib.Core.List.{List, [], _∷_, _++_, append-nil}
 use mathlib.Core.Option.{Option}
 use lib.ListN.{length, drop, getD, length-append, length-drop}
 use lib.Seq.{drop-cons}
-use borrow.Author.Tests.{le-leb, lt-ltb, le-ltb}
+use borrow.Author.Tests.{lt-ltb, le-ltb}
 use Rattle.pifo_model.specs.Tree.{Step, step}
 use Rattle.pifo_model.specs.Machine.{Machine}
 use Rattle.queue_state.specs.State.{Packet}
@@ -19,7 +19,8 @@ use Rattle.script_commands.specs.declared.Call.the-variants.{Step as StepTo, Pu
 use Rattle.script_commands.specs.declared.Read.{Read}
 use Rattle.script_commands.specs.declared.Read.the-variants.{Next}
 use Rattle.script_commands.specs.Batches.{after}
-use Rattle.script_commands.specs.Reading.{number, operand, sizeBy, sized, commandBy, commandOf, readAt, nextAt, reads}
+use Rattle.script_commands.specs.Reading.{number, operand, sizeBy, commandBy, commandOf, readAt, nextAt, reads}
+use Rattle.script_commands.proofs.OperandBytes.{complete}
 use Rattle.script_commands.proofs.ReadsFrom.{reads-by}
 use Rattle.script_run.specs.Execute.{drawing, serving, execute}
 use Rattle.script_run.specs.Output.{textOf}
@@ -30,16 +31,18 @@ zeros : (a b c d e f g h : ℕ) → number 0 (a ∷ b ∷ c ∷ d ∷ e ∷ f �
 zeros a b c d e f g h l = (omega arith, omega arith, omega arith, omega arith)
 
 pub steps-alike : StepsAlike
-unfolding commandBy sized operand
+unfolding commandBy operand
 steps-alike child a b c d e f g h rest at l =
     let z = zeros a b c d e f g h l in
-    rw (z .0, z .1, z .2, z .3, le-leb 10 (length (9 ∷ child ∷ 0 ∷ 0 ∷ 0 ∷ 0 ∷ e ∷ f ∷ g ∷ h ∷ rest)) (omega arith), le-leb 6 (length (5 ∷ child ∷ e ∷ f ∷ g ∷ h ∷ rest)) (omega arith)) refl
+    rw (z .0, z .1, z .2, z .3)
+    (sym (complete 9 (9 ∷ child ∷ 0 ∷ 0 ∷ 0 ∷ 0 ∷ e ∷ f ∷ g ∷ h ∷ rest) at _ (omega arith)) ∙ complete 5 (5 ∷ child ∷ e ∷ f ∷ g ∷ h ∷ rest) at _ (omega arith))
 
 pub pushes-alike : PushesAlike
-unfolding commandBy sized operand
+unfolding commandBy operand
 pushes-alike p q r s a b c d e f g h rest at l =
     let z = zeros a b c d e f g h l in
-    rw (z .0, z .1, z .2, z .3, le-leb 13 (length (10 ∷ p ∷ q ∷ r ∷ s ∷ 0 ∷ 0 ∷ 0 ∷ 0 ∷ e ∷ f ∷ g ∷ h ∷ rest)) (omega arith), le-leb 9 (length (6 ∷ p ∷ q ∷ r ∷ s ∷ e ∷ f ∷ g ∷ h ∷ rest)) (omega arith)) refl
+    rw (z .0, z .1, z .2, z .3)
+    (sym (complete 10 (10 ∷ p ∷ q ∷ r ∷ s ∷ 0 ∷ 0 ∷ 0 ∷ 0 ∷ e ∷ f ∷ g ∷ h ∷ rest) at _ (omega arith)) ∙ complete 6 (6 ∷ p ∷ q ∷ r ∷ s ∷ e ∷ f ∷ g ∷ h ∷ rest) at _ (omega arith))
 
 -- ---- what is read where a whole command stands: a step by either byte, and a push by either
 
@@ -58,20 +61,20 @@ module _ (rest : List ℕ) (at : ℕ) where
   Reading P code = sizeBy code ≤ length (code ∷ rest) → P at (commandOf (code ∷ rest) at)
 
   step-5 : Reading IsStep 5
-  unfolding commandBy sized
-  step-5 h = rw (le-leb 6 (length (5 ∷ rest)) h) (record { child = _; rank = _; is = refl })
+  unfolding commandBy
+  step-5 h = record { child = _; rank = _; is = sym (complete 5 (5 ∷ rest) at _ h) }
 
   step-9 : Reading IsStep 9
-  unfolding commandBy sized
-  step-9 h = rw (le-leb 10 (length (9 ∷ rest)) h) (record { child = _; rank = _; is = refl })
+  unfolding commandBy
+  step-9 h = record { child = _; rank = _; is = sym (complete 9 (9 ∷ rest) at _ h) }
 
   push-6 : Reading IsPush 6
-  unfolding commandBy sized
-  push-6 h = rw (le-leb 9 (length (6 ∷ rest)) h) (record { packet = _; rank = _; is = refl })
+  unfolding commandBy
+  push-6 h = record { packet = _; rank = _; is = sym (complete 6 (6 ∷ rest) at _ h) }
 
   push-10 : Reading IsPush 10
-  unfolding commandBy sized
-  push-10 h = rw (le-leb 13 (length (10 ∷ rest)) h) (record { packet = _; rank = _; is = refl })
+  unfolding commandBy
+  push-10 h = record { packet = _; rank = _; is = sym (complete 10 (10 ∷ rest) at _ h) }
 
   either : (P : ℕ → Read → Type 0) (code one other : ℕ) → (code ≡ one) ⊎ (code ≡ other) → Reading P one → Reading P other → Reading P code
   either P code one other (inl e) f g = subst (Reading P) (sym e) f
