@@ -1,5 +1,7 @@
 // Buychip: which regular chip to buy for a script's source. It reads the script as gatewalk does, from standard input, the first 65,536 bytes at
 // most, and writes the table.
+#![tactic(auto)]
+
 fn walk(input: &mut [u8], text: &mut [u8]) {
     let n = io::read_full(0, input);
     if text_stream::input_failed(n, input.len()) {

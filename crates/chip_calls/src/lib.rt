@@ -1,5 +1,7 @@
 // The calls on a chip's tree with disciplines (paper 02, 2.1), with a map of a drawing. The disciplines, and their faults, are those of the drawing's
 // nodes; the queues are the chip's. The drawing and the map are arguments of each call; the chip's own topology is in its state.
+#![tactic(auto)]
+
 ghost use Rattle.std.specs.Prelude.{◌≡◌};
 ghost use Rattle.base.specs.Refusals.{or_else};
 ghost use Rattle.pifo_model.specs.Machine.{pushing, popping};

@@ -1,4 +1,6 @@
 // The counts of a chip's tree with disciplines, and what is tested first in every call on it.
+#![tactic(auto)]
+
 ghost use Rattle.std.specs.Prelude.{◌≡◌};
 ghost use Rattle.pifo_model.specs.Tree.{held};
 ghost use Rattle.queue_state.specs.State.{tree_of};

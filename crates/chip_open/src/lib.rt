@@ -1,4 +1,6 @@
 // The opening of a chip's tree with disciplines for a drawing, and of both trees with the least map between them.
+#![tactic(auto)]
+
 ghost use Rattle.std.specs.Prelude.{◌≡◌, replicate};
 ghost use Rattle.base.specs.Refusals.{or_else, unless_refused};
 ghost use Rattle.chip_state.specs.Opening.{chip_fault, opened_chip};
@@ -11,7 +13,7 @@ use tree_open::opened;
 use tree_state::{Tree, TreeOpened};
 
 // The answer to an opening of both trees: the trees, empty, the least map and 0; or zeros throughout and the refusal's number.
-#[derive(Drop)]
+#[derive(Clone, Copy)]
 pub struct BothOpened {
     pub source: Tree,
     pub chip: Tree,

@@ -1,6 +1,8 @@
 // The test of the disciplines of a drawing (refusal 24).
 //
 // The functions take any bytes; their names say what they mean if `topology::read` accepts the bytes.
+#![tactic(auto)]
+
 ghost use Rattle.std.specs.Prelude.{◌≡◌, ◌<◌, length};
 ghost use Rattle.topology.specs.Reader.{tree};
 ghost use Rattle.topology.specs.Reader.{fault as reader_fault};

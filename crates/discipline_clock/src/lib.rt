@@ -1,4 +1,6 @@
 // Virtual times after a pop (paper 02, 2.1): at a weighted node the rank last popped there. A node that is passed over keeps none (2.2).
+#![tactic(auto)]
+
 ghost use Rattle.std.specs.Prelude.{◌≡◌, take};
 ghost use Rattle.discipline_model.specs.Figure.{last_of};
 ghost use Rattle.discipline_clock.specs.Clock.{rank_among, rank_in, times_by, clocked, own_images};

@@ -1,5 +1,7 @@
 // Disciplines of the nodes of a drawing (paper 02, 2.1): the discipline of a node gives the entries of its queue their ranks. Here are the rules that
 // a park names and what weighted nodes keep. They are plain numbers, so that C and Rust can use them as they are; specs/ has their meaning.
+#![tactic(auto)]
+
 ghost use Rattle.std.specs.Prelude.{◌≡◌};
 ghost use Rattle.discipline_model.specs.Figure.{acts_by};
 
@@ -15,7 +17,7 @@ pub const WEIGHTED: u8 = 2;
 
 // A node's discipline, and its weight as a child of its parent.
 #[repr(C)]
-#[derive(Drop)]
+#[derive(Clone, Copy)]
 pub struct Rule {
     pub discipline: u8,
     pub weight: u8,
@@ -23,7 +25,7 @@ pub struct Rule {
 
 // All by node of the drawing: the rules, the virtual time of each node, and the last finish of each node as a child of its parent.
 #[repr(C)]
-#[derive(Drop)]
+#[derive(Clone, Copy)]
 pub struct Disciplines {
     pub rules: [Rule; 64],
     pub virtual_time: [Rank; 64],

@@ -1,4 +1,6 @@
 // The path of a push to a leaf: the ranks that the disciplines of a drawing give a packet at each node, and the finishes after it.
+#![tactic(auto)]
+
 mod shares;
 
 ghost use Rattle.std.specs.Prelude.{◌≡◌, ◌<◌, [], true, ◌&&◌};
@@ -15,7 +17,7 @@ use queue_state::Rank;
 use topology::Toward;
 
 // The path to a leaf, the finishes after the packet, and whether each of them fits; if one does not, `finish` has no meaning.
-#[derive(Drop)]
+#[derive(Clone, Copy)]
 pub struct Plan {
     pub path: Path,
     pub finish: [Rank; 64],

@@ -10,7 +10,7 @@ use queue_state::Rank;
 const MOST_FINISH: Rank = 18446744073709551615;
 
 // A rank and, at a weighted node, the child's finish if it fits.
-#[derive(Drop)]
+#[derive(Clone, Copy)]
 pub(crate) struct Share {
     pub rank: Rank,
     pub finish: Rank,

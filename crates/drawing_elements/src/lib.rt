@@ -1,5 +1,7 @@
 // The elements of a sheet in SVG, each a template filled in with its numbers, and the sheets that show no tree. `chip` says whether a side of the sheet
 // is the chip's.
+#![tactic(auto)]
+
 ghost use Rattle.std.specs.Prelude.{◌≡◌, ◌≤◌, min, max, ◌&&◌, leb, ltb};
 ghost use Rattle.text.specs.Text.{Puts};
 ghost use Rattle.drawing_elements.specs.Elements.{row, left_of, side_name, label_of, head, edge, mark, class_name, join, legend};

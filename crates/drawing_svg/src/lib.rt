@@ -1,5 +1,7 @@
 // The sheet: both trees of a pair and the map between them as one page in SVG. The source is on the left and the chip on the right, with a row for
 // each node number and a column for each step below the root. On either side `chip` says whether it is the chip's.
+#![tactic(auto)]
+
 ghost use Rattle.std.specs.Prelude.{◌≡◌, ◌<◌, ◌≤◌, length, take};
 ghost use Rattle.text.specs.Text.{Puts};
 ghost use Rattle.drawing_svg.specs.Sheet.{column, each, edge_of, role_in, node_of, tree_of, join_of, joins_of, pair_of};

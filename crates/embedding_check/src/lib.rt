@@ -2,6 +2,8 @@
 //
 // It tests each rule over all nodes or pairs of nodes, with tables of where the branches end: a few thousand steps at the most. The nodes are
 // those of the reduced drawing, whose bytes are the source's without its bytes 1 (paper 02, 2.2).
+#![tactic(auto)]
+
 ghost use Rattle.std.specs.Prelude.{◌≡◌, ◌≤◌, ◌<◌, true, length};
 ghost use Rattle.base.specs.Tests.{same};
 ghost use Rattle.topology.specs.Reader.{fault};
@@ -13,7 +15,7 @@ use embedding_trees::{branch_ends, trees_fault};
 use topology_reduction::{PASSED_OVER, restrict};
 
 // The check's answer: the list passes as a map, or it is refused by a number of paper 01.
-#[derive(Drop)]
+#[derive(Clone, Copy)]
 pub enum Checked {
     Passes,
     Refused(u8),

@@ -2,6 +2,8 @@
 //
 // Each kept node, from the last to the first that fits nowhere, is tried at each target node where it may go, by a search of the one branch in the
 // other: at most 32 * 64 searches, each of smaller trees than the whole. The slowest pair that was found takes 5.5 ms (docs/PERFORMANCE.md).
+#![tactic(auto)]
+
 ghost use Rattle.std.specs.Prelude.{◌≡◌, max, ◌&&◌, cond, get_or};
 ghost use Rattle.topology.specs.Branch.{is_above};
 ghost use Rattle.embedding_diagnosis.specs.Misfit.{is_kept, kept_above, may_go, fits_at, fits_nowhere};
@@ -16,7 +18,7 @@ use topology_places::{depth, one_if};
 
 // There is a map; or a tree is at fault, by its number; or the branch under a node fits nowhere. Then the node stands first. Two numbers after it are
 // what is needed and what there is.
-#[derive(Drop)]
+#[derive(Clone, Copy)]
 pub enum Diagnosis {
     Loads,
     Refused(u8),

@@ -14,6 +14,8 @@
 // million steps in all, about 1 ms on the slowest pair that was found.
 //
 // The contract of `least_map` is `Searches` in specs/Answers. It rests on embedding_outcome/specs/Outcomes and on embedding_model/specs/Least.
+#![tactic(auto)]
+
 ghost use Rattle.std.specs.Prelude.{◌≡◌, ◌≤◌, ◌<◌, ◌*◌, ◌+◌, ◌-◌, min, ◌≢◌, [], ◌∷◌, length, get_or};
 ghost use Rattle.topology.specs.Reader.{tree};
 ghost use Rattle.topology.specs.InnerEnds.{Ends};
@@ -29,14 +31,14 @@ use embedding_trees::{branch_ends, trees_fault};
 use topology_reduction::{restrict, spread_out};
 
 // The search's answer: the outcome, and the least map in 32 places, those past the last source node 0; 32 zeros if there is no map.
-#[derive(Drop)]
+#[derive(Clone, Copy)]
 pub struct Searched {
     pub outcome: Outcome,
     pub map: [u8; 32],
 }
 
 // The least list of images of a drawing without passed nodes, in 32 places; zeros if there is none.
-#[derive(Drop)]
+#[derive(Clone, Copy)]
 struct LeastImages {
     is_found: bool,
     images: [u8; 32],
@@ -209,7 +211,7 @@ fn place(
 }
 
 // An entry of the table, and the lowest row and the end of the last scan.
-#[derive(Drop)]
+#[derive(Clone, Copy)]
 struct Entered {
     least: u64,
     low: usize,

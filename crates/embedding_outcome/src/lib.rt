@@ -1,9 +1,11 @@
 // How a search for the least map ends, and paper 01's number for it.
+#![tactic(auto)]
+
 ghost use Rattle.std.specs.Prelude.{◌≡◌};
 ghost use Rattle.embedding_outcome.specs.Outcomes.{number_of};
 
 // The outcome of a search: the least map, no map, or a refusal by the number of a tree's fault.
-#[derive(Drop)]
+#[derive(Clone, Copy)]
 pub enum Outcome {
     Map,
     NoMap,

@@ -1,5 +1,7 @@
 // The search for the least map, by which paths are carried over to the chip's tree. What its answer is stands in `embedding_least`; this crate adds, by
 // the queue tree's contracts alone, that the two trees then answer alike.
+#![tactic(auto)]
+
 ghost use Rattle.embedding_search.specs.Search.{Finds};
 
 use embedding_least::{Searched, least_map};

@@ -1,4 +1,6 @@
 // Two steps of the search for the least map that take any numbers and bytes.
+#![tactic(auto)]
+
 ghost use Rattle.std.specs.Prelude.{◌≡◌, min};
 ghost use Rattle.embedding_model.specs.FirstLeaf.{first_leaf};
 

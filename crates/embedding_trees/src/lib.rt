@@ -1,4 +1,6 @@
 // What the check and the search of a map both compute first for two drawings: whether both are trees, and where their branches end.
+#![tactic(auto)]
+
 ghost use Rattle.std.specs.Prelude.{◌≡◌, suc};
 ghost use Rattle.topology.specs.Branch.{branch_end};
 ghost use Rattle.embedding_trees.specs.Trees.{trees_fault, branch_ends};

@@ -1,5 +1,7 @@
 // Many calls of the queue tree at once, for the benchmark in `tests/`. A state is passed as plain numbers. There is no contract: these functions are
 // proved to be safe and to end.
+#![tactic(auto)]
+
 use exports_plain_state::PlainState;
 use queue_push::Path;
 use queue_state::State;

@@ -1,6 +1,8 @@
 // Many calls of a tree with disciplines at once, for the benchmark in `tests/`. A tree is passed as plain numbers. There is no contract: these
 // functions are proved to be safe and to end. They are not in `exports_bench_queue`, because a function with only one caller in its archive is
 // inlined there, and then copies less.
+#![tactic(auto)]
+
 use exports_plain_tree::PlainTree;
 use queue_push::Path;
 use tree_state::Tree;

@@ -1,5 +1,7 @@
 // The calls on a chip's tree with disciplines, with a map of a drawing, for a program in C or Rust: `tests/` links and compares them. A tree is
 // passed as plain numbers, the drawing and the map as slices.
+#![tactic(auto)]
+
 ghost use Rattle.pifo_model.specs.Machine.{pushing, popping};
 ghost use Rattle.queue_push.specs.Calls.{steps_of};
 ghost use Rattle.discipline_model.specs.Scheduler.{calling, pushing_to};

@@ -1,5 +1,7 @@
 // The openings and the counts of a chip's tree with disciplines, for a program in C or Rust: `tests/` links and compares them. A tree is passed as
 // plain numbers, the drawings as slices. The calls on a chip's tree are in the crate `exports_chip_calls`.
+#![tactic(auto)]
+
 ghost use Rattle.std.specs.Prelude.{◌≡◌};
 ghost use Rattle.pifo_model.specs.Tree.{held};
 ghost use Rattle.queue_state.specs.State.{tree_of};
@@ -16,7 +18,7 @@ use exports_plain_tree::{PlainRules, PlainTree, PlainTreeOpened, tree_of};
 
 // The answer to an opening of both trees: the trees, empty, the least map and 0; or zeros throughout and the refusal's number.
 #[repr(C)]
-#[derive(Drop)]
+#[derive(Clone, Copy)]
 pub struct PlainPairOpened {
     pub source: PlainTree,
     pub chip: PlainTree,

@@ -1,4 +1,6 @@
 // Why a drawing has no map, for a program in C or Rust, with numbers and byte slices: `tests/` links and compares it.
+#![tactic(auto)]
+
 ghost use Rattle.std.specs.Prelude.{◌≡◌};
 ghost use Rattle.embedding_diagnosis.specs.Diagnosis.{diagnosis};
 ghost use Rattle.exports_diagnosis.specs.Plain.{plain_of};
@@ -11,7 +13,7 @@ use embedding_diagnosis::Diagnosis;
 // 3: each branch below the node fits somewhere, but not all of them together.
 // All numbers that are not named are 0.
 #[repr(C)]
-#[derive(Drop)]
+#[derive(Clone, Copy)]
 pub struct PlainDiagnosis {
     pub refusal: u8,
     pub lack: u8,

@@ -1,4 +1,6 @@
 // The calls on maps for a program in C or Rust, with numbers and byte slices: `tests/` links and compares them.
+#![tactic(auto)]
+
 ghost use Rattle.std.specs.Prelude.{◌≡◌, ◌≤◌, ◌++◌, length, drop};
 ghost use Rattle.embedding_model.specs.Check.{map_fault};
 ghost use Rattle.translator.specs.Carry.{Carries};

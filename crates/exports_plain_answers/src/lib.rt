@@ -1,4 +1,6 @@
 // Answers of a queue tree as plain numbers, since an exported function cannot return an enum.
+#![tactic(auto)]
+
 ghost use Rattle.std.specs.Prelude.{◌≡◌};
 ghost use Rattle.pifo_model.specs.Machine.{number_of};
 ghost use Rattle.queue_state.specs.Calls.{answer_of};
@@ -9,7 +11,7 @@ use queue_state::Answer;
 
 // The answer to a question for a count: 0 and the count, or a refusal's number and 0.
 #[repr(C)]
-#[derive(Drop)]
+#[derive(Clone, Copy)]
 pub struct PlainAmount {
     pub refusal: u8,
     pub value: u32,

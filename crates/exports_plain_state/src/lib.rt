@@ -1,5 +1,7 @@
 // A state of a queue tree as plain numbers. An exported function cannot take or return a struct that holds an enum, so `State` itself cannot be
 // passed to or from a program in C or Rust.
+#![tactic(auto)]
+
 ghost use Rattle.std.specs.Prelude.{◌≡◌, map};
 ghost use Rattle.exports_plain_state.specs.Plain.{entry_of, state_of, plain_entry, plain_of};
 
@@ -7,7 +9,7 @@ use queue_state::{Entry, Frame, Item, Packet, Rank, State};
 
 // An entry: the child `child` if `tag` is 0, else the packet `packet`.
 #[repr(C)]
-#[derive(Drop)]
+#[derive(Clone, Copy)]
 pub struct PlainEntry {
     pub rank: Rank,
     pub tag: u8,
@@ -17,7 +19,7 @@ pub struct PlainEntry {
 
 // The fields are those of a state.
 #[repr(C)]
-#[derive(Drop)]
+#[derive(Clone, Copy)]
 pub struct PlainState {
     pub frame: Frame,
     pub lengths: [u16; 64],

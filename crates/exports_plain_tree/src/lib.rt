@@ -1,5 +1,7 @@
 // A tree with disciplines as plain numbers: its state as in `exports_plain_state`, and its disciplines, which are plain numbers already. The crates
 // that export calls on a tree by itself and on a chip's tree share these types.
+#![tactic(auto)]
+
 ghost use Rattle.std.specs.Prelude.{◌≡◌};
 ghost use Rattle.exports_plain_tree.specs.Trees.{tree_from, plain_tree};
 ghost use Rattle.exports_plain_tree.specs.Answers.{plain_opened, plain_served};
@@ -11,7 +13,7 @@ use tree_state::{Tree, TreeOpened, TreeServed};
 
 // The fields are those of a tree.
 #[repr(C)]
-#[derive(Drop)]
+#[derive(Clone, Copy)]
 pub struct PlainTree {
     pub state: PlainState,
     pub disciplines: Disciplines,
@@ -19,14 +21,14 @@ pub struct PlainTree {
 
 // The rules of a drawing, by node. An array can be passed only in a struct.
 #[repr(C)]
-#[derive(Drop)]
+#[derive(Clone, Copy)]
 pub struct PlainRules {
     pub rules: [Rule; 64],
 }
 
 // The answer to an opening: the empty tree and 0; or a tree of zeros, on which every call is refused by 18, and the refusal's number.
 #[repr(C)]
-#[derive(Drop)]
+#[derive(Clone, Copy)]
 pub struct PlainTreeOpened {
     pub tree: PlainTree,
     pub refusal: u8,
@@ -35,7 +37,7 @@ pub struct PlainTreeOpened {
 // The tree after a call; a refusal's number or 0; and a value: the packets held after a push, the packet that departs, or the new count of refusals
 // for a push without room; else 0.
 #[repr(C)]
-#[derive(Drop)]
+#[derive(Clone, Copy)]
 pub struct PlainTreeAnswer {
     pub tree: PlainTree,
     pub refusal: u8,

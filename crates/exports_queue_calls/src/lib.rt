@@ -1,4 +1,6 @@
 // Pushes and pops of a queue tree for a program in C or Rust: `tests/` links and compares them. A state is passed as plain numbers.
+#![tactic(auto)]
+
 ghost use Rattle.std.specs.Prelude.{◌≡◌};
 ghost use Rattle.pifo_model.specs.Machine.{pushing, popping};
 ghost use Rattle.queue_push.specs.Calls.{steps_of};
@@ -15,7 +17,7 @@ use queue_state::Packet;
 // The answer to a call: the state after it; a refusal's number or 0; and a value: the packets held after a push, the packet that departs, or the new
 // count of refusals for a push without room; else 0.
 #[repr(C)]
-#[derive(Drop)]
+#[derive(Clone, Copy)]
 pub struct PlainAnswer {
     pub state: PlainState,
     pub refusal: u8,
@@ -24,7 +26,7 @@ pub struct PlainAnswer {
 
 // The answer to a pop, and the way of the packet that departs.
 #[repr(C)]
-#[derive(Drop)]
+#[derive(Clone, Copy)]
 pub struct PlainPopped {
     pub answer: PlainAnswer,
     pub way: Way,

@@ -1,5 +1,7 @@
 // The opening of a queue tree, the questions for its counts, and the number of the layout of all structs, for a program in C or Rust: `tests/` links
 // and compares them. A state is passed as plain numbers.
+#![tactic(auto)]
+
 ghost use Rattle.std.specs.Prelude.{◌≡◌};
 ghost use Rattle.pifo_model.specs.Tree.{held};
 ghost use Rattle.queue_state.specs.Opening.{opened_state};
@@ -14,7 +16,7 @@ use exports_plain_state::PlainState;
 
 // The answer to an opening: the empty tree and 0; or a state of zeros, on which every call is refused by 18, and the refusal's number.
 #[repr(C)]
-#[derive(Drop)]
+#[derive(Clone, Copy)]
 pub struct PlainOpened {
     pub state: PlainState,
     pub refusal: u8,

@@ -1,4 +1,6 @@
 // The calls on topologies for a program in C or Rust, with numbers and byte slices: `tests/` links and compares them.
+#![tactic(auto)]
+
 ghost use Rattle.std.specs.Prelude.{◌≡◌, length, get_or};
 ghost use Rattle.topology.specs.Reader.{fault};
 ghost use Rattle.topology.specs.Branch.{branch_fault, branch_part};

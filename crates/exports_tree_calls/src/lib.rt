@@ -1,5 +1,7 @@
 // The calls on a queue tree with disciplines by itself, for a program in C or Rust: `tests/` links and compares them. A tree is passed as plain
 // numbers. Its opening and its counts are in the crate `exports_tree_state`.
+#![tactic(auto)]
+
 ghost use Rattle.pifo_model.specs.Machine.{pushing, popping};
 ghost use Rattle.queue_push.specs.Calls.{steps_of};
 ghost use Rattle.discipline_model.specs.Scheduler.{calling, pushing_to};

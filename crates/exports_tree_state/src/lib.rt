@@ -1,5 +1,7 @@
 // The opening and the counts of a queue tree with disciplines by itself, for a program in C or Rust: `tests/` links and compares them. A tree is
 // passed as plain numbers. The calls on such a tree are in the crate `exports_tree_calls`.
+#![tactic(auto)]
+
 ghost use Rattle.std.specs.Prelude.{◌≡◌};
 ghost use Rattle.pifo_model.specs.Tree.{held};
 ghost use Rattle.queue_state.specs.State.{tree_of};

@@ -1,5 +1,7 @@
 // Gatewalk: runs a script over both trees. It reads the script from standard input, the first 65,536 bytes at most, and writes what the
 // script prints.
+#![tactic(auto)]
+
 fn walk(input: &mut [u8], text: &mut [u8]) {
     let n = io::read_full(0, input);
     if text_stream::input_failed(n, input.len()) {

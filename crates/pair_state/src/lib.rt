@@ -1,5 +1,7 @@
 // A pair of trees, the source's and the chip's, opened together with the map of the one into the other. The crate `pair_step` says what holds between
 // the two from call to call.
+#![tactic(auto)]
+
 ghost use Rattle.std.specs.Prelude.{◌≡◌};
 ghost use Rattle.pair_state.specs.Opening.{no_pair, pair_opened, opened_pair};
 
@@ -7,7 +9,7 @@ use embedding_outcome::{Outcome, number_of};
 use queue_state::State;
 
 // The source's tree, the chip's tree, and the map of the one into the other.
-#[derive(Drop)]
+#[derive(Clone, Copy)]
 pub struct Pair {
     pub source: State,
     pub chip: State,
@@ -16,7 +18,7 @@ pub struct Pair {
 
 // The answer to an opening: the outcome of the search for the map; and both trees, empty, with the map and 0, or zeros throughout with the refusal's
 // number. Every call on a state of zeros is refused by 18.
-#[derive(Drop)]
+#[derive(Clone, Copy)]
 pub struct PairOpened {
     pub pair: Pair,
     pub outcome: Outcome,

@@ -1,4 +1,6 @@
 // The test of a queue tree's state (18).
+#![tactic(auto)]
+
 mod soundness;
 
 ghost use Rattle.queue_check.specs.Tests.{Tests};
@@ -8,7 +10,7 @@ use topology::TARGET_NODES;
 
 // The test of a state: whether it is well formed; and if so, how many packets (`held`) and entries (`used`) it holds, and the head of each queue that
 // is not empty.
-#[derive(Drop)]
+#[derive(Clone, Copy)]
 pub struct Test {
     pub sound: bool,
     pub held: usize,

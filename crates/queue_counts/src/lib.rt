@@ -1,4 +1,6 @@
 // The counts of a queue tree, packets held and pushes refused; and a refusal that is tested after the state itself.
+#![tactic(auto)]
+
 ghost use Rattle.std.specs.Prelude.{◌≡◌, cond};
 ghost use Rattle.pifo_model.specs.Tree.{held};
 ghost use Rattle.queue_state.specs.State.{well_formed, tree_of};
@@ -9,7 +11,7 @@ use queue_check::examine;
 use queue_state::{Answer, State};
 
 // The answer to a question about a state: a count, or a refusal's number.
-#[derive(Drop)]
+#[derive(Clone, Copy)]
 pub enum Amount {
     Count(u32),
     Refused(u8),

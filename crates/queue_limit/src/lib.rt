@@ -1,4 +1,6 @@
 // The packet limit of a tree, 1 to 256.
+#![tactic(auto)]
+
 ghost use Rattle.std.specs.Prelude.{◌≡◌};
 ghost use Rattle.queue_limit.specs.Limit.{limit_fault};
 

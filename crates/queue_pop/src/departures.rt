@@ -14,7 +14,7 @@ use queue_state::{Entry, Item, Packet, Rank};
 use topology::Found;
 
 // A pop from some node down: whether it finds a packet, the packet, what is taken on the way to the leaf, and the lengths of all queues after it.
-#[derive(Drop)]
+#[derive(Clone, Copy)]
 pub(crate) struct Trail {
     pub found: bool,
     pub packet: Packet,

@@ -1,5 +1,7 @@
 // The pop of the queue tree, a PIFO tree with a packet limit: it takes the tree's state and returns the state after it. The crate `queue_state` has
 // the state and its opening, `queue_check` its test, `queue_push` the push.
+#![tactic(auto)]
+
 mod departures;
 
 ghost use Rattle.std.specs.Prelude.{◌≡◌};
@@ -12,7 +14,7 @@ use queue_state::{Answer, Rank, Served, State, wide16};
 
 // What a pop takes at a node: the head of its queue. `child` is the child that the head names, 0 at a leaf.
 #[repr(C)]
-#[derive(Drop)]
+#[derive(Clone, Copy)]
 pub struct Taken {
     pub node: u8,
     pub child: u8,
@@ -21,13 +23,13 @@ pub struct Taken {
 
 // The way of a pop: its first `count` places, from the root down; the others are 0.
 #[repr(C)]
-#[derive(Drop)]
+#[derive(Clone, Copy)]
 pub struct Way {
     pub taken: [Taken; 9],
     pub count: usize,
 }
 
-#[derive(Drop)]
+#[derive(Clone, Copy)]
 pub struct Popped {
     pub served: Served,
     pub way: Way,

@@ -11,7 +11,7 @@ use queue_state::{Entry, Item, Packet, Rank};
 use topology::Found;
 
 // The fault of a path, or the new entry of each node that is marked as pending.
-#[derive(Drop)]
+#[derive(Clone, Copy)]
 pub(crate) struct Added {
     pub fault: u8,
     pub pending: [u8; 64],

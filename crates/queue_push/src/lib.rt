@@ -1,5 +1,7 @@
 // The push of the queue tree, a PIFO tree with a packet limit: it takes the tree's state and returns the state after it. The crate `queue_state` has
 // the state and its opening, `queue_check` its test, `queue_pop` the pop.
+#![tactic(auto)]
+
 mod arrivals;
 
 ghost use Rattle.std.specs.Prelude.{◌≡◌, suc, min};
@@ -11,7 +13,7 @@ use queue_check::examine;
 use queue_state::{Answer, Packet, Rank, Served, State, wide16};
 
 #[repr(C)]
-#[derive(Drop)]
+#[derive(Clone, Copy)]
 pub struct Step {
     pub child: u8,
     pub rank: Rank,
@@ -19,7 +21,7 @@ pub struct Step {
 
 // A path: its first `count` steps, and the rank at the leaf. There is a place for a ninth step, which every tree refuses by 13.
 #[repr(C)]
-#[derive(Drop)]
+#[derive(Clone, Copy)]
 pub struct Path {
     pub steps: [Step; 9],
     pub count: usize,

@@ -3,6 +3,8 @@
 //
 // The queues are stored one after another in one array, in the order of their nodes and each from its head on; a second array has their lengths.
 // There are at most 2304 entries: 256 packets, each with entries at up to 9 nodes.
+#![tactic(auto)]
+
 mod opening;
 
 ghost use Rattle.std.specs.Prelude.{◌≡◌, ◌<◌};
@@ -15,13 +17,13 @@ pub type Rank = u64;
 pub type Packet = u32;
 
 // The item of an entry: a child number at an inner node, a packet at a leaf.
-#[derive(Drop)]
+#[derive(Clone, Copy)]
 pub enum Item {
     Child(u8),
     Packet(Packet),
 }
 
-#[derive(Drop)]
+#[derive(Clone, Copy)]
 pub struct Entry {
     pub rank: Rank,
     pub item: Item,
@@ -29,7 +31,7 @@ pub struct Entry {
 
 // The part of a state that no call changes. It has plain numbers only, so that C and Rust can use it as it is.
 #[repr(C)]
-#[derive(Drop)]
+#[derive(Clone, Copy)]
 pub struct Frame {
     pub topology: [u8; 64],
     pub nodes: usize,
@@ -37,7 +39,7 @@ pub struct Frame {
 }
 
 // The fields stand in an order in which no byte lies idle between two of them: idle bytes cost copies (docs/PERFORMANCE.md, "The floor").
-#[derive(Drop)]
+#[derive(Clone, Copy)]
 pub struct State {
     pub frame: Frame,
     pub lengths: [u16; 64],
@@ -46,7 +48,7 @@ pub struct State {
 }
 
 // The answer to an opening: the empty tree and 0; or a state of zeros, on which every call is refused by 18, and the refusal's number.
-#[derive(Drop)]
+#[derive(Clone, Copy)]
 pub struct Opened {
     pub state: State,
     pub refusal: u8,
@@ -54,7 +56,7 @@ pub struct Opened {
 
 // The answer to a call: the number of packets held after a push; the packet that departs; a refusal's number; or, for a push without room, the
 // refusal's number and the new count of refusals.
-#[derive(Drop)]
+#[derive(Clone, Copy)]
 pub enum Answer {
     Accepted(u32),
     Departed(Packet),
@@ -63,7 +65,7 @@ pub enum Answer {
 }
 
 // The state after a call, and the answer to it.
-#[derive(Drop)]
+#[derive(Clone, Copy)]
 pub struct Served {
     pub state: State,
     pub answer: Answer,

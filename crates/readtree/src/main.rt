@@ -1,5 +1,7 @@
 // Reads a topology from standard input, its bytes as they are, and writes a heading and a line for each node: its number, its number of children, and
 // one past the last node of its branch; or `no` and the refusal's number.
+#![tactic(auto)]
+
 use topology::{Reading, TARGET_NODES, wide};
 
 const OUT: i32 = 1;

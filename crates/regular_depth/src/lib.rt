@@ -3,6 +3,8 @@
 // A complete tree of depth k with d children at each inner node has d^k leaves. The code counts the leaves that a drawing needs: a leaf needs one,
 // and a node needs the least power of d that is at least the sum of what its children need. So a node with one child, which is passed over, needs
 // what its child needs. The contract does not mention this formula; it is stated by the rules of a map (regular_model/specs/Depth).
+#![tactic(auto)]
+
 ghost use Rattle.std.specs.Prelude.{◌≡◌, ◌≤◌, ◌^◌};
 ghost use Rattle.base.specs.Sum.{sum};
 ghost use Rattle.topology.specs.Reader.{fault, tree};
@@ -12,7 +14,7 @@ ghost use Rattle.regular_depth.specs.Answers.{Answers};
 use topology::{Reading, SOURCE_NODES};
 
 // The answer: the least depth, or a refusal's number.
-#[derive(Drop)]
+#[derive(Clone, Copy)]
 pub enum Depth {
     Least(usize),
     Refused(u8),

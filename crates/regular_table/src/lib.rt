@@ -1,4 +1,6 @@
 // The text of buychip for a script: for each number of children the regular chip of the least depth into which the source has a map.
+#![tactic(auto)]
+
 ghost use Rattle.std.specs.Prelude.{◌≡◌, ◌≤◌, ◌^◌, length, get_or, take, eqb};
 ghost use Rattle.topology.specs.Tree.{size};
 ghost use Rattle.regular_model.specs.Regular.{complete, leaves};

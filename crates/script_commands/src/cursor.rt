@@ -7,14 +7,14 @@ use super::operands::command_at;
 use super::{Batch, Read, Slot};
 
 // What is read at an offset, and the offset of the next command.
-#[derive(Drop)]
+#[derive(Clone, Copy)]
 pub(crate) struct CursorRead {
     pub read: Read,
     pub next: usize,
 }
 
 // What is read in 256 reads, and the offset of the next command.
-#[derive(Drop)]
+#[derive(Clone, Copy)]
 pub(crate) struct CursorBatch {
     pub batch: Batch,
     pub next: usize,

@@ -1,4 +1,6 @@
 // The reader of a script's commands.
+#![tactic(auto)]
+
 mod cursor;
 mod operands;
 
@@ -7,7 +9,7 @@ ghost use Rattle.script_commands.specs.Reading.{read_at, next_at};
 ghost use Rattle.script_commands.specs.Batches.{first_reads, after, reads_of};
 
 // A command of the setup, before 04.
-#[derive(Drop)]
+#[derive(Clone, Copy)]
 pub enum Setup {
     // a node of the source, and of the target: its number of children
     Source(u8),
@@ -17,7 +19,7 @@ pub enum Setup {
 }
 
 // A command after 04.
-#[derive(Drop)]
+#[derive(Clone, Copy)]
 pub enum Call {
     // a step's child and rank, by 05 or 09
     Step(u8, u64),
@@ -27,7 +29,7 @@ pub enum Call {
 }
 
 // A command with its operands.
-#[derive(Drop)]
+#[derive(Clone, Copy)]
 pub enum Command {
     Setup(Setup),
     Compile,
@@ -35,7 +37,7 @@ pub enum Command {
 }
 
 // What a reader reads: the end of the script; a command and its offset; or a refusal's number and its command's offset.
-#[derive(Drop)]
+#[derive(Clone, Copy)]
 pub enum Read {
     End,
     Next(Command, usize),
@@ -43,20 +45,20 @@ pub enum Read {
 }
 
 // The prover does not cover an array of enums as a field, so each of them is in a struct.
-#[derive(Drop)]
+#[derive(Clone, Copy)]
 pub struct Slot {
     pub read: Read,
 }
 
 // What a reader reads in 256 reads in a row.
-#[derive(Drop)]
+#[derive(Clone, Copy)]
 pub struct Batch {
     pub slots: [Slot; 256],
 }
 
 // The script reader: the script, and the offset of its next command. A function over a struct that holds a slice has to be proved by hand, so those
 // over this one are thin; the functions of `cursor`, over the slice and the number, do the work.
-#[derive(Drop)]
+#[derive(Clone, Copy)]
 pub struct Reader<'a> {
     pub script: &'a [u8],
     pub at: usize,

@@ -6,13 +6,13 @@ ghost use Rattle.script_commands.specs.InnerOperands.{byte_at, word_at, Below};
 use super::{Call, Command, Read, Setup};
 
 // An operand of one byte (`Byte`), or of two or four (`Word`); or the script ends within it.
-#[derive(Drop)]
+#[derive(Clone, Copy)]
 enum Byte {
     Is(u8),
     Missing,
 }
 
-#[derive(Drop)]
+#[derive(Clone, Copy)]
 enum Word {
     Is(u32),
     Missing,

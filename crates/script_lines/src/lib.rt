@@ -1,4 +1,6 @@
 // The lines that gatewalk prints.
+#![tactic(auto)]
+
 ghost use Rattle.text.specs.Text.{Puts};
 ghost use Rattle.script_lines.specs.Lines.{spaced, in_line, out_line, no_line, map_line};
 

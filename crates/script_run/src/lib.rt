@@ -2,6 +2,8 @@
 //
 // After 04 each call goes to both trees, as in demand 3: a push is made along the path as drawn on the source's tree, and along the path carried over
 // on the chip's tree. The text has the answers of the chip's side.
+#![tactic(auto)]
+
 mod replies;
 mod steps;
 mod turns;
@@ -21,14 +23,14 @@ use script_setup::{Drawing, Ending, Gathered};
 use turns::CallRead;
 
 // Where the text so far ends, and whether the script goes on.
-#[derive(Drop)]
+#[derive(Clone, Copy)]
 struct Printed {
     pub end: usize,
     pub going: bool,
 }
 
 // The stage of a script after 04: what it has printed, the steps gathered for the next push, the drawings, and both trees with the map.
-#[derive(Drop)]
+#[derive(Clone, Copy)]
 struct Progress {
     pub printed: Printed,
     pub path: Path,

@@ -5,7 +5,7 @@ ghost use Rattle.script_run.specs.InnerTurns.{is_ninth, call_of, call_read};
 use script_commands::{Call, Command, Read};
 
 // What is read after 04: the end of the script; a refusal, its number and its command's offset; or a call in turn and its offset.
-#[derive(Drop)]
+#[derive(Clone, Copy)]
 pub(crate) enum CallRead {
     End,
     Refused(u8, usize),

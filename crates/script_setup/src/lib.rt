@@ -1,4 +1,6 @@
 // The setup of a script, its commands before 04: the two drawings and the limit.
+#![tactic(auto)]
+
 mod adding;
 mod turns;
 
@@ -11,7 +13,7 @@ use script_commands::Reader;
 
 // The drawings and the limit. Each array has one place more than a tree may have nodes, so that a drawing that is cut off here has a fault in any
 // case.
-#[derive(Drop)]
+#[derive(Clone, Copy)]
 pub struct Drawing {
     pub source: [u8; 33],
     pub source_nodes: usize,
@@ -22,14 +24,14 @@ pub struct Drawing {
 }
 
 // How the setup ends: with the script; with a refusal, its number and its command's offset; or with an 04 in turn, and its offset.
-#[derive(Drop)]
+#[derive(Clone, Copy)]
 pub enum Ending {
     End,
     Refused(u8, usize),
     Compile(usize),
 }
 
-#[derive(Drop)]
+#[derive(Clone, Copy)]
 pub struct Gathered {
     pub drawing: Drawing,
     pub ending: Ending,

@@ -7,7 +7,7 @@ use super::{Drawing, Ending, Gathered, adding};
 use script_commands::{Command, Read, Setup};
 
 // The setup so far; `ending` has a meaning once `going` is false.
-#[derive(Drop)]
+#[derive(Clone, Copy)]
 pub(crate) struct Gathering {
     pub gathered: Gathered,
     pub going: bool,

@@ -1,5 +1,7 @@
 // Text that is put into a caller's buffer at a place. Each call writes what fits and returns the place after its text, where the next call goes on.
 // If that is below the buffer's length, all of the text was written.
+#![tactic(auto)]
+
 ghost use Rattle.text.specs.Text.{decimal, hex_digit, Puts};
 ghost use Rattle.text.specs.Text.{hex8 as text_hex8};
 ghost use Rattle.std.specs.Prelude.{◌≡◌, ◌<◌, min, ◌∷◌, []};

@@ -1,4 +1,6 @@
 // A program's standard input and output, and what it says on standard error where they fail.
+#![tactic(auto)]
+
 const IN: i32 = 0;
 
 const OUT: i32 = 1;

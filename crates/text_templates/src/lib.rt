@@ -1,4 +1,6 @@
 // Templates: text in which each `#` stands for a number, filled in and put into a caller's buffer.
+#![tactic(auto)]
+
 ghost use Rattle.std.specs.Prelude.{◌≡◌, suc, ◌<◌, get_or, eqb, cond};
 ghost use Rattle.text.specs.Text.{Puts};
 ghost use Rattle.text_templates.specs.Template.{part, filled};

@@ -1,6 +1,8 @@
 // Topologies: trees as bytes, each node's number of children in preorder.
 //
 // `read` is the topology reader of paper 01; `wide` is a helper for other crates.
+#![tactic(auto)]
+
 ghost use Rattle.std.specs.Prelude.{◌≡◌, ◌≤◌, ◌<◌, length, drop};
 ghost use Rattle.topology.specs.Reader.{fault, fault_at, reading, pending};
 
@@ -10,21 +12,21 @@ pub const SOURCE_NODES: usize = 32;
 pub const TARGET_NODES: usize = 64;
 
 // The reader's answer: the bytes are a tree, or they are refused by a number from 1 to 5.
-#[derive(Drop)]
+#[derive(Clone, Copy)]
 pub enum Reading {
     Tree,
     Refused(u8),
 }
 
 // A child of a node, by its node number; or the node has no such child.
-#[derive(Drop)]
+#[derive(Clone, Copy)]
 pub enum Found {
     Node(usize),
     Missing,
 }
 
 // The child of a node that is a second node or lies above it, by its child number, from 1, and its node number; or there is no such child.
-#[derive(Drop)]
+#[derive(Clone, Copy)]
 pub enum Toward {
     Child(u8, usize),
     Nowhere,

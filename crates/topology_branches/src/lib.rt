@@ -2,6 +2,8 @@
 //
 // `branch` is the call of paper 01. `branch_end`, `child`, `is_above` and `toward` are helpers for other crates. They take any bytes; their names
 // say what they mean if `topology::read` accepts the bytes.
+#![tactic(auto)]
+
 ghost use Rattle.std.specs.Prelude.{◌≡◌, ◌+◌};
 ghost use Rattle.topology.specs.Branch.{branch_end, child_at, is_above, toward_at, branch_fault, branch_part};
 

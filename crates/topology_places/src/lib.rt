@@ -1,4 +1,6 @@
 // The depth, the parent and the child number of a node, the node before it on its parent's trunk, and its role for a map.
+#![tactic(auto)]
+
 ghost use Rattle.std.specs.Prelude.{◌≡◌, ◌≤◌, cond};
 ghost use Rattle.topology_places.specs.Places.{images_at, images_under, child_number, on_trunk, trunk_from, source_role};
 ghost use Rattle.topology_places.specs.Places.{depth as places_depth, parent as places_parent, role_of};
@@ -8,7 +10,7 @@ use topology_branches::is_above;
 
 // The role of a node for a map. A source node is plain or passed over. A chip node is plain if there are no images; else it is an image, or lies
 // above one (`Between`), or neither (`Unused`).
-#[derive(Drop)]
+#[derive(Clone, Copy)]
 pub enum Role {
     Plain,
     Passed,

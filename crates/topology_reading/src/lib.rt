@@ -1,4 +1,6 @@
 // How far a topology is read before its fault.
+#![tactic(auto)]
+
 ghost use Rattle.std.specs.Prelude.{◌≡◌, leb};
 ghost use Rattle.topology.specs.Reader.{fault};
 ghost use Rattle.topology_reading.specs.Accepted.{accepted_bytes};

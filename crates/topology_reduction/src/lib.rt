@@ -1,4 +1,6 @@
 // The kept nodes of a drawing (paper 02, 2.2). An inner node with one child is passed over, so a node is kept if its byte is not 1.
+#![tactic(auto)]
+
 ghost use Rattle.std.specs.Prelude.{◌≡◌, min, length, take};
 ghost use Rattle.topology_reduction.specs.Reduced.{next_kept, restricted, spread, in32};
 
@@ -6,7 +8,7 @@ ghost use Rattle.topology_reduction.specs.Reduced.{next_kept, restricted, spread
 pub const PASSED_OVER: u8 = 255;
 
 // `count` numbers, at most 32, and zeros after them.
-#[derive(Drop)]
+#[derive(Clone, Copy)]
 pub struct Restricted {
     pub numbers: [u8; 32],
     pub count: usize,

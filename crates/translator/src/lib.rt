@@ -4,6 +4,8 @@
 // but without, the image of the child; each leads toward the child's image and has the step's rank. A node that is passed over has the image of the
 // next kept node below it: so a step into it leads to that image, and a step out of it gives no target step. The target nodes above the image of a
 // lone leaf get a step of rank 0 toward it.
+#![tactic(auto)]
+
 ghost use Rattle.std.specs.Prelude.{◌≡◌, ◌++◌};
 ghost use Rattle.topology.specs.Reader.{fault, tree};
 ghost use Rattle.topology.specs.Address.{depth, route};
@@ -21,7 +23,7 @@ use topology::{Found, Toward};
 
 // The carried path and 0; or the path as given and the refusal's number.
 #[repr(C)]
-#[derive(Drop)]
+#[derive(Clone, Copy)]
 pub struct Carried {
     pub path: Path,
     pub refusal: u8,

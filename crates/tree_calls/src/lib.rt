@@ -1,4 +1,6 @@
 // The calls on a queue tree with disciplines, by itself. A call takes the tree by value and returns the tree after it by value.
+#![tactic(auto)]
+
 ghost use Rattle.pifo_model.specs.Machine.{pushing, popping};
 ghost use Rattle.queue_state.specs.Calls.{answer_of};
 ghost use Rattle.queue_push.specs.Calls.{steps_of};

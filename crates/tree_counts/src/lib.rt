@@ -1,4 +1,6 @@
 // The counts of a queue tree with disciplines, and the test of its rules that every call on it makes.
+#![tactic(auto)]
+
 ghost use Rattle.std.specs.Prelude.{◌≡◌};
 ghost use Rattle.pifo_model.specs.Tree.{held};
 ghost use Rattle.queue_state.specs.State.{tree_of};

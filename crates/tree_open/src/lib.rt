@@ -1,4 +1,6 @@
 // The opening of a queue tree with disciplines.
+#![tactic(auto)]
+
 ghost use Rattle.std.specs.Prelude.{◌≡◌};
 ghost use Rattle.discipline_model.specs.Figure.{fresh as figure_fresh};
 ghost use Rattle.tree_state.specs.Opening.{tree_fault, opened_by, opened_tree};
