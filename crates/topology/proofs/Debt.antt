@@ -4,7 +4,6 @@
 use mathlib.Core.Path.{◌≡◌, refl, sym, ap, ◌∙◌}
 use mathlib.Core.Logic.{◌↔◌}
 use Prim.Native.Nat.{ℕ, suc, ◌+◌, ◌≤◌}
-use native.Mathlib.Nat.{zero-add, suc-add}
 use native.Mathlib.Omega.{arith}
 use mathlib.Core.List.{List, [], ◌∷◌, ◌++◌, append_assoc, append-nil}
 use lib.ListN.{length}
@@ -13,7 +12,7 @@ use Rattle.base.specs.Sum.{sum}
 use Rattle.topology.specs.Tree.{Topo, Forest, node, fnil, fcons, count, code, codes}
 use Rattle.topology.specs.Reader.{owing, pending, marking, fault_from, fault, tree}
 use Rattle.topology.specs.Debt.{debt_after, marks_after, Accepted}
-use Rattle.topology.proofs.Marks.{mark_met, mark-open}
+use Rattle.topology.proofs.Marks.{at_open, at_met}
 use Rattle.topology.proofs.Accepted.{accepted_byte, accepted-fault}
 use Rattle.topology.proofs.Reader.{sound, drawn}
 
@@ -43,11 +42,12 @@ mutual
 
   past_forest : (ts : Forest) (m : ℕ) (ms bs : List ℕ)
       → LeadAlike (count ts + m) (pending (count ts + m) (m ∷ ms)) (codes ts ++ bs) m (pending m ms) bs
-  past_forest fnil m ms bs = rw (zero-add m, mark_met m ms) (refl, refl)
+  past_forest fnil m ms bs = at_met (λ (d : ℕ) (ns : List ℕ). LeadAlike d ns bs m (pending m ms) bs) m ms (refl, refl)
   past_forest (fcons t ts) m ms bs =
       let a = past_tree t (count ts + m) (m ∷ ms) (codes ts ++ bs) in
       let b = past_forest ts m ms bs in
-      rw (suc-add (count ts) m, mark-open (count ts) m ms, append_assoc (code t) (codes ts) bs) (a.0 ∙ b.0, a.1 ∙ b.1)
+      at_open (λ (d : ℕ) (ns : List ℕ). LeadAlike d ns ((code t ++ codes ts) ++ bs) m (pending m ms) bs) (count ts) m ms
+          (rw (append_assoc (code t) (codes ts) bs) (a.0 ∙ b.0, a.1 ∙ b.1))
 
 -- ---- the tree is complete
 

@@ -4,7 +4,7 @@
 -- a node. The debt alone does not determine the depth (`depth-apart`).
 use mathlib.Core.Path.{◌≡◌, refl, sym, ap, ◌∙◌}
 use Prim.Native.Nat.{ℕ, zero, suc, ◌+◌, ◌<◌}
-use native.Mathlib.Nat.{add-zero, zero-add, suc-add, not-suc-le-zero, le_of_suc-le-suc}
+use native.Mathlib.Nat.{add-zero, zero-add, not-suc-le-zero, le_of_suc-le-suc}
 use native.Mathlib.Omega.{arith}
 use mathlib.Core.List.{List, [], ◌∷◌}
 use lib.ListN.{length, take}
@@ -15,7 +15,7 @@ use Rattle.topology.specs.Reader.{pending, tree}
 use Rattle.topology.specs.Debt.{debt_after, marks_after}
 use Rattle.topology.proofs.Numbering.{node_ind, addr_root, addr-child}
 use Rattle.topology.proofs.Decoding.{length_code}
-use Rattle.topology.proofs.Marks.{mark-open}
+use Rattle.topology.proofs.Marks.{at_open}
 use Rattle.topology.proofs.Debt.{past_tree}
 
 module _ (m : ℕ) (ms : List ℕ) where
@@ -26,17 +26,24 @@ module _ (m : ℕ) (ms : List ℕ) where
   in_forest fnil i k h g = absurd (not-suc-le-zero h)
   in_forest (fcons t ts) zero k h g = (
     count ts + m,
-    rw (suc-add (count ts) m, mark-open (count ts) m ms, zero-add k)
-        (ap (marks_after (suc (count ts + m)) (m ∷ ms)) (take-append-le k (code t) (codes ts) (omega (arith, length_code t)))),
+    at_open (λ (d : ℕ) (ns : List ℕ). marks_after d ns (take (0 + k) (codes (fcons t ts))) ≡ marks_after (suc (count ts + m)) (m ∷ ms) (take k (code t)))
+        (count ts) m ms
+        (rw (zero-add k) (ap (marks_after (suc (count ts + m)) (m ∷ ms)) (take-append-le k (code t) (codes ts) (omega (arith, length_code t))))),
   )
   in_forest (fcons t ts) (suc i) k h g =
       let r = in_forest ts i k (le_of_suc-le-suc h) g in
       let f : size t + ahead ts i + k ≡ length (code t) + (ahead ts i + k) = omega (arith, length_code t) in (
         r.0,
-        rw (suc-add (count ts) m, mark-open (count ts) m ms, f)
+        at_open
+            (λ (d : ℕ) (ns : List ℕ). marks_after d ns (take (size t + ahead ts i + k) (codes (fcons t ts)))
+            ≡ marks_after (suc r.0) (m ∷ ms) (take k (code (nth ts i))))
+            (count ts)
+            m
+            ms
+            (rw f
             (ap (marks_after (suc (count ts + m)) (m ∷ ms)) (take-append-add (code t) (codes ts) (ahead ts i + k))
             ∙ (past_tree t (count ts + m) (m ∷ ms) (take (ahead ts i + k) (codes ts))).1
-            ∙ r.1),
+            ∙ r.1)),
       )
 
 abbrev MarksDown : Topo → ℕ → Type 0

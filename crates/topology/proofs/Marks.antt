@@ -1,6 +1,7 @@
 -- The marks of the branches that are not complete, kept in an array from an index on; and a bound on the debt.
-use mathlib.Core.Path.{◌≡◌, refl}
+use mathlib.Core.Path.{◌≡◌, refl, sym, subst}
 use Prim.Native.Nat.{ℕ, suc, pred, ◌+◌, ◌*◌, ◌≤◌, ◌<◌}
+use native.Mathlib.Nat.{zero-add, suc-add}
 use native.Mathlib.Omega.{arith}
 use mathlib.Core.List.{List, [], ◌∷◌}
 use mathlib.Core.Bool.{Bool, true, false, cond}
@@ -16,6 +17,14 @@ mark_met m ms = rw (le-ltb m m (omega arith))
 
 pub mark-open : (k m : ℕ) (ms : List ℕ) → pending (suc (k + m)) (m ∷ ms) ≡ m ∷ ms
 mark-open k m ms = rw (lt-ltb m (suc (k + m)) (omega arith))
+
+-- a fact of the debt and of the marks that are left of it, before a child is read and behind the last one
+pub at_open : (P : ℕ → List ℕ → Type 0) (k m : ℕ) (ms : List ℕ) → P (suc (k + m)) (m ∷ ms) → P (suc k + m) (pending (suc k + m) (m ∷ ms))
+at_open P k m ms h =
+    subst (λ (d : ℕ). P d (pending d (m ∷ ms))) (sym (suc-add k m)) (subst (P (suc (k + m))) (sym (mark-open k m ms)) h)
+
+pub at_met : (P : ℕ → List ℕ → Type 0) (m : ℕ) (ms : List ℕ) → P m (pending m ms) → P (0 + m) (pending (0 + m) (m ∷ ms))
+at_met P m ms h = subst (λ (d : ℕ). P d (pending d (m ∷ ms))) (sym (zero-add m)) (subst (P m) (sym (mark_met m ms)) h)
 
 -- ---- in an array
 

@@ -17,7 +17,7 @@ use Rattle.base.proofs.Refusals.{or_else_none}
 use Rattle.topology.specs.Tree.{Topo, Forest, node, fnil, fcons, count, code, codes, size, sizes, height, heights, breadth, breadths}
 use Rattle.topology.specs.Reader.{Within, pending, fault_at, fault_from, fault, tree}
 use Rattle.topology.specs.Debt.{Accepted}
-use Rattle.topology.proofs.Marks.{mark_met, mark-open}
+use Rattle.topology.proofs.Marks.{at_open, at_met}
 use Rattle.topology.proofs.Forests.{draws-tree}
 use Rattle.topology.proofs.Accepted.{nothing_owed, draws-begun}
 
@@ -67,10 +67,12 @@ onward_at limit debt marks bs e = ap (λ (m : ℕ). onward limit m debt marks bs
 
 -- a branch before one of its children, and behind its last one
 onward-open : (limit n k m : ℕ) (marks bs : List ℕ) → onward limit n (suc k + m) (m ∷ marks) bs ≡ fault_from limit n (suc (k + m)) (m ∷ marks) bs
-onward-open limit n k m marks bs = rw (suc-add k m, mark-open k m marks)
+onward-open limit n k m marks bs =
+    at_open (λ (d : ℕ) (ms : List ℕ). fault_from limit n d ms bs ≡ fault_from limit n (suc (k + m)) (m ∷ marks) bs) k m marks refl
 
 onward_met : (limit n m : ℕ) (marks bs : List ℕ) → onward limit n (0 + m) (m ∷ marks) bs ≡ onward limit n m marks bs
-onward_met limit n m marks bs = rw (zero-add m, mark_met m marks)
+onward_met limit n m marks bs =
+    at_met (λ (d : ℕ) (ms : List ℕ). fault_from limit n d ms bs ≡ onward limit n m marks bs) m marks refl
 
 mutual
   accepts-tree : (t : Topo) (limit n m : ℕ) (marks bs : List ℕ) → RoomFor limit n marks t
