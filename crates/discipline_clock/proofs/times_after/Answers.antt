@@ -1,0 +1,35 @@
+use native.Mathlib.Omega.{arith}
+use mathlib.Core.Path.{◌∙◌}
+use mathlib.Core.Logic.{⊎_elim}
+use Prim.Native.Nat.{◌<◌, ◌-◌}
+use lib.ListN.{length}
+use Rattle.discipline_clock.specs.Clock.{rank_in}
+use Rattle.discipline_clock.proofs.Loops.{times-weighted, times-plain, times_all}
+use Rattle.discipline_clock.proofs.times_after.Goals as goal
+
+pub returns-then-images-n : goal.returns-then-images-n
+returns-then-images-n c =
+    c.loop-n.invariant ∙ times_all _ _ 0 c.loop-n.n _ _ _ (λ a b d. omega arith)
+
+pub returns-then-n-ge-TARGET_NODES : goal.returns-then-n-ge-TARGET_NODES
+returns-then-n-ge-TARGET_NODES c =
+    c.loop-n.invariant ∙ times_all _ _ 0 c.loop-n.n _ _ _ (λ a b d. omega arith)
+
+pub loop-n-preserved : goal.loop-n-preserved
+loop-n-preserved c =
+    let args = c.args in
+    let byte : c.loop-n.n < length args.bytes.now = omega arith in
+    let image : c.loop-n.n < length args.images.now = omega arith in
+    let node : c.loop-n.n < length args.times = omega arith in
+    ⊎_elim
+    (λ w. w.3
+    ∙ times-weighted args.t1 (rank_in args.way) _ args.bytes.now args.images.now args.times _ byte image node c.loop-n.invariant _
+    c.acting.ensures _ w.0.taken w.2.ensures)
+    (λ w. w.1
+    ∙ times-plain args.t1 (rank_in args.way) _ args.bytes.now args.images.now args.times _ byte image node c.loop-n.invariant _
+    c.acting.ensures w.0.left)
+    c.if-acting-eq-WEIGHTED.branch
+
+pub returns : goal.returns
+returns c =
+    c.loop-n.invariant ∙ times_all _ _ 0 c.loop-n.n _ _ _ (λ a b d. omega arith)

@@ -1,0 +1,13 @@
+-- `keeps_leaves` meets its contract. Rule 3 holds of the nodes before a.
+use mathlib.Core.Path.{◌≡◌}
+use Prim.Native.Nat.{◌≤◌, ◌-◌}
+use mathlib.Core.Bool.{true}
+use lib.ListN.{length}
+use Rattle.embedding_model.specs.Check.{rule3}
+use Rattle.embedding_check.proofs.keeps_leaves.Given as goal
+
+abbrev pub invariant-loop-a : goal.invariant-loop-a
+invariant-loop-a l = (l.a ≤ length l.map) × (rule3 l.source l.target l.a l.map ≡ true)
+
+abbrev pub decreases-loop-a : goal.decreases-loop-a
+decreases-loop-a l = length l.map - l.a

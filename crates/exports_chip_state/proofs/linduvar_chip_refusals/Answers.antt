@@ -1,0 +1,12 @@
+-- `linduvar_chip_refusals` meets its contract: the chip's contract, for plain numbers.
+use mathlib.Core.Path.{ap, ◌∙◌}
+use Rattle.tree_state.specs.declared.Tree.{Tree}
+use Rattle.chip_counts.specs.Amounts.{chip_amount}
+use Rattle.exports_plain_answers.specs.Answers.{plain_amount}
+use Rattle.exports_chip_state.proofs.linduvar_chip_refusals.Goals as goal
+
+pub returns : goal.returns
+returns c =
+    c.amount_of.ensures
+    ∙ ap plain_amount c.refusals.ensures
+    ∙ ap (λ (t : Tree). plain_amount (chip_amount c.args.source.now t t.state.refused)) c.tree_of.ensures
