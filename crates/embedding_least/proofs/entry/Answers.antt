@@ -21,7 +21,7 @@ returns-then-width-ne0 c =
     let args = c.args in
     let pre = c.requires in (
       entry_shut args.best.now args.kids.now args.ends.now _ _ _ (λ k. c.if-width-ne0.true (k if1.true)),
-      record { places = pre.0.go-places; bound = pre.0.go_bound },
+      record { places = pre.0.go_places; bound = pre.0.go_bound },
       pre.3,
       pre.4,
     )
@@ -37,7 +37,7 @@ returns-then-end-t c =
     let args = c.args in
     let pre = c.requires in (
       entry-leaf args.best.now args.kids.now args.ends.now _ _ _ if1.false c.if-end-t.true,
-      record { places = pre.0.go-places; bound = pre.0.go_bound },
+      record { places = pre.0.go_places; bound = pre.0.go_bound },
       pre.3,
       pre.4,
     )
@@ -56,7 +56,7 @@ pub shape_of-go : goal.shape_of-go
 shape_of-go c =
     let place = c.place in
     let pre = c.requires in
-    place.ensures.places ∙ sym pre.0.go-places
+    place.ensures.places ∙ sym pre.0.go_places
 
 pub returns : goal.returns
 returns c =

@@ -62,13 +62,13 @@ pub returns-then-not-children_match : goal.returns-then-not-children_match
 returns-then-not-children_match c =
     tallied_not _ _ _ _ _ c.unsound-then-not-children_match.ensures
     (mismatch _ _ _ _ _ _ _ _ _ _ c.loop-start.invariant c.loop-start-test.false (valid_byte 64 _ c.requires _) _
-    (c.children_match.ensures.if-false (not-true _ c.if-not-children_match.true)))
+    (c.children_match.ensures.if_false c.if-not-children_match.true))
 
 pub loop-node-preserved : goal.loop-node-preserved
 loop-node-preserved c =
     rw add-one
     (leave _ _ _ _ _ _ _ _ _ _ c.loop-start.invariant c.loop-start-test.false (valid_byte 64 _ c.requires _)
-    (c.children_match.ensures.if-true (not-false _ c.if-not-children_match.false)))
+    (c.children_match.ensures.if_true c.if-not-children_match.false))
 
 pub returns-then-limit-held : goal.returns-then-limit-held
 returns-then-limit-held c =
