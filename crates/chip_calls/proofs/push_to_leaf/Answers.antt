@@ -38,13 +38,13 @@ pub returns-then-not-plan : goal.returns-then-not-plan
 unfolding bytes
 returns-then-not-plan c =
     leaf_late _ _ _ _ c.first_fault-number.ensures c.if-number-ne0.false _ _ _ _ _ c.is_leaf.ensures c.if-not-is_leaf.false _ c.plan_to-plan.ensures _ c.carry-carried.ensures c.if-refusal-ne0.false
-    _ _ c.push-served.ensures _ (ap answer_of c.in-Accepted.is) c.if-not-plan.true
+    _ _ c.push-served.ensures _ (ap answer_of c.in-Accepted.is) (not-true _ c.if-not-plan.true)
 
 pub returns-else-not-plan : goal.returns-else-not-plan
 unfolding bytes
 returns-else-not-plan c =
     leaf-taken _ _ _ _ c.first_fault-number.ensures c.if-number-ne0.false _ _ _ _ _ c.is_leaf.ensures c.if-not-is_leaf.false _ c.plan_to-plan.ensures _ c.carry-carried.ensures c.if-refusal-ne0.false
-    _ _ c.push-served.ensures _ (ap answer_of c.in-Accepted.is) c.if-not-plan.false _ refl
+    _ _ c.push-served.ensures _ (ap answer_of c.in-Accepted.is) (not-false _ c.if-not-plan.false) _ refl
 
 pub returns-in_default : goal.returns-in_default
 unfolding bytes

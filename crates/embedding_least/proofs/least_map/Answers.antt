@@ -44,7 +44,7 @@ returns-then-not-least c =
     let restricted = c.restrict-kept in
     let read = c.trees_fault-refusal in
     let none = c.if-refusal-ne0.false in
-    search_none args.source.now args.target.now _ read.ensures none _ restricted.ensures _ c.least_images-least.ensures c.if-not-least.true
+    search_none args.source.now args.target.now _ read.ensures none _ restricted.ensures _ c.least_images-least.ensures (not-true _ c.if-not-least.true)
 
 pub returns : goal.returns
 returns c =
@@ -52,4 +52,4 @@ returns c =
     let restricted = c.restrict-kept in
     let read = c.trees_fault-refusal in
     let none = c.if-refusal-ne0.false in
-    search_found args.source.now args.target.now _ read.ensures none _ restricted.ensures _ c.least_images-least.ensures c.if-not-least.false _ c.spread_out.ensures
+    search_found args.source.now args.target.now _ read.ensures none _ restricted.ensures _ c.least_images-least.ensures (not-false _ c.if-not-least.false) _ c.spread_out.ensures

@@ -24,13 +24,13 @@ use Rattle.queue_pop.proofs.pop.Goals as goal
 
 pub returns-then-not-test : goal.returns-then-not-test
 returns-then-not-test c =
-    let f = sym c.examine-test.ensures.sound ∙ c.if-not-test.true in
+    let f = sym c.examine-test.ensures.sound ∙ not-true _ c.if-not-test.true in
     (ill_served _ _ f, c.no_way.ensures ∙ ill_way _ f)
 
 pub returns-then-test-eq0 : goal.returns-then-test-eq0
 returns-then-test-eq0 c =
     let test = c.examine-test.ensures in
-    let yes = c.if-not-test.false in
+    let yes = not-false _ c.if-not-test.false in
     let t = sym test.sound ∙ yes in
     let none = sym (test.count yes) ∙ c.if-test-eq0.true in
     (none_served _ t none, c.no_way-then-test-eq0.ensures ∙ none_way_of _ t none)
@@ -39,7 +39,7 @@ pub slice_bounds-topology-end : goal.slice_bounds-topology-end
 unfolding bytes
 slice_bounds-topology-end c =
     let test = c.examine-test.ensures in
-    let yes = c.if-not-test.false in
+    let yes = not-false _ c.if-not-test.false in
     let t = sym test.sound ∙ yes in
     let ar = the_arrays c.args.state _ c.well_formed.0 in
     omega (arith, (formed _ t).nodes, ar.topology)
@@ -48,7 +48,7 @@ pub slice_bounds-bytes-end : goal.slice_bounds-bytes-end
 unfolding bytes
 slice_bounds-bytes-end c =
     let test = c.examine-test.ensures in
-    let yes = c.if-not-test.false in
+    let yes = not-false _ c.if-not-test.false in
     let t = sym test.sound ∙ yes in
     let ar = the_arrays c.args.state _ c.well_formed.0 in
     sym (length-take-le _ _ (omega (arith, (formed _ t).nodes, ar.topology)))
@@ -57,7 +57,7 @@ pub pop_from-trail-requires : goal.pop_from-trail-requires
 unfolding bytes
 pop_from-trail-requires c =
     let test = c.examine-test.ensures in
-    let yes = c.if-not-test.false in
+    let yes = not-false _ c.if-not-test.false in
     let t = sym test.sound ∙ yes in
     let v = (formed _ t).valid in
     (v, omega (arith, valid_size 64 _ v, size_pos (tree (bytes c.args.state))), omega arith)
@@ -66,7 +66,7 @@ pub loop-node-init : goal.loop-node-init
 unfolding bytes
 loop-node-init c =
     let test = c.examine-test.ensures in
-    let yes = c.if-not-test.false in
+    let yes = not-false _ c.if-not-test.false in
     let t = sym test.sound ∙ yes in
     let ar = the_arrays c.args.state _ c.well_formed.0 in
     let some-held : 0 < held (tree_of c.args.state) = omega (arith, test.count yes, c.if-test-eq0.false) in
@@ -78,35 +78,35 @@ loop-node-init c =
 pub offset_bounds-old-node : goal.offset_bounds-old-node
 offset_bounds-old-node c =
     let test = c.examine-test.ensures in
-    let yes = c.if-not-test.false in
+    let yes = not-false _ c.if-not-test.false in
     let t = sym test.sound ∙ yes in
     omega (arith, (formed _ t).nodes, c.loop-node-test.true)
 
 pub bounds-old-node : goal.bounds-old-node
 bounds-old-node c =
     let test = c.examine-test.ensures in
-    let yes = c.if-not-test.false in
+    let yes = not-false _ c.if-not-test.false in
     let t = sym test.sound ∙ yes in
     omega (arith, (formed _ t).nodes, c.loop-node-test.true)
 
 pub overflow_add-end : goal.overflow_add-end
 overflow_add-end c =
     let test = c.examine-test.ensures in
-    let yes = c.if-not-test.false in
+    let yes = not-false _ c.if-not-test.false in
     let t = sym test.sound ∙ yes in
     omega (arith, c.loop-node.invariant.0.ends, c.wide16-end.ensures.0, start_next c.args.state.lengths c.loop-node.node, start_order c.args.state.lengths _ _ c.loop-node-test.true, (formed _ t).used)
 
 pub offset_bounds-new-node : goal.offset_bounds-new-node
 offset_bounds-new-node c =
     let test = c.examine-test.ensures in
-    let yes = c.if-not-test.false in
+    let yes = not-false _ c.if-not-test.false in
     let t = sym test.sound ∙ yes in
     omega (arith, (formed _ t).nodes, c.loop-node-test.true)
 
 pub bounds-new-node : goal.bounds-new-node
 bounds-new-node c =
     let test = c.examine-test.ensures in
-    let yes = c.if-not-test.false in
+    let yes = not-false _ c.if-not-test.false in
     let t = sym test.sound ∙ yes in
     omega (arith, (formed _ t).nodes, c.loop-node-test.true)
 
@@ -114,7 +114,7 @@ pub overflow_sub-i : goal.overflow_sub-i
 unfolding bytes
 overflow_sub-i c =
     let test = c.examine-test.ensures in
-    let yes = c.if-not-test.false in
+    let yes = not-false _ c.if-not-test.false in
     let t = sym test.sound ∙ yes in
     let ar = the_arrays c.args.state _ c.well_formed.0 in
     let some-held : 0 < held (tree_of c.args.state) = omega (arith, test.count yes, c.if-test-eq0.false) in
@@ -128,7 +128,7 @@ pub loop-i-init : goal.loop-i-init
 unfolding bytes
 loop-i-init c =
     let test = c.examine-test.ensures in
-    let yes = c.if-not-test.false in
+    let yes = not-false _ c.if-not-test.false in
     let t = sym test.sound ∙ yes in
     let ar = the_arrays c.args.state _ c.well_formed.0 in
     let some-held : 0 < held (tree_of c.args.state) = omega (arith, test.count yes, c.if-test-eq0.false) in
@@ -161,7 +161,7 @@ loop-i-preserved c = (rw (add-one, add-one) (move _ _ _ _ _ _ _ c.loop-i.invaria
 pub overflow_add-node : goal.overflow_add-node
 overflow_add-node c =
     let test = c.examine-test.ensures in
-    let yes = c.if-not-test.false in
+    let yes = not-false _ c.if-not-test.false in
     let t = sym test.sound ∙ yes in
     omega (arith, (formed _ t).nodes, c.loop-node-test.true)
 
@@ -169,7 +169,7 @@ pub loop-node-preserved : goal.loop-node-preserved
 unfolding bytes
 loop-node-preserved c =
     let test = c.examine-test.ensures in
-    let yes = c.if-not-test.false in
+    let yes = not-false _ c.if-not-test.false in
     let t = sym test.sound ∙ yes in
     let ar = the_arrays c.args.state _ c.well_formed.0 in
     let some-held : 0 < held (tree_of c.args.state) = omega (arith, test.count yes, c.if-test-eq0.false) in
@@ -182,7 +182,7 @@ pub returns : goal.returns
 unfolding bytes
 returns c =
     let test = c.examine-test.ensures in
-    let yes = c.if-not-test.false in
+    let yes = not-false _ c.if-not-test.false in
     let t = sym test.sound ∙ yes in
     let ar = the_arrays c.args.state _ c.well_formed.0 in
     let some-held : 0 < held (tree_of c.args.state) = omega (arith, test.count yes, c.if-test-eq0.false) in

@@ -18,13 +18,13 @@ use Rattle.queue_state.specs.InnerQueues.{with_queues}
 use Rattle.queue_push.proofs.push.Goals as goal
 
 pub returns-then-not-test : goal.returns-then-not-test
-returns-then-not-test c = ill_served _ _ (sym c.examine-test.ensures.sound ∙ c.if-not-test.true)
+returns-then-not-test c = ill_served _ _ (sym c.examine-test.ensures.sound ∙ not-true _ c.if-not-test.true)
 
 pub slice_bounds-topology-end : goal.slice_bounds-topology-end
 unfolding bytes
 slice_bounds-topology-end c =
     let test = c.examine-test.ensures in
-    let yes = c.if-not-test.false in
+    let yes = not-false _ c.if-not-test.false in
     let t = sym test.sound ∙ yes in
     let ar = the_arrays c.args.state _ c.well_formed.0 in
     omega (arith, (formed _ t).nodes, ar.topology)
@@ -33,7 +33,7 @@ pub slice_bounds-bytes-end : goal.slice_bounds-bytes-end
 unfolding bytes
 slice_bounds-bytes-end c =
     let test = c.examine-test.ensures in
-    let yes = c.if-not-test.false in
+    let yes = not-false _ c.if-not-test.false in
     let t = sym test.sound ∙ yes in
     let ar = the_arrays c.args.state _ c.well_formed.0 in
     sym (length-take-le _ _ (omega (arith, (formed _ t).nodes, ar.topology)))
@@ -42,7 +42,7 @@ pub walk-added-requires : goal.walk-added-requires
 unfolding bytes
 walk-added-requires c =
     let test = c.examine-test.ensures in
-    let yes = c.if-not-test.false in
+    let yes = not-false _ c.if-not-test.false in
     let t = sym test.sound ∙ yes in
     (formed _ t).valid
 
@@ -50,7 +50,7 @@ pub returns-then-fault-ne0 : goal.returns-then-fault-ne0
 unfolding bytes
 returns-then-fault-ne0 c =
     let test = c.examine-test.ensures in
-    let yes = c.if-not-test.false in
+    let yes = not-false _ c.if-not-test.false in
     let t = sym test.sound ∙ yes in
     fault-served _ t _ _ _ _ c.if-fault-ne0.true c.walk-added.ensures.fault
 
@@ -58,7 +58,7 @@ pub returns-then-number-ne0 : goal.returns-then-number-ne0
 unfolding bytes
 returns-then-number-ne0 c =
     let test = c.examine-test.ensures in
-    let yes = c.if-not-test.false in
+    let yes = not-false _ c.if-not-test.false in
     let t = sym test.sound ∙ yes in
     let z = c.if-fault-ne0.false in
     let walked = c.walk-added.ensures in
@@ -67,7 +67,7 @@ returns-then-number-ne0 c =
 pub raised-raised-requires : goal.raised-raised-requires
 raised-raised-requires c =
     let test = c.examine-test.ensures in
-    let yes = c.if-not-test.false in
+    let yes = not-false _ c.if-not-test.false in
     let t = sym test.sound ∙ yes in
     let z = c.if-fault-ne0.false in
     let walked = c.walk-added.ensures in
@@ -77,7 +77,7 @@ pub overflow_sub-node : goal.overflow_sub-node
 unfolding bytes
 overflow_sub-node c =
     let test = c.examine-test.ensures in
-    let yes = c.if-not-test.false in
+    let yes = not-false _ c.if-not-test.false in
     let t = sym test.sound ∙ yes in
     let ar = the_arrays c.args.state _ c.well_formed.0 in
     let z = c.if-fault-ne0.false in
@@ -90,7 +90,7 @@ pub offset_bounds-lengths-node : goal.offset_bounds-lengths-node
 unfolding bytes
 offset_bounds-lengths-node c =
     let test = c.examine-test.ensures in
-    let yes = c.if-not-test.false in
+    let yes = not-false _ c.if-not-test.false in
     let t = sym test.sound ∙ yes in
     let ar = the_arrays c.args.state _ c.well_formed.0 in
     let z = c.if-fault-ne0.false in
@@ -103,7 +103,7 @@ pub bounds-lengths-node : goal.bounds-lengths-node
 unfolding bytes
 bounds-lengths-node c =
     let test = c.examine-test.ensures in
-    let yes = c.if-not-test.false in
+    let yes = not-false _ c.if-not-test.false in
     let t = sym test.sound ∙ yes in
     let ar = the_arrays c.args.state _ c.well_formed.0 in
     let z = c.if-fault-ne0.false in
@@ -116,7 +116,7 @@ pub overflow_sub-begin : goal.overflow_sub-begin
 unfolding bytes
 overflow_sub-begin c =
     let test = c.examine-test.ensures in
-    let yes = c.if-not-test.false in
+    let yes = not-false _ c.if-not-test.false in
     let t = sym test.sound ∙ yes in
     let ar = the_arrays c.args.state _ c.well_formed.0 in
     let z = c.if-fault-ne0.false in
@@ -129,7 +129,7 @@ pub loop-left-init : goal.loop-left-init
 unfolding bytes
 loop-left-init c =
     let test = c.examine-test.ensures in
-    let yes = c.if-not-test.false in
+    let yes = not-false _ c.if-not-test.false in
     let t = sym test.sound ∙ yes in
     let ar = the_arrays c.args.state _ c.well_formed.0 in
     let z = c.if-fault-ne0.false in
@@ -222,7 +222,7 @@ pub overflow_add-result : goal.overflow_add-result
 unfolding bytes
 overflow_add-result c =
     let test = c.examine-test.ensures in
-    let yes = c.if-not-test.false in
+    let yes = not-false _ c.if-not-test.false in
     let t = sym test.sound ∙ yes in
     omega (arith, test.count yes, (formed _ t).room, (formed _ t).most)
 
@@ -230,7 +230,7 @@ pub overflow_cast-result : goal.overflow_cast-result
 unfolding bytes
 overflow_cast-result c =
     let test = c.examine-test.ensures in
-    let yes = c.if-not-test.false in
+    let yes = not-false _ c.if-not-test.false in
     let t = sym test.sound ∙ yes in
     omega (arith, test.count yes, (formed _ t).room, (formed _ t).most)
 
@@ -238,7 +238,7 @@ pub returns : goal.returns
 unfolding bytes
 returns c =
     let test = c.examine-test.ensures in
-    let yes = c.if-not-test.false in
+    let yes = not-false _ c.if-not-test.false in
     let t = sym test.sound ∙ yes in
     let ar = the_arrays c.args.state _ c.well_formed.0 in
     let z = c.if-fault-ne0.false in

@@ -34,13 +34,13 @@ pub returns-then-not-plan : goal.returns-then-not-plan
 unfolding bytes tree
 returns-then-not-plan c =
     leaf_late _ _ c.are_sound.ensures c.if-not-are_sound.false _ _ _ _ _ c.is_leaf.ensures c.if-not-is_leaf.false _
-    c.plan_to-plan.ensures _ _ c.push-served.ensures _ (ap answer_of c.in-Accepted.is) c.if-not-plan.true
+    c.plan_to-plan.ensures _ _ c.push-served.ensures _ (ap answer_of c.in-Accepted.is) (not-true _ c.if-not-plan.true)
 
 pub returns-else-not-plan : goal.returns-else-not-plan
 unfolding bytes tree
 returns-else-not-plan c =
     leaf-taken _ _ c.are_sound.ensures c.if-not-are_sound.false _ _ _ _ _ c.is_leaf.ensures c.if-not-is_leaf.false _
-    c.plan_to-plan.ensures _ _ c.push-served.ensures _ (ap answer_of c.in-Accepted.is) c.if-not-plan.false _ refl
+    c.plan_to-plan.ensures _ _ c.push-served.ensures _ (ap answer_of c.in-Accepted.is) (not-false _ c.if-not-plan.false) _ refl
 
 pub returns-in_default : goal.returns-in_default
 unfolding bytes tree
