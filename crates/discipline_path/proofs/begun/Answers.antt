@@ -1,3 +1,4 @@
+use mathlib.Core.List.{[]}
 -- `begun` meets its contract.
 use mathlib.Core.Path.{ap}
 use mathlib.Core.Bool.{true}

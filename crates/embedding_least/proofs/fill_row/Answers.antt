@@ -30,7 +30,7 @@ loop-i-init c =
     let copy-row = c.copy_row in
     let args = c.args in
     let pre = c.requires in
-    try_start args.best.now args.kids.now args.ends.now args.children copy-row.new.0 args.p _
+    try_start args.best.now args.kids.now args.ends.now args.children c.copy_row.new.go args.p _
     pre.2 _ copy-row.ensures
 
 pub offset_bounds-kids-i : goal.offset_bounds-kids-i
@@ -92,7 +92,7 @@ loop-i-preserved c =
     let copy-row = c.copy_row in
     let args = c.args in
     let pre = c.requires in
-    try_next args.best.now args.kids.now args.ends.now args.children copy-row.new.0 args.p _ pre.2
+    try_next args.best.now args.kids.now args.ends.now args.children c.copy_row.new.go args.p _ pre.2
     _ _ _ _ loop.invariant loop-test.true _ try-at.ensures
 
 pub shape_of-go : goal.shape_of-go
@@ -107,5 +107,5 @@ returns c =
     let copy-row = c.copy_row in
     let args = c.args in
     let pre = c.requires in
-    try_end args.best.now args.kids.now args.ends.now args.children copy-row.new.0 args.p _ pre.2
+    try_end args.best.now args.kids.now args.ends.now args.children c.copy_row.new.go args.p _ pre.2
     _ copy-row.ensures _ _ _ _ loop.invariant c.loop-i-test.false
