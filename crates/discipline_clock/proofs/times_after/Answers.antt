@@ -23,10 +23,10 @@ loop-n-preserved c =
     let node : c.loop-n.n < length args.times = omega arith in
     ⊎_elim
     (λ w. w.3
-    ∙ times-weighted args.t1 (rank_in args.way) _ args.bytes.now args.images.now args.times _ byte image node c.loop-n.invariant _
+    ∙ times-weighted args.rules (rank_in args.way) _ args.bytes.now args.images.now args.times _ byte image node c.loop-n.invariant _
     c.acting.ensures _ w.0.taken w.2.ensures)
     (λ w. w.1
-    ∙ times-plain args.t1 (rank_in args.way) _ args.bytes.now args.images.now args.times _ byte image node c.loop-n.invariant _
+    ∙ times-plain args.rules (rank_in args.way) _ args.bytes.now args.images.now args.times _ byte image node c.loop-n.invariant _
     c.acting.ensures w.0.left)
     c.if-acting-eq-WEIGHTED.branch
 

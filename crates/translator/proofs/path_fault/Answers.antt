@@ -6,8 +6,8 @@ use Rattle.base.proofs.Map.{length-map}
 use Rattle.translator.proofs.Standing.{standing_start, standing_few, standing_in, standing_lost, standing_next, standing_above, standing_leaf}
 use Rattle.translator.proofs.path_fault.Goals as goal
 
-places : (c : tie.Start invariant-loop decreases-loop) → length c.args.t2.steps ≡ 9
-places c = sym (length-map _ c.args.t2.steps) ∙ c.well-formed.1.0.1.1.0.1.0.1
+places : (c : tie.Start invariant-loop decreases-loop) → length c.args.path.steps ≡ 9
+places c = sym (length-map _ c.args.path.steps) ∙ c.well-formed.1.0.1.1.0.1.0.1
 
 pub loop-i-init : goal.loop-i-init
 loop-i-init c = standing_start _ c.requires _

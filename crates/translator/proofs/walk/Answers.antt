@@ -6,15 +6,15 @@ use Rattle.base.proofs.Map.{length-map}
 use Rattle.translator.proofs.WalkLoop.{walking_listed, walking_first, walking_none, walking_start, walking_few, walking_lost, walking_child, walking_over, walking_next, walking_end}
 use Rattle.translator.proofs.walk.Goals as goal
 
-places : (c : tie.Start invariant-loop decreases-loop) → length c.args.t4.steps ≡ 9
-places c = sym (length-map _ c.args.t4.steps) ∙ c.well-formed.1.1.1.0.1.1.0.1.0.1
+places : (c : tie.Start invariant-loop decreases-loop) → length c.args.path.steps ≡ 9
+places c = sym (length-map _ c.args.path.steps) ∙ c.well-formed.1.1.1.0.1.1.0.1.0.1
 
 -- the state at the function's start, from that in the loop
 abbrev start : tie.At-loop invariant-loop decreases-loop → tie.Start invariant-loop decreases-loop
 start at = at.before.before.before.before.before.before.before
 
 pub bounds-map-next_kept : goal.bounds-map-next_kept
-bounds-map-next_kept c = walking_listed _ _ _ c.requires.0 c.args.t4 _ c.next_kept.ensures
+bounds-map-next_kept c = walking_listed _ _ _ c.requires.0 c.args.path _ c.next_kept.ensures
 
 pub overflow_cast-from : goal.overflow_cast-from
 overflow_cast-from c = omega (arith, c.shared_slice_known-4-1.given c.next_kept.result)
@@ -22,7 +22,7 @@ overflow_cast-from c = omega (arith, c.shared_slice_known-4-1.given c.next_kept.
 pub descend-carried-requires : goal.descend-carried-requires
 descend-carried-requires c =
     let kept = c.next_kept in
-    (walking_first _ _ _ c.requires.0 c.args.t4 _ kept.ensures, refl, walking_none _ _ _ c.requires.0 c.args.t4 _ kept.ensures)
+    (walking_first _ _ _ c.requires.0 c.args.path _ kept.ensures, refl, walking_none _ _ _ c.requires.0 c.args.path _ kept.ensures)
 
 pub loop-i-init : goal.loop-i-init
 loop-i-init c = walking_start _ _ _ c.requires.0 _ _ c.next_kept.ensures _ c.descend-carried.ensures
