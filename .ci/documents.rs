@@ -92,13 +92,14 @@ fn check_document(document: &Path, faults: &mut Vec<String>) {
 }
 
 /// Whether a code span is a path of the repository: it has a `/` and no blank, and begins with a crate or with a folder of the repository, but not with
-/// target/. What goes on like a crate's path is one too, so that a crate that is not there is noticed.
+/// target/, and is not of a folder out/, which is built too. What goes on like a crate's path is one too, so that a crate that is not there is noticed.
 fn is_path(span: &str) -> bool {
     let parts: Vec<&str> = span.split('/').collect();
     let in_crate = ["src", "specs", "proofs", "must-fail"];
     parts.len() > 1
         && !span.contains(char::is_whitespace)
         && !["", "..", "target"].contains(&parts[0])
+        && !parts.contains(&"out")
         && (Path::new(parts[0]).is_dir()
             || Path::new("crates").join(parts[0]).is_dir()
             || in_crate.contains(&parts[1]))
