@@ -31,8 +31,8 @@ loop-node-preserved c =
       search rules,
       λ e. rules_next (tree args.bytes.now) args.rules c.loop-node.node
           (elim c.if-kind-eq-WEIGHTED.branch [
-            then-kind-eq-WEIGHTED+else-not-can_share w ↦ sym (w.can_share.ensures e) ∙ w.if-not-can_share.false
-          | else-kind-eq-WEIGHTED w ↦ sound-plain _ args.rules _ c.if-kind-gt-WEIGHTED.false w.if-kind-eq-WEIGHTED.false
+            | then-kind-eq-WEIGHTED+else-not-can_share w ↦ sym (w.can_share.ensures e) ∙ w.if-not-can_share.false
+            | else-kind-eq-WEIGHTED w ↦ sound-plain _ args.rules _ c.if-kind-gt-WEIGHTED.false w.if-kind-eq-WEIGHTED.false
           ])
           (c.loop-node.invariant.1 e),
     )

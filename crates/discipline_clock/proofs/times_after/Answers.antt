@@ -22,12 +22,12 @@ loop-n-preserved c =
     let image : c.loop-n.n < length args.images.now = omega arith in
     let node : c.loop-n.n < length args.times = omega arith in
     elim c.if-acting-eq-WEIGHTED.branch [
-      then-acting-eq-WEIGHTED w ↦ w.after-is
-      ∙ times-weighted args.rules (rank_in args.way) _ args.bytes.now args.images.now args.times _ byte image node c.loop-n.invariant _
-      c.acting.ensures _ w.if-acting-eq-WEIGHTED.true w.last_rank.ensures
-    | else-acting-eq-WEIGHTED w ↦ w.after-is
-      ∙ times-plain args.rules (rank_in args.way) _ args.bytes.now args.images.now args.times _ byte image node c.loop-n.invariant _
-      c.acting.ensures w.if-acting-eq-WEIGHTED.false
+      | then-acting-eq-WEIGHTED w ↦ w.after-is
+          ∙ times-weighted args.rules (rank_in args.way) _ args.bytes.now args.images.now args.times _ byte image node c.loop-n.invariant _
+          c.acting.ensures _ w.if-acting-eq-WEIGHTED.true w.last_rank.ensures
+      | else-acting-eq-WEIGHTED w ↦ w.after-is
+          ∙ times-plain args.rules (rank_in args.way) _ args.bytes.now args.images.now args.times _ byte image node c.loop-n.invariant _
+          c.acting.ensures w.if-acting-eq-WEIGHTED.false
     ]
 
 pub returns : goal.returns

@@ -33,13 +33,12 @@ bounds-map-next_kept-in-loop-i c =
     c.in-Node.is _ c.next_kept-in-loop-i.ensures
 
 pub descend-carried-requires-in-loop-i : goal.descend-carried-requires-in-loop-i
-descend-carried-requires-in-loop-i c =
-    (
-      walking_over _ _ _ c.requires.0 _ _ _ _ _ c.loop-i.invariant c.loop-i-test.true c.well_formed.1.1.1.0.1.1.0.1.0.1 _ c.child.ensures _
-          c.in-Node.is _ c.next_kept-in-loop-i.ensures,
-      c.loop-i.invariant.plain,
-      c.loop-i.invariant.below,
-    )
+descend-carried-requires-in-loop-i c = (
+  walking_over _ _ _ c.requires.0 _ _ _ _ _ c.loop-i.invariant c.loop-i-test.true c.well_formed.1.1.1.0.1.1.0.1.0.1 _ c.child.ensures _
+      c.in-Node.is _ c.next_kept-in-loop-i.ensures,
+  c.loop-i.invariant.plain,
+  c.loop-i.invariant.below,
+)
 
 pub overflow_add-i : goal.overflow_add-i
 overflow_add-i c =
