@@ -50,4 +50,4 @@ pub returns-in_default : goal.returns-in_default
 unfolding bytes
 returns-in_default c =
     leaf_rest _ _ _ _ c.first_fault-number.ensures c.if-number-ne0.false _ _ _ _ _ c.is_leaf.ensures c.if-not-is_leaf.false _ c.plan_to-plan.ensures _ c.carry-carried.ensures c.if-refusal-ne0.false
-    _ _ c.push-served.ensures (others_apart c.push-served.result.answer c.in_default-own.keys2)
+    _ _ c.push-served.ensures (others_apart c.push-served.result.answer c.in_default.not-Accepted)

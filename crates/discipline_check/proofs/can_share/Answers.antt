@@ -26,13 +26,12 @@ returns-then-rules-child-eq0 c = λ e.
     c.if-rules-child-eq0.true
 
 pub loop-i-preserved : goal.loop-i-preserved
-loop-i-preserved c =
-    (
-      search rules,
-      c.branch_end-child.ensures ∙ ap (branch_end _) c.loop-i.invariant.1 ∙ rw add-one,
-      λ e. share_next _ e c.args.rules _ c.requires.0 c.requires.1 _ c.wide-children.ensures.0 _ c.loop-i-test.true _
-          c.loop-i.invariant.1 c.if-rules-child-eq0.false (c.loop-i.invariant.2 e),
-    )
+loop-i-preserved c = (
+  search rules,
+  c.branch_end-child.ensures ∙ ap (branch_end _) c.loop-i.invariant.1 ∙ rw add-one,
+  λ e. share_next _ e c.args.rules _ c.requires.0 c.requires.1 _ c.wide-children.ensures.0 _ c.loop-i-test.true _
+      c.loop-i.invariant.1 c.if-rules-child-eq0.false (c.loop-i.invariant.2 e),
+)
 
 pub returns : goal.returns
 returns c = λ e.

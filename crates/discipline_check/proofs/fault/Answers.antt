@@ -1,13 +1,12 @@
 use borrow.Author.Rules.{rules}
 use mathlib.Core.Path.{refl, sym, ◌∙◌}
-use mathlib.Core.Logic.{⊎_elim}
 use mathlib.Core.Bool.{true}
 use Prim.Native.Nat.{◌-◌}
-use borrow.Author.Tests.{not-true, not-false}
 use Rattle.topology.specs.Reader.{tree}
 use Rattle.discipline_check.proofs.RuleFault.{not_longer, sound_not, sound-plain, rules_next, rules_refused, rules_pass}
 use borrow.Author.Rules.{rules}
 use Rattle.discipline_check.proofs.fault.Goals as goal
+use Rattle.discipline_check.proofs.fault.Goals.{then-kind-eq-WEIGHTED+else-not-can_share, else-kind-eq-WEIGHTED}
 
 pub returns-then-bytes-gt-TARGET_NODES : goal.returns-then-bytes-gt-TARGET_NODES
 returns-then-bytes-gt-TARGET_NODES c = λ e. absurd (not_longer _ e c.if-bytes-gt-TARGET_NODES.true)
@@ -31,10 +30,10 @@ loop-node-preserved c =
     let args = c.args in (
       search rules,
       λ e. rules_next (tree args.bytes.now) args.rules c.loop-node.node
-          (⊎_elim
-          (λ w. sym (w.1.ensures e) ∙ not-false _ w.2.left)
-          (λ w. sound-plain _ args.rules _ c.if-kind-gt-WEIGHTED.false w.left)
-          c.if-kind-eq-WEIGHTED.branch)
+          (elim c.if-kind-eq-WEIGHTED.branch [
+            | then-kind-eq-WEIGHTED+else-not-can_share w ↦ sym (w.can_share.ensures e) ∙ w.if-not-can_share.false
+            | else-kind-eq-WEIGHTED w ↦ sound-plain _ args.rules _ c.if-kind-gt-WEIGHTED.false w.if-kind-eq-WEIGHTED.false
+          ])
           (c.loop-node.invariant.1 e),
     )
 

@@ -32,7 +32,7 @@ pub keeps_order-requires : goal.keeps_order-requires
 keeps_order-requires c =
     record {
       long = c.requires.0;
-      at = sym c.are_nodes.ensures ∙ c.if-not-are_nodes.false;
+      nodes = sym c.are_nodes.ensures ∙ c.if-not-are_nodes.false;
       source_fits = c.requires.2;
       target_fits = c.requires.3;
     }

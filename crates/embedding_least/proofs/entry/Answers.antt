@@ -63,10 +63,10 @@ returns c =
     let place = c.place in
     let args = c.args in
     let fits : args.children ≡ 0 → args.width ≡ 0 =
-        elim c.if-children-eq0.branch [
-          then-children-eq0+else-width-ne0 w ↦ λ z. w.if-width-ne0.false
-        | else-children-eq0+else-end-t w ↦ λ z. absurd (w.if-children-eq0.false z)
-        ] in (
+    elim c.if-children-eq0.branch [
+      | then-children-eq0+else-width-ne0 w ↦ λ z. w.if-width-ne0.false
+      | else-children-eq0+else-end-t w ↦ λ z. absurd (w.if-children-eq0.false z)
+    ] in (
       entry-placed args.best.now args.kids.now args.ends.now _ _ _ fits _ _ place.ensures,
       record { places = place.ensures.places; bound = place.ensures.go_bound },
       place.ensures.scanned,

@@ -25,8 +25,8 @@ loop-i-preserved c =
     let few : c.loop-i.i < 32 = omega arith in (
       omega arith,
       elim c.if-bytes-i-ne1.branch [
-        then-bytes-i-ne1 w ↦ restrict-kept bytes list _ _ _ c.loop-i.invariant.1 there listed _ _ few w.if-bytes-i-ne1.true w.numbers-is w.count-is
-      | else-bytes-i-ne1 w ↦ restrict_passed bytes list _ _ _ c.loop-i.invariant.1 there listed _ _ w.if-bytes-i-ne1.false w.numbers-is w.count-is
+        | then-bytes-i-ne1 w ↦ restrict-kept bytes list _ _ _ c.loop-i.invariant.1 there listed _ _ few w.if-bytes-i-ne1.true w.numbers-is w.count-is
+        | else-bytes-i-ne1 w ↦ restrict_passed bytes list _ _ _ c.loop-i.invariant.1 there listed _ _ w.if-bytes-i-ne1.false w.numbers-is w.count-is
       ],
     )
 

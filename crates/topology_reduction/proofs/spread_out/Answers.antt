@@ -25,8 +25,8 @@ loop-i-preserved c =
     let left : c.loop-i.next < length images = omega (arith, c.loop-i.invariant.1.few) in (
       omega arith,
       elim c.if-bytes-i-eq1.branch [
-        then-bytes-i-eq1 w ↦ spread_out_passed bytes images _ _ _ c.loop-i.invariant.1 there left few _ _ w.if-bytes-i-eq1.true w.map-is w.next-is
-      | else-bytes-i-eq1 w ↦ spread_out_kept bytes images _ _ _ c.loop-i.invariant.1 there left few _ _ w.if-bytes-i-eq1.false w.map-is w.next-is
+        | then-bytes-i-eq1 w ↦ spread_out_passed bytes images _ _ _ c.loop-i.invariant.1 there left few _ _ w.if-bytes-i-eq1.true w.map-is w.next-is
+        | else-bytes-i-eq1 w ↦ spread_out_kept bytes images _ _ _ c.loop-i.invariant.1 there left few _ _ w.if-bytes-i-eq1.false w.map-is w.next-is
       ],
     )
 

@@ -46,4 +46,4 @@ pub returns-in_default : goal.returns-in_default
 unfolding bytes tree
 returns-in_default c =
     leaf_rest _ _ c.are_sound.ensures c.if-not-are_sound.false _ _ _ _ _ c.is_leaf.ensures c.if-not-is_leaf.false _
-    c.plan_to-plan.ensures _ _ c.push-served.ensures (others_apart c.push-served.result.answer c.in_default-own.keys2)
+    c.plan_to-plan.ensures _ _ c.push-served.ensures (others_apart c.push-served.result.answer c.in_default.not-Accepted)

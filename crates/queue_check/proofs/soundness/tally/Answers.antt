@@ -33,8 +33,8 @@ loop-start-init c =
     let v = valid_length 64 _ c.requires in
     let e = ap (λ (k : ℕ). c.loop-node.start + k) c.wide16.ensures.0 in
     elim c.if-start-end.branch [
-      then-start-end w ↦ enter_some _ _ _ _ _ _ _ p c.loop-node-test.true (search rules) v e c.if-end-gt2304.false w.if-start-end.true _ w.heads-is
-    | else-start-end w ↦ enter_none _ _ _ _ _ _ _ p c.loop-node-test.true (search rules) v e c.if-end-gt2304.false w.if-start-end.false _ w.heads-is
+      | then-start-end w ↦ enter_some _ _ _ _ _ _ _ p c.loop-node-test.true (search rules) v e c.if-end-gt2304.false w.if-start-end.true _ w.heads-is
+      | else-start-end w ↦ enter_none _ _ _ _ _ _ _ p c.loop-node-test.true (search rules) v e c.if-end-gt2304.false w.if-start-end.false _ w.heads-is
     ]
 
 pub place-at-requires : goal.place-at-requires

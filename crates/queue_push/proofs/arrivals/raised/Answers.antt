@@ -25,8 +25,8 @@ pub loop-node-preserved : goal.loop-node-preserved
 loop-node-preserved c =
     rw add-one
     (elim c.if-pending-node-ne0.branch [
-      then-pending-node-ne0 w ↦ marked _ _ _ _ _ c.loop-node.invariant c.loop-node-test.true c.requires.0 _ c.requires.2 w.if-pending-node-ne0.true w.after-is
-    | else-pending-node-ne0 w ↦ unmarked _ _ _ _ _ c.loop-node.invariant c.loop-node-test.true c.requires.0 _ w.if-pending-node-ne0.false w.after-is
+      | then-pending-node-ne0 w ↦ marked _ _ _ _ _ c.loop-node.invariant c.loop-node-test.true c.requires.0 _ c.requires.2 w.if-pending-node-ne0.true w.after-is
+      | else-pending-node-ne0 w ↦ unmarked _ _ _ _ _ c.loop-node.invariant c.loop-node-test.true c.requires.0 _ w.if-pending-node-ne0.false w.after-is
     ])
 
 pub returns : goal.returns

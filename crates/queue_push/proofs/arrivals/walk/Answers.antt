@@ -8,9 +8,6 @@ use Rattle.queue_push.proofs.arrivals.walk.Goals as goal
 pub loop-i-init : goal.loop-i-init
 loop-i-init c = set_out _ c.requires _ _ _ refl
 
-pub overflow_cast-step : goal.overflow_cast-step
-overflow_cast-step c = omega (arith, c.struct_known-1.given)
-
 pub returns-in_default : goal.returns-in_default
 returns-in_default c =
     no_child _ c.requires _ _ _ _ _ _ c.loop-i.invariant c.loop-i-test.true c.well_formed.1.0.1.1.0.1.0.1 _ c.child.ensures c.in_default.is
