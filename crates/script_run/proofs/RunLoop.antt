@@ -1,7 +1,7 @@
 -- The invariant of the loop of `run`: the text written so far; while the script runs, what the code has, and that the text of the remaining reads
 -- completes the output; once it stops, the text is the output. `turn` is one batch.
 use mathlib.Core.Path.{◌≡◌, refl, sym, ap, ◌∙◌}
-use Prim.Native.Nat.{ℕ, zero, suc, ◌+◌, ◌≤◌, ◌<◌}
+use Prim.Native.Nat.{ℕ, zero, suc, ◌+◌, ◌-◌, ◌≤◌, ◌<◌}
 use native.Mathlib.Omega.{arith}
 use mathlib.Core.List.{List, [], ◌∷◌, ◌++◌, append_assoc, append-nil}
 use mathlib.Core.Bool.{Bool, true, false, cond}
@@ -15,7 +15,7 @@ use Rattle.script_commands.specs.declared.Read.TheVariants.{End, Next, Refused}
 use Rattle.script_commands.specs.declared.Slot.{Slot}
 use Rattle.script_commands.specs.Reading.{read_at, next_at, reads_by, reads}
 use Rattle.script_commands.specs.Batches.{first_reads, after, reads_of}
-use Rattle.script_commands.proofs.ReadsFrom.{reads_by_lem}
+use Rattle.script_commands.proofs.ReadsFrom.{reads_by_lem, to_come, fewer}
 use Rattle.script_commands.proofs.Batches.{commands_further}
 use Rattle.script_setup.specs.declared.Gathered.{Gathered}
 use Rattle.script_setup.specs.Gathering.{gather_reads, Gathers}
@@ -69,7 +69,7 @@ module _ (script : List ℕ) where
 
     pub begins : (g : Gathered) (at : ℕ) → Gathers (gather_reads (reads script 0) [] [] none) g
         → reads script at ≡ (gather_reads (reads script 0) [] [] none).left → (p : Progress) (out : List ℕ) → Comes (start_text g) before 0 p out
-        → Inv (suc (length script)) at p out
+        → Inv (length script - at + 1) at p out
     begins g at w l p out c =
         record {
           text = c.text;
@@ -105,3 +105,16 @@ module _ (script : List ℕ) where
             (omega (arith, f, h), omega (arith, f, h));
       },
     )
+
+    -- the invariant at the number of reads to come, after one batch
+    pub turn_on : (at : ℕ) (p : Progress) (out : List ℕ) → p.printed.going ≡ true → Inv (length script - at + 1) at p out → (slots : List Slot)
+        → reads_of slots ≡ first_reads 256 script at → (p' : Progress) (out' : List ℕ) → Comes (batch_text (reads_of slots) p) out p.printed.end p' out'
+        → (p'.printed.going ≡ true → AllCommands (reads_of slots)) → (at' : ℕ) → at' ≡ after 256 script at
+        → Inv (length script - at' + 1) at' p' out' × (to_come script at' p'.printed.going < to_come script at p.printed.going)
+    turn_on at p out go i slots e p' out' c all at' f =
+        let t = turn (length script - at + 1) at p out go i slots e p' out' c all in
+        let j : Inv t.0 at' p' out' = rw f t.2 in
+        (at_gap at' p' out' t.0 j, rw go (fewer script at at' t.0 p'.printed.going t.1 j.enough))
+      where
+        at_gap : (at' : ℕ) (p' : Progress) (out' : List ℕ) (n : ℕ) → Inv n at' p' out' → Inv (length script - at' + 1) at' p' out'
+        at_gap at' p' out' n j = record { text = j.text; puts = j.puts; ready = j.ready; rest = j.rest; enough = λ h. (omega arith, omega arith) }

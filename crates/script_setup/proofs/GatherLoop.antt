@@ -15,7 +15,7 @@ use Rattle.script_commands.specs.declared.Read.{Read}
 use Rattle.script_commands.specs.declared.Read.TheVariants.{End, Next, Refused}
 use Rattle.script_commands.specs.Reading.{read_at, next_at, reads_by, reads}
 use Rattle.script_commands.proofs.ReadAt.{further, next-is}
-use Rattle.script_commands.proofs.ReadsFrom.{reads_by_lem}
+use Rattle.script_commands.proofs.ReadsFrom.{reads_by_lem, to_come, fewer}
 use Rattle.script_setup.specs.declared.Ending.{Ending}
 use Rattle.script_setup.specs.declared.Ending.TheVariants.{End as AtEnd, Refused as AtRefusal, Compile as AtCompile}
 use Rattle.script_setup.specs.declared.Drawing.{Drawing}
@@ -95,19 +95,14 @@ module _ (script : List ℕ) (total : Given) where
       (ap (λ (l : List Read). gather_reads l h.source h.target h.limit) (sym (reads_by_lem script at)) ∙ h.rest) in
       (m, omega arith, rw (e', e) next)
 
--- How many reads may be to come, which falls at each turn of the loop: one for each byte from the reader's offset on and one for the script's end, or
--- none once the loop stops.
-abbrev pub to_come : List ℕ → ℕ → Bool → ℕ
-to_come script at going = cond going (length script - at + 1) 0
-
--- the invariant at that number of reads, after one command
+-- the invariant at the number of reads to come, after one command
 pub turn_on : (script : List ℕ) (total : Given) (at : ℕ) (g : Gathering) → g.going ≡ true → Inv script total (length script - at + 1) at g → (r : Read)
     → r ≡ read_at script at → (g' : Gathering) → g' ≡ added g.gathered.drawing r → (at' : ℕ) → at' ≡ next_at script at
     → Inv script total (length script - at' + 1) at' g' × (to_come script at' g'.going < to_come script at g.going)
 turn_on script total at g go i r e g' e' at' f =
     let t = turn script total (length script - at + 1) at g go i r e g' e' in
     let j : Inv script total t.0 at' g' = rw f t.2 in
-    (at_gap at' g' t.0 j, rw go (nearer at' g'.going t.0 t.1 (λ h. ((j.goes h).enough, (j.goes h).some))))
+    (at_gap at' g' t.0 j, rw go (fewer script at at' t.0 g'.going t.1 (λ h. ((j.goes h).enough, (j.goes h).some))))
   where
     at_gap : (at' : ℕ) (g' : Gathering) (n : ℕ) → Inv script total n at' g' → Inv script total (length script - at' + 1) at' g'
     at_gap at' g' n j =
@@ -117,10 +112,6 @@ turn_on script total at g go i r e g' e' at' f =
               record { source = k.source; target = k.target; limit = k.limit; draws = k.draws; rest = k.rest; enough = omega arith; some = omega arith };
           over = j.over;
         }
-
-    nearer : (at' : ℕ) (b : Bool) (n : ℕ) → n < length script - at + 1 → (b ≡ true → (length script < at' + n) × (0 < n)) → to_come script at' b < length script - at + 1
-    nearer at' true n h k = let z = k refl in omega (arith, z.0, z.1)
-    nearer at' false n h k = omega arith
 
 pub begins : (script : List ℕ) (at : ℕ) (g : Gathering) → Undrawn g.gathered.drawing × (g.going ≡ true)
     → Inv script (gather_reads (reads script at) [] [] none) (length script - at + 1) at g

@@ -1,7 +1,6 @@
 use mathlib.Core.Path.{refl, sym, ◌∙◌}
-use mathlib.Core.Logic.{⊎_elim, inl, inr}
+use mathlib.Core.Logic.{inl, inr}
 use Prim.Native.Nat.{◌-◌}
-use borrow.Author.Tests.{ltb-true, ltb-false}
 use native.Mathlib.Omega.{arith}
 use lib.Seq.{length-take-le}
 use Rattle.queue_state.specs.Calls.{answer_of}
@@ -9,18 +8,19 @@ use Rattle.text.proofs.Written.{puts_length}
 use Rattle.script_run.proofs.ServeCases.{sent, unsent, push_turned, pop_turned}
 use Rattle.script_run.proofs.BatchLoop.{start, still, at-end, at_fault, stepped, replied_on, comes}
 use Rattle.script_run.proofs.serve.Goals as goal
+use Rattle.script_run.proofs.serve.Goals.{then-over-eq0, else-over-eq0}
 
 pub slice_bounds-source_bytes-end : goal.slice_bounds-source_bytes-end
-slice_bounds-source_bytes-end c = c.requires.0.fits.source-nodes
+slice_bounds-source_bytes-end c = c.requires.0.fits.source_nodes_lem
 
 pub slice_bounds-drawn_tree-end : goal.slice_bounds-drawn_tree-end
-slice_bounds-drawn_tree-end c = sym (length-take-le _ _ c.requires.0.fits.source-nodes)
+slice_bounds-drawn_tree-end c = sym (length-take-le _ _ c.requires.0.fits.source_nodes_lem)
 
 pub slice_bounds-target_bytes-end : goal.slice_bounds-target_bytes-end
-slice_bounds-target_bytes-end c = c.requires.0.fits.target-nodes
+slice_bounds-target_bytes-end c = c.requires.0.fits.target_nodes_lem
 
 pub slice_bounds-chip_tree-end : goal.slice_bounds-chip_tree-end
-slice_bounds-chip_tree-end c = sym (length-take-le _ _ c.requires.0.fits.target-nodes)
+slice_bounds-chip_tree-end c = sym (length-take-le _ _ c.requires.0.fits.target_nodes_lem)
 
 pub slice_bounds-map-end : goal.slice_bounds-map-end
 slice_bounds-map-end c = c.requires.0.images
@@ -32,16 +32,16 @@ pub loop-going-init : goal.loop-going-init
 loop-going-init c = (start _ _ _ _ _ _ _ _ _ c.requires.0.served c.requires.1, c.requires.2)
 
 pub offset_bounds-slots-i : goal.offset_bounds-slots-i
-offset_bounds-slots-i c = omega (arith, ltb-true c.loop-going.i 256 c.if-i-lt256.true)
+offset_bounds-slots-i c = omega arith
 
 pub bounds-slots-i : goal.bounds-slots-i
-bounds-slots-i c = omega (arith, ltb-true c.loop-going.i 256 c.if-i-lt256.true)
+bounds-slots-i c = omega arith
 
 pub overflow_add-i : goal.overflow_add-i
-overflow_add-i c = omega (arith, ltb-true c.loop-going.i 256 c.if-i-lt256.true)
+overflow_add-i c = omega arith
 
 pub loop-going-smaller-in-End : goal.loop-going-smaller-in-End
-loop-going-smaller-in-End c = omega (arith, ltb-true c.loop-going.i 256 c.if-i-lt256.true)
+loop-going-smaller-in-End c = omega arith
 
 pub loop-going-preserved-in-End : goal.loop-going-preserved-in-End
 loop-going-preserved-in-End c =
@@ -49,7 +49,7 @@ loop-going-preserved-in-End c =
     (at-end _ _ _ _ _ _ _ _ _ _ _ _ _ _ _ c.if-i-lt256.true c.loop-going.invariant.1 g (sym c.call_read.ensures ∙ c.in-End.is), c.loop-going.invariant.1)
 
 pub loop-going-smaller-in-Refused : goal.loop-going-smaller-in-Refused
-loop-going-smaller-in-Refused c = omega (arith, ltb-true c.loop-going.i 256 c.if-i-lt256.true)
+loop-going-smaller-in-Refused c = omega arith
 
 pub loop-going-preserved-in-Refused : goal.loop-going-preserved-in-Refused
 loop-going-preserved-in-Refused c =
@@ -57,7 +57,7 @@ loop-going-preserved-in-Refused c =
     (at_fault _ _ _ _ _ _ _ _ _ _ _ _ _ _ _ c.if-i-lt256.true c.loop-going.invariant.1 g _ _ _ _ (sym c.call_read.ensures ∙ c.in-Refused.is) c.put_no-end.ensures, c.loop-going.invariant.1)
 
 pub loop-going-smaller-in-Step : goal.loop-going-smaller-in-Step
-loop-going-smaller-in-Step c = omega (arith, ltb-true c.loop-going.i 256 c.if-i-lt256.true)
+loop-going-smaller-in-Step c = omega arith
 
 pub loop-going-preserved-in-Step : goal.loop-going-preserved-in-Step
 loop-going-preserved-in-Step c =
@@ -65,22 +65,22 @@ loop-going-preserved-in-Step c =
     (rw c.extended-path.ensures (stepped _ _ _ _ _ _ _ _ _ _ _ _ _ _ _ c.if-i-lt256.true c.loop-going.invariant.1 g _ _ _ _ (sym c.call_read.ensures ∙ c.in-Call.is) c.in-Step.is _ c.loop-going-test.true), c.loop-going.invariant.1)
 
 pub loop-going-smaller-in-Push : goal.loop-going-smaller-in-Push
-loop-going-smaller-in-Push c = omega (arith, ltb-true c.loop-going.i 256 c.if-i-lt256.true)
+loop-going-smaller-in-Push c = omega arith
 
 pub loop-going-preserved-in-Push : goal.loop-going-preserved-in-Push
 loop-going-preserved-in-Push c =
     let g = still _ _ _ _ _ _ _ _ _ _ _ _ _ _ _ c.loop-going-test.true c.loop-going.invariant.0 in
     let answered =
     push_turned _ _ _ _ _ _ (g.served refl) _ _ _ c.ended-whole.ensures _ (answer_of c.if-over-eq0.answer) _ c.if-over-eq0.chip c.push-drawn.ensures
-    (⊎_elim
-    (λ x. sent _ _ _ _ _ _ _ c.carry-over.ensures c.if-over-eq0.answer c.if-over-eq0.chip _ _ x.0.taken x.1.ensures x.3 x.4)
-    (λ x. unsent _ _ _ _ _ _ _ c.carry-over.ensures c.if-over-eq0.answer c.if-over-eq0.chip (g.served refl).in_step.mapped x.0.left x.1 x.2)
-    c.if-over-eq0.branch)
+    (elim c.if-over-eq0.branch [
+    then-over-eq0 w ↦ sent _ _ _ _ _ _ _ c.carry-over.ensures c.if-over-eq0.answer c.if-over-eq0.chip _ _ w.if-over-eq0.true w.push-sent.ensures w.chip-is w.answer-is
+    | else-over-eq0 w ↦ unsent _ _ _ _ _ _ _ c.carry-over.ensures c.if-over-eq0.answer c.if-over-eq0.chip (g.served refl).in_step.mapped w.if-over-eq0.false w.chip-is w.answer-is
+    ])
     c.no_steps-path.result c.no_steps-path.ensures in
     (replied_on _ _ _ _ _ _ _ _ _ _ _ _ _ _ _ c.if-i-lt256.true c.loop-going.invariant.1 g _ _ _ (sym c.call_read.ensures ∙ c.in-Call.is) c.in-Push.is _ _ _ _ answered _ _ _ c.stops-going.ensures c.put_reply-end.ensures, c.loop-going.invariant.1)
 
 pub loop-going-smaller : goal.loop-going-smaller
-loop-going-smaller c = omega (arith, ltb-true c.loop-going.i 256 c.if-i-lt256.true)
+loop-going-smaller c = omega arith
 
 pub loop-going-preserved : goal.loop-going-preserved
 loop-going-preserved c =
@@ -92,7 +92,7 @@ pub shape_of-out-else-i-lt256 : goal.shape_of-out-else-i-lt256
 shape_of-out-else-i-lt256 c = puts_length c.loop-going.invariant.0.puts
 
 pub returns-else-i-lt256 : goal.returns-else-i-lt256
-returns-else-i-lt256 c = comes _ c.requires.0 _ _ _ _ _ _ _ _ _ c.loop-going.invariant.0 (inr (omega (arith, ltb-false c.loop-going.i 256 c.if-i-lt256.false, c.loop-going.invariant.1)))
+returns-else-i-lt256 c = comes _ c.requires.0 _ _ _ _ _ _ _ _ _ c.loop-going.invariant.0 (inr (omega (arith, c.loop-going.invariant.1)))
 
 pub shape_of-out-after-loop-going : goal.shape_of-out-after-loop-going
 shape_of-out-after-loop-going c = puts_length c.loop-going.invariant.0.puts

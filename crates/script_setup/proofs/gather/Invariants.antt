@@ -5,8 +5,9 @@ use mathlib.Core.List.{[]}
 use mathlib.Core.Option.{none}
 use lib.ListN.{length}
 use Rattle.script_commands.specs.Reading.{reads}
+use Rattle.script_commands.proofs.ReadsFrom.{to_come}
 use Rattle.script_setup.specs.Gathering.{gather_reads}
-use Rattle.script_setup.proofs.GatherLoop.{Inv, to_come}
+use Rattle.script_setup.proofs.GatherLoop.{Inv}
 use Rattle.script_setup.proofs.gather.Given as goal
 
 abbrev pub invariant-loop-state : goal.invariant-loop-state
