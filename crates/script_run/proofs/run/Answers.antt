@@ -1,14 +1,7 @@
 -- The setup and 04 begin the invariant (`begins`), one batch is one turn of it (`turn_on`), and at the end the text written is the output (`over`).
-use mathlib.Core.Path.{refl, sym, ap, ◌∙◌}
-use mathlib.Core.List.{List}
-use Prim.Native.Nat.{ℕ}
-use denote.Ref.{Bor}
-use Rattle.script_run.proofs.BeforeCompile.{gathered-fits}
-use Rattle.script_run.proofs.RunLoop.{room, over, long, slots_long, begins, turn_on}
+use mathlib.Core.Path.{refl}
+use Rattle.script_run.proofs.RunLoop.{over, begins, turn_on}
 use Rattle.script_run.proofs.run.Goals as goal
-
-pub start-progress-requires : goal.start-progress-requires
-start-progress-requires c = gathered-fits _ _ c.gather-gathered.ensures.0
 
 pub loop-progress-init : goal.loop-progress-init
 loop-progress-init c =
@@ -18,11 +11,6 @@ loop-progress-init c =
       same = rw (setup.1, reader.0) refl;
       written = begins _ _ _ _ (rw (reader.0, reader.1) at setup.0) (rw (reader.0, reader.1) at setup.2) _ _ c.start-progress.ensures;
     }
-
-pub serve-progress-requires : goal.serve-progress-requires
-serve-progress-requires c =
-    let loop = c.loop-progress.invariant in
-    (loop.written.ready c.loop-progress-test.true, room _ _ _ _ _ _ loop.written, slots_long _ _ _ c.next_batch-batch.ensures.0)
 
 pub loop-progress-smaller : goal.loop-progress-smaller
 loop-progress-smaller c =
