@@ -61,6 +61,6 @@ module _ (S : Topo) (s : ℕ) (h : s < size S) (k : Kept S s) where
           ∙ ap (λ (m : ℕ). m + cond (upper (place (code S) n)) 1 0) r
           ∙ ap (λ (b : Bool). counted test n + cond b 1 0) (above_place n node kept))
 
-  pub kept_above : kept_above (code S) s ≡ address_depth (reduced S) (place (code S) s)
+  pub kept_above_lem : kept_above (code S) s ≡ address_depth (reduced S) (place (code S) s)
   unfolding kept_above depth
-  kept_above = sym (count_up s (omega arith)) ∙ depth_code (reduced S) (place (code S) s) (place_lt S s h)
+  kept_above_lem = sym (count_up s (omega arith)) ∙ depth_code (reduced S) (place (code S) s) (place_lt S s h)

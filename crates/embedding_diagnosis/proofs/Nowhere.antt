@@ -41,7 +41,7 @@ use Rattle.embedding_model.proofs.Passes.{top-place, embeds_passes, passes_reduc
 use Rattle.embedding_model.proofs.Search.{search-twelve, search_found, lone_loads, search-map}
 use Rattle.embedding_diagnosis.specs.Misfit.{is_kept, kept_above, may_go, fits_at, fits_nowhere, misfit, FitsNowhere, Misfit}
 use Rattle.embedding_diagnosis.proofs.Branches.{branch_map, branch_embeds, image-depth, branch-within}
-use Rattle.embedding_diagnosis.proofs.KeptAbove.{kept_above}
+use Rattle.embedding_diagnosis.proofs.KeptAbove.{kept_above_lem}
 
 -- ---- where a node may go
 
@@ -163,7 +163,7 @@ module _ (source target : List ℕ) (hs : fault 32 source ≡ 0) (ht : fault 64 
     p = place (code S) s
 
     above_is : kept_above source s ≡ address_depth R p
-    above_is = ap (λ (b : List ℕ). kept_above b s) (sym (drawn 32 source hs)) ∙ kept_above S s node kept
+    above_is = ap (λ (b : List ℕ). kept_above b s) (sym (drawn 32 source hs)) ∙ kept_above_lem S s node kept
 
     -- only the root has no node above it
     top_only : kept_above source s ≡ 0 → p ≡ 0

@@ -47,7 +47,7 @@ mutual
       let a = past_tree t (count ts + m) (m ∷ ms) (codes ts ++ bs) in
       let b = past_forest ts m ms bs in
       at_open (λ (d : ℕ) (ns : List ℕ). LeadAlike d ns ((code t ++ codes ts) ++ bs) m (pending m ms) bs) (count ts) m ms
-          (rw (append_assoc (code t) (codes ts) bs) (a.0 ∙ b.0, a.1 ∙ b.1))
+      (rw (append_assoc (code t) (codes ts) bs) (a.0 ∙ b.0, a.1 ∙ b.1))
 
 -- ---- the tree is complete
 

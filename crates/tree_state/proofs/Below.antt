@@ -66,8 +66,8 @@ pub refused-accepted : {n h : ℕ} → ◌≡◌ {A = Answer Packet} (refused n)
 refused-accepted e = clash (cc)
 
 -- an answer that is not `accepted`
-pub others_apart : (x : CodeAnswer) → OneOf (1 ∷ 2 ∷ 3 ∷ []) (tag_of Answer.the_type x) → (h : ℕ) → answer_of x ≡ accepted h → ⊥
-others_apart (Accepted k) o h e = miss (1 ∷ 2 ∷ 3 ∷ []) 0 tt o
+pub others_apart : (x : CodeAnswer) → ((k : ℕ) → x ≡ Accepted k → ⊥) → (h : ℕ) → answer_of x ≡ accepted h → ⊥
+others_apart (Accepted k) o h e = absurd (o k refl)
 others_apart (Departed p) o h e = clash (cc)
 others_apart (Refused n) o h e = refused-accepted e
 others_apart (Full n k) o h e = clash (cc)

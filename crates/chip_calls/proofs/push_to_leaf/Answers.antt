@@ -26,28 +26,28 @@ unfolding bytes
 returns-then-not-is_leaf c =
     rw c.refused.ensures
     (not_a_leaf _ _ _ _ c.first_fault-number.ensures c.if-number-ne0.false _ _ _ _ _ c.is_leaf.ensures
-    (not-true _ c.if-not-is_leaf.true) _ c.map_fault-fault.ensures)
+    c.if-not-is_leaf.true _ c.map_fault-fault.ensures)
 
 pub returns-then-refusal-ne0 : goal.returns-then-refusal-ne0
 unfolding bytes
 returns-then-refusal-ne0 c =
     rw c.refused-then-refusal-ne0.ensures
-    (leaf-refused _ _ _ _ c.first_fault-number.ensures c.if-number-ne0.false _ _ _ _ _ c.is_leaf.ensures (not-false _ c.if-not-is_leaf.false) _ c.plan_to-plan.ensures _ c.carry-carried.ensures c.if-refusal-ne0.true)
+    (leaf-refused _ _ _ _ c.first_fault-number.ensures c.if-number-ne0.false _ _ _ _ _ c.is_leaf.ensures c.if-not-is_leaf.false _ c.plan_to-plan.ensures _ c.carry-carried.ensures c.if-refusal-ne0.true)
 
 pub returns-then-not-plan : goal.returns-then-not-plan
 unfolding bytes
 returns-then-not-plan c =
-    leaf_late _ _ _ _ c.first_fault-number.ensures c.if-number-ne0.false _ _ _ _ _ c.is_leaf.ensures (not-false _ c.if-not-is_leaf.false) _ c.plan_to-plan.ensures _ c.carry-carried.ensures c.if-refusal-ne0.false
+    leaf_late _ _ _ _ c.first_fault-number.ensures c.if-number-ne0.false _ _ _ _ _ c.is_leaf.ensures c.if-not-is_leaf.false _ c.plan_to-plan.ensures _ c.carry-carried.ensures c.if-refusal-ne0.false
     _ _ c.push-served.ensures _ (ap answer_of c.in-Accepted.is) (not-true _ c.if-not-plan.true)
 
 pub returns-else-not-plan : goal.returns-else-not-plan
 unfolding bytes
 returns-else-not-plan c =
-    leaf-taken _ _ _ _ c.first_fault-number.ensures c.if-number-ne0.false _ _ _ _ _ c.is_leaf.ensures (not-false _ c.if-not-is_leaf.false) _ c.plan_to-plan.ensures _ c.carry-carried.ensures c.if-refusal-ne0.false
+    leaf-taken _ _ _ _ c.first_fault-number.ensures c.if-number-ne0.false _ _ _ _ _ c.is_leaf.ensures c.if-not-is_leaf.false _ c.plan_to-plan.ensures _ c.carry-carried.ensures c.if-refusal-ne0.false
     _ _ c.push-served.ensures _ (ap answer_of c.in-Accepted.is) (not-false _ c.if-not-plan.false) _ refl
 
 pub returns-in_default : goal.returns-in_default
 unfolding bytes
 returns-in_default c =
-    leaf_rest _ _ _ _ c.first_fault-number.ensures c.if-number-ne0.false _ _ _ _ _ c.is_leaf.ensures (not-false _ c.if-not-is_leaf.false) _ c.plan_to-plan.ensures _ c.carry-carried.ensures c.if-refusal-ne0.false
-    _ _ c.push-served.ensures (others_apart c.push-served.result.answer c.in_default-own.keys2)
+    leaf_rest _ _ _ _ c.first_fault-number.ensures c.if-number-ne0.false _ _ _ _ _ c.is_leaf.ensures c.if-not-is_leaf.false _ c.plan_to-plan.ensures _ c.carry-carried.ensures c.if-refusal-ne0.false
+    _ _ c.push-served.ensures (others_apart c.push-served.result.answer c.in_default.not-Accepted)

@@ -1,7 +1,7 @@
 -- `put_legend` meets its contract: the parts of the text joined.
 use mathlib.Core.Path.{ap}
 use Prim.Native.Nat.{ℕ, ◌+◌}
-use mathlib.Core.List.{◌∷◌}
+use mathlib.Core.List.{[], ◌∷◌}
 use Rattle.text_templates.specs.Template.{bytes, filled}
 use Rattle.drawing_elements.specs.Elements.{legend}
 use Rattle.text.proofs.Written.{puts_as, puts_then}

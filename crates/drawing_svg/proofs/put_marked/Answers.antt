@@ -1,3 +1,4 @@
+use mathlib.Core.List.{[]}
 -- `put_marked` meets its contract: the two texts joined.
 use mathlib.Core.Path.{ap}
 use Prim.Native.Nat.{ℕ}

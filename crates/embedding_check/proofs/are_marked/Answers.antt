@@ -12,13 +12,13 @@ loop-a-init c = (search rules, marks_none _ _)
 pub returns-then-not-is_marked : goal.returns-then-not-is_marked
 returns-then-not-is_marked c =
     let is-marked = c.is_marked in
-    marks_stop _ _ _ _ (search rules) is-marked.ensures (not-true _ c.if-not-is_marked.true)
+    marks_stop _ _ _ _ (search rules) is-marked.ensures c.if-not-is_marked.true
 
 pub loop-a-preserved : goal.loop-a-preserved
 loop-a-preserved c =
     let is-marked = c.is_marked in
     let loop = c.loop-a in
-    (search rules, marks_next _ _ _ _ loop.invariant.1 is-marked.ensures (not-false _ c.if-not-is_marked.false))
+    (search rules, marks_next _ _ _ _ loop.invariant.1 is-marked.ensures c.if-not-is_marked.false)
 
 pub returns : goal.returns
 returns c =

@@ -14,14 +14,14 @@ returns-then-not-is_fresh c =
     let is-fresh = c.is_fresh in
     let loop-test = c.loop-a-test in
     let args = c.args in
-    apart-stop args.map.now _ _ loop-test.true is-fresh.ensures (not-true _ c.if-not-is_fresh.true)
+    apart-stop args.map.now _ _ loop-test.true is-fresh.ensures c.if-not-is_fresh.true
 
 pub loop-a-preserved : goal.loop-a-preserved
 loop-a-preserved c =
     let is-fresh = c.is_fresh in
     let loop = c.loop-a in
     let args = c.args in
-    (search rules, apart_next args.map.now _ _ loop.invariant.1 is-fresh.ensures (not-false _ c.if-not-is_fresh.false))
+    (search rules, apart_next args.map.now _ _ loop.invariant.1 is-fresh.ensures c.if-not-is_fresh.false)
 
 pub returns : goal.returns
 returns c =

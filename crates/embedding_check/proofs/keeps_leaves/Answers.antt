@@ -35,7 +35,7 @@ returns-then-not-keeps_leaf c =
     let loop-test = c.loop-a-test in
     let args = c.args in
     leaves-stop args.source.now args.target.now args.map.now _ _ loop-test.true keeps-leaf.ensures
-    (not-true _ c.if-not-keeps_leaf.true)
+    c.if-not-keeps_leaf.true
 
 pub loop-a-preserved : goal.loop-a-preserved
 loop-a-preserved c =
@@ -44,7 +44,7 @@ loop-a-preserved c =
     let args = c.args in (
       search rules,
       leaves_next args.source.now args.target.now args.map.now _ _ loop.invariant.1
-          keeps-leaf.ensures (not-false _ c.if-not-keeps_leaf.false),
+          keeps-leaf.ensures c.if-not-keeps_leaf.false,
     )
 
 pub returns : goal.returns

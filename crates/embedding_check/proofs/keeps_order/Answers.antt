@@ -25,7 +25,7 @@ returns-then-not-stands_alike c =
     let branch-ends = c.branch_ends-source_ends in
     let args = c.args in
     let pre = c.requires in
-    rows-stop _ _ args.map.now _ _ loop-test.true stands_alike.ensures (not-true _ c.if-not-stands_alike.true)
+    rows-stop _ _ args.map.now _ _ loop-test.true stands_alike.ensures c.if-not-stands_alike.true
     ∙ rows_rule args.source.now args.target.now args.map.now _ _ pre branch-ends.ensures
     branch-ends2.ensures
 
@@ -34,7 +34,7 @@ loop-a-preserved c =
     let stands_alike = c.stands_alike in
     let loop = c.loop-a in
     let args = c.args in
-    (search rules, rows_next _ _ args.map.now _ _ loop.invariant.1 stands_alike.ensures (not-false _ c.if-not-stands_alike.false))
+    (search rules, rows_next _ _ args.map.now _ _ loop.invariant.1 stands_alike.ensures c.if-not-stands_alike.false)
 
 pub returns : goal.returns
 returns c =

@@ -14,7 +14,7 @@ returns-then-map-source c = refuse_6 _ _ _ c.if-map-source.true
 
 pub returns-then-not-are_marked : goal.returns-then-not-are_marked
 returns-then-not-are_marked c =
-    refuse_26 _ _ _ c.if-map-source.false _ c.are_marked.ensures (not-true _ c.if-not-are_marked.true)
+    refuse_26 _ _ _ c.if-map-source.false _ c.are_marked.ensures c.if-not-are_marked.true
 
 pub slice_bounds-bytes-end : goal.slice_bounds-bytes-end
 slice_bounds-bytes-end c =
@@ -24,25 +24,25 @@ slice_bounds-bytes-end c =
 pub slice_bounds-images_fault-end : goal.slice_bounds-images_fault-end
 slice_bounds-images_fault-end c =
     let l = lent _ _ _ _ _ _ c.requires.0 c.if-map-source.false c.restrict-kept.ensures c.restrict-restricted.ensures in
-    sym l.bytes-long
+    sym l.bytes_long
 
 pub slice_bounds-images-end : goal.slice_bounds-images-end
 slice_bounds-images-end c =
     let l = lent _ _ _ _ _ _ c.requires.0 c.if-map-source.false c.restrict-kept.ensures c.restrict-restricted.ensures in
-    l.images-fit
+    l.images_fit
 
 pub slice_bounds-images_fault-end-2 : goal.slice_bounds-images_fault-end-2
 slice_bounds-images_fault-end-2 c =
     let l = lent _ _ _ _ _ _ c.requires.0 c.if-map-source.false c.restrict-kept.ensures c.restrict-restricted.ensures in
-    sym l.images-long
+    sym l.images_long
 
 pub images_fault-requires : goal.images_fault-requires
 images_fault-requires c =
     let l = lent _ _ _ _ _ _ c.requires.0 c.if-map-source.false c.restrict-kept.ensures c.restrict-restricted.ensures in
-    (l.images-long ∙ sym l.bytes-long, omega (arith, l.some, l.bytes-long), omega (arith, l.few, l.bytes-long), c.requires.1)
+    (l.images_long ∙ sym l.bytes_long, omega (arith, l.some, l.bytes_long), omega (arith, l.few, l.bytes_long), c.requires.1)
 
 pub returns : goal.returns
 returns c =
     let l = lent _ _ _ _ _ _ c.requires.0 c.if-map-source.false c.restrict-kept.ensures c.restrict-restricted.ensures in
-    refuse_images _ _ _ c.if-map-source.false _ c.are_marked.ensures (not-false _ c.if-not-are_marked.false) _
+    refuse_images _ _ _ c.if-map-source.false _ c.are_marked.ensures c.if-not-are_marked.false _
     (c.images_fault.ensures ∙ ap₂ (λ (s m : List ℕ). images_fault s c.args.target.now m) l.kept l.listed)

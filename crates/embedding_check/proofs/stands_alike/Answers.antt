@@ -38,7 +38,7 @@ returns-then-not-agree c =
     let loop-test = c.loop-b-test in
     let args = c.args in
     alike-stop args.source.now args.target.now args.map.now _ _ _ _ _ loop-test.true above.ensures
-    above2.ensures agree.ensures (not-true _ c.if-not-agree.true)
+    above2.ensures agree.ensures c.if-not-agree.true
 
 pub loop-b-preserved : goal.loop-b-preserved
 loop-b-preserved c =
@@ -49,7 +49,7 @@ loop-b-preserved c =
     let args = c.args in (
       search rules,
       alike_next args.source.now args.target.now args.map.now _ _ _ _ _ loop.invariant.1
-          above.ensures above2.ensures agree.ensures (not-false _ c.if-not-agree.false),
+          above.ensures above2.ensures agree.ensures c.if-not-agree.false,
     )
 
 pub returns : goal.returns

@@ -5,5 +5,5 @@ use Rattle.embedding_diagnosis.proofs.fits_at.Goals as goal
 pub returns : goal.returns
 returns c =
     let args = c.args in
-    fits_is args.source.now args.target.now _ _ _ _ c.branch-drawing.ensures.0.1
-    c.branch-chip.ensures.0.1 _ c.least_map-found.ensures _ c.number_of.ensures
+    fits_is args.source.now args.target.now _ _ _ _ c.branch-drawing.ensures.refusal_after.1
+    c.branch-chip.ensures.refusal_after.1 _ c.least_map-found.ensures _ c.number_of.ensures

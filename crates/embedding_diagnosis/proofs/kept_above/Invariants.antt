@@ -7,7 +7,7 @@ use Rattle.embedding_diagnosis.specs.Misfit.{is_kept}
 use Rattle.embedding_diagnosis.proofs.kept_above.Given as goal
 
 abbrev pub invariant-loop-a : goal.invariant-loop-a
-invariant-loop-a l = Counts (λ l.a. is_kept l.source l.a && is_above l.source l.a l.node) l.node l.a l.count
+invariant-loop-a l = Counts (λ a. is_kept l.source a && is_above l.source a l.node) l.node l.a l.count
 
 abbrev pub decreases-loop-a : goal.decreases-loop-a
 decreases-loop-a l = l.node - l.a

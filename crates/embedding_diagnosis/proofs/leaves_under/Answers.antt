@@ -15,4 +15,4 @@ pub returns : goal.returns
 unfolding leaves
 returns c =
     counts_all _ _ _ _ c.loop-k-test.false c.loop-k.invariant
-    ∙ ap leaves c.branch-part.ensures.0.1
+    ∙ ap leaves c.branch-part.ensures.refusal_after.1

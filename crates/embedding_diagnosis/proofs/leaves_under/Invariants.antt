@@ -6,7 +6,7 @@ use Rattle.topology_places.proofs.Counted.{Counts}
 use Rattle.embedding_diagnosis.proofs.leaves_under.Given as goal
 
 abbrev pub invariant-loop-k : goal.invariant-loop-k
-invariant-loop-k l = Counts (λ l.k. eqb (get_or l.part l.k 0) 0) (length l.part) l.k l.count
+invariant-loop-k l = Counts (λ k. eqb (get_or l.part k 0) 0) (length l.part) l.k l.count
 
 abbrev pub decreases-loop-k : goal.decreases-loop-k
 decreases-loop-k l = length l.part - l.k

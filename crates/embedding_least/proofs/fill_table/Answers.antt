@@ -11,8 +11,8 @@ loop-s-init c =
       omega arith,
       pre.1,
       pre.2,
-      table-start args.source.now args.target.now pre.0.source-draws
-          pre.0.target-draws args.target-ends.now pre.0.target-table args.best.now,
+      table-start args.source.now args.target.now pre.0.source_draws
+          pre.0.target_draws args.target_ends.now pre.0.target_table args.best.now,
     )
 
 pub overflow_sub-s : goal.overflow_sub-s
@@ -22,7 +22,7 @@ pub kids_of-kids-requires : goal.kids_of-kids-requires
 kids_of-kids-requires c =
     let loop = c.loop-s in
     let pre = c.requires in
-    (pre.0.source-draws, pre.0.source-table, omega (arith, loop.invariant.0, c.loop-s-test.true))
+    (pre.0.source_draws, pre.0.source_table, omega (arith, loop.invariant.0, c.loop-s-test.true))
 
 pub fill_node-requires : goal.fill_node-requires
 fill_node-requires c =
@@ -32,11 +32,11 @@ fill_node-requires c =
     let loop = c.loop-s in
     let args = c.args in
     let pre = c.requires in (
-      frame_of args.source.now args.target.now pre.0.source-draws pre.0.target-draws args.target-ends.now
-          pre.0.target-table _ (omega (arith, loop.invariant.0, loop-test.true)) _ kids-of.ensures,
+      frame_of args.source.now args.target.now pre.0.source_draws pre.0.target_draws args.target_ends.now
+          pre.0.target_table _ (omega (arith, loop.invariant.0, loop-test.true)) _ kids-of.ensures,
       loop.invariant.1,
       loop.invariant.2,
-      omega (arith, reach.ensures, reach-within (loop.s - 1) _ pre.0.target-draws.some),
+      omega (arith, reach.ensures, reach-within (loop.s - 1) _ pre.0.target_draws.some),
     )
 
 pub loop-s-smaller : goal.loop-s-smaller
@@ -57,7 +57,7 @@ loop-s-preserved c =
       fill-node.ensures.0.places,
       fill-node.ensures.1,
       table_back args.source.now
-          args.target.now pre.0.source-draws pre.0.target-draws args.target-ends.now pre.0.target-table _
+          args.target.now pre.0.source_draws pre.0.target_draws args.target_ends.now pre.0.target_table _
           loop-test.true loop.invariant.0 _ kids-of.ensures _ reach.ensures _ _ fill-node.ensures.0 loop.invariant.3,
     )
 

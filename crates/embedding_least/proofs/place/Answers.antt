@@ -23,8 +23,8 @@ start_row-p-requires c =
     let sets_of = c.sets_of-sets in
     let pre = c.requires in
     let args = c.args in (
-      record { places = pre.0.go-places; bound = pre.0.go_bound },
-      pre.0.ends-small _,
+      record { places = pre.0.go_places; bound = pre.0.go_bound },
+      pre.0.ends_small _,
       omega
           (arith, power_256 args.children pre.0.few, sets_of.ensures),
     )
@@ -120,7 +120,7 @@ pub shape_of-go : goal.shape_of-go
 shape_of-go c =
     let loop = c.loop-p in
     let pre = c.requires in
-    loop.invariant.places ∙ sym pre.0.go-places
+    loop.invariant.places ∙ sym pre.0.go_places
 
 pub returns : goal.returns
 returns c =

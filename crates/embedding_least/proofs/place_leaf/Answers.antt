@@ -2,7 +2,7 @@
 use mathlib.Core.Path.{ap}
 use native.Mathlib.Omega.{arith}
 use Prim.Native.Nat.{ℕ}
-use mathlib.Core.List.{◌∷◌}
+use mathlib.Core.List.{[], ◌∷◌}
 use Rattle.topology_reduction.specs.Reduced.{in32}
 use Rattle.embedding_least.proofs.Searches.{leaf-small, leaf-placed}
 use Rattle.embedding_least.proofs.place_leaf.Goals as goal

@@ -13,10 +13,10 @@ fill_table-requires c =
     let args = c.args in
     let pre = c.requires in (
       record {
-        source-draws = pre.0;
-        target-draws = pre.1;
-        source-table = is_table args.source.now _ (omega (arith, pre.0.fits)) branch-ends.ensures;
-        target-table = is_table args.target.now _ pre.1.fits branch-ends2.ensures;
+        source_draws = pre.0;
+        target_draws = pre.1;
+        source_table = is_table args.source.now _ (omega (arith, pre.0.fits)) branch-ends.ensures;
+        target_table = is_table args.target.now _ pre.1.fits branch-ends2.ensures;
       },
       refl,
       room-zeros,
@@ -27,7 +27,7 @@ returns-then-best-ge-NONE c =
     let fill-table = c.fill_table in
     let args = c.args in
     let pre = c.requires in
-    solve_none args.source.now args.target.now pre.0 pre.1 fill-table.new.1.1.1.1.0
+    solve_none args.source.now args.target.now pre.0 pre.1 c.fill_table.new.best
     fill-table.ensures.0 pre.2 c.if-best-ge-NONE.true
 
 pub read_off-requires : goal.read_off-requires
@@ -44,5 +44,5 @@ returns c =
     let fill-table = c.fill_table in
     let args = c.args in
     let pre = c.requires in
-    solve_found args.source.now args.target.now pre.0 pre.1 fill-table.new.1.1.1.1.0
+    solve_found args.source.now args.target.now pre.0 pre.1 c.fill_table.new.best
     fill-table.ensures.0 pre.2 if1.false _ c.read_off.ensures

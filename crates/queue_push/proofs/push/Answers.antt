@@ -166,7 +166,7 @@ pub bounds-after-i-then-goes_behind : goal.bounds-after-i-then-goes_behind
 bounds-after-i-then-goes_behind c = omega (arith, place_low _ _ _ _ _ _ _ _ _ _ _ _ _ c.loop-left.invariant.0, c.loop-left.invariant.0.long)
 
 pub loop-left-preserved-then-goes_behind : goal.loop-left-preserved-then-goes_behind
-loop-left-preserved-then-goes_behind c = (behind _ _ _ _ _ _ _ _ _ _ _ _ _ c.loop-left.invariant.0 c.loop-left-test.true c.if-begin-i.true (c.goes_behind.ensures.if-true c.if-goes_behind.true).0 (c.goes_behind.ensures.if-true c.if-goes_behind.true).1, beside c.args.state c.loop-left.after _ c.loop-left.invariant.1)
+loop-left-preserved-then-goes_behind c = (behind _ _ _ _ _ _ _ _ _ _ _ _ _ c.loop-left.invariant.0 c.loop-left-test.true c.if-begin-i.true (c.goes_behind.ensures.if_true c.if-goes_behind.true).0 (c.goes_behind.ensures.if_true c.if-goes_behind.true).1, beside c.args.state c.loop-left.after _ c.loop-left.invariant.1)
 
 pub overflow_add-entry : goal.overflow_add-entry
 overflow_add-entry c = omega (arith, place_low _ _ _ _ _ _ _ _ _ _ _ _ _ c.loop-left.invariant.0)
@@ -178,7 +178,7 @@ pub bounds-after-i-else-goes_behind : goal.bounds-after-i-else-goes_behind
 bounds-after-i-else-goes_behind c = omega (arith, place_low _ _ _ _ _ _ _ _ _ _ _ _ _ c.loop-left.invariant.0, c.loop-left.invariant.0.long)
 
 pub loop-left-preserved-else-goes_behind : goal.loop-left-preserved-else-goes_behind
-loop-left-preserved-else-goes_behind c = (move _ _ _ _ _ _ _ _ _ _ _ _ _ c.loop-left.invariant.0 c.loop-left-test.true c.if-begin-i.true (c.goes_behind.ensures.if-false c.if-goes_behind.false), beside c.args.state c.loop-left.after _ c.loop-left.invariant.1)
+loop-left-preserved-else-goes_behind c = (move _ _ _ _ _ _ _ _ _ _ _ _ _ c.loop-left.invariant.0 c.loop-left-test.true c.if-begin-i.true (c.goes_behind.ensures.if_false c.if-goes_behind.false), beside c.args.state c.loop-left.after _ c.loop-left.invariant.1)
 
 pub bounds-pending-node-else-begin-i : goal.bounds-pending-node-else-begin-i
 bounds-pending-node-else-begin-i c = omega (arith, node_low _ _ _ _ _ _ _ _ _ _ _ _ _ c.loop-left.invariant.0)

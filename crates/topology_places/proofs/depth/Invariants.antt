@@ -5,7 +5,7 @@ use Rattle.topology_places.proofs.Counted.{Counts}
 use Rattle.topology_places.proofs.depth.Given as goal
 
 abbrev pub invariant-loop-a : goal.invariant-loop-a
-invariant-loop-a l = Counts (λ l.a. is_above l.bytes l.a l.node) l.node l.a l.count
+invariant-loop-a l = Counts (λ a. is_above l.bytes a l.node) l.node l.a l.count
 
 abbrev pub decreases-loop-a : goal.decreases-loop-a
 decreases-loop-a l = l.node - l.a

@@ -5,7 +5,7 @@ use Rattle.topology_places.proofs.Counted.{Tries}
 use Rattle.topology_places.proofs.parent.Given as goal
 
 abbrev pub invariant-loop-a : goal.invariant-loop-a
-invariant-loop-a l = Tries (λ l.a. is_above l.bytes l.a l.node) l.node l.a l.found
+invariant-loop-a l = Tries (λ a. is_above l.bytes a l.node) l.node l.a l.found
 
 abbrev pub decreases-loop-a : goal.decreases-loop-a
 decreases-loop-a l = l.node - l.a

@@ -1,13 +1,7 @@
 use native.Mathlib.Omega.{arith}
-use mathlib.Core.Path.{◌≡◌, sym, ◌∙◌}
-use Prim.Native.Nat.{◌-◌}
-use lib.ListN.{length}
-use Rattle.base.proofs.Map.{length-map}
+use mathlib.Core.Path.{sym}
 use Rattle.translator.proofs.Standing.{standing_start, standing_few, standing_in, standing_lost, standing_next, standing_above, standing_leaf}
 use Rattle.translator.proofs.path_fault.Goals as goal
-
-places : (c : tie.Start invariant-loop decreases-loop) → length c.args.t2.steps ≡ 9
-places c = sym (length-map _ c.args.t2.steps) ∙ c.well-formed.1.0.1.1.0.1.0.1
 
 pub loop-i-init : goal.loop-i-init
 loop-i-init c = standing_start _ c.requires _
@@ -18,16 +12,13 @@ offset_bounds-path-i c = omega (arith, standing_few _ c.requires _ _ _ c.loop-i.
 pub bounds-path-i : goal.bounds-path-i
 bounds-path-i c = omega (arith, standing_few _ c.requires _ _ _ c.loop-i.invariant)
 
-pub overflow_cast-step : goal.overflow_cast-step
-overflow_cast-step c = omega (arith, c.struct_known-1.given)
-
 pub returns-in_default : goal.returns-in_default
 returns-in_default c =
-    sym (standing_lost _ c.requires _ _ _ c.loop-i.invariant c.loop-i-test.true (places c) _ c.child.ensures c.in_default.is)
+    sym (standing_lost _ c.requires _ _ _ c.loop-i.invariant c.loop-i-test.true c.well_formed.1.0.1.1.0.1.0.1 _ c.child.ensures c.in_default.is)
 
 pub loop-i-preserved : goal.loop-i-preserved
 loop-i-preserved c =
-    standing_next _ c.requires _ _ _ c.loop-i.invariant c.loop-i-test.true (places c) _ c.child.ensures _ c.in-Node.is
+    standing_next _ c.requires _ _ _ c.loop-i.invariant c.loop-i-test.true c.well_formed.1.0.1.1.0.1.0.1 _ c.child.ensures _ c.in-Node.is
 
 pub bounds-source-node : goal.bounds-source-node
 bounds-source-node c = standing_in _ c.requires _ _ _ c.loop-i.invariant

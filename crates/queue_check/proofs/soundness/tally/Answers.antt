@@ -3,18 +3,12 @@ use borrow.Author.Tests.{not-true, not-false}
 use native.Mathlib.Omega.{arith}
 use native.Mathlib.Numerals.{add-one}
 use mathlib.Core.Path.{refl, ap}
-use mathlib.Core.Logic.{⊎_elim}
 use Prim.Native.Nat.{ℕ, ◌+◌, ◌-◌}
 use Rattle.topology.proofs.Lookup.{valid_length, valid_byte}
 use Rattle.queue_check.proofs.Tally.{begin, enter_none, enter_some, over, advance, fault, mismatch, leave, tallied_not, tallied}
-use Rattle.queue_check.proofs.soundness.tally.Reads as reads
-use Rattle.queue_check.proofs.soundness.tally.Lts as lts
-use Rattle.queue_check.proofs.soundness.children_match.Reads as children-match-reads
-use Rattle.queue_check.proofs.soundness.place.Reads as place-reads
-use Rattle.queue_check.proofs.soundness.unsound.Reads as unsound-reads
-use Rattle.queue_state.proofs.wide16.Reads as wide16-reads
 use borrow.Author.Rules.{rules}
 use Rattle.queue_check.proofs.soundness.tally.Goals as goal
+use Rattle.queue_check.proofs.soundness.tally.Goals.{then-start-end, else-start-end}
 
 pub loop-node-init : goal.loop-node-init
 loop-node-init c = begin _ _ _ _ refl
@@ -38,10 +32,10 @@ loop-start-init c =
     let p = c.loop-node.invariant in
     let v = valid_length 64 _ c.requires in
     let e = ap (λ (k : ℕ). c.loop-node.start + k) c.wide16.ensures.0 in
-    ⊎_elim
-    (λ x. enter_some _ _ _ _ _ _ _ p c.loop-node-test.true (search rules) v e c.if-end-gt2304.false x.0.taken _ x.2)
-    (λ x. enter_none _ _ _ _ _ _ _ p c.loop-node-test.true (search rules) v e c.if-end-gt2304.false x.0.left _ x.1)
-    c.if-start-end.branch
+    elim c.if-start-end.branch [
+      | then-start-end w ↦ enter_some _ _ _ _ _ _ _ p c.loop-node-test.true (search rules) v e c.if-end-gt2304.false w.if-start-end.true _ w.heads-is
+      | else-start-end w ↦ enter_none _ _ _ _ _ _ _ p c.loop-node-test.true (search rules) v e c.if-end-gt2304.false w.if-start-end.false _ w.heads-is
+    ]
 
 pub place-at-requires : goal.place-at-requires
 place-at-requires c = valid_byte 64 _ c.requires _
@@ -62,13 +56,13 @@ pub returns-then-not-children_match : goal.returns-then-not-children_match
 returns-then-not-children_match c =
     tallied_not _ _ _ _ _ c.unsound-then-not-children_match.ensures
     (mismatch _ _ _ _ _ _ _ _ _ _ c.loop-start.invariant c.loop-start-test.false (valid_byte 64 _ c.requires _) _
-    (c.children_match.ensures.if-false (not-true _ c.if-not-children_match.true)))
+    (c.children_match.ensures.if_false c.if-not-children_match.true))
 
 pub loop-node-preserved : goal.loop-node-preserved
 loop-node-preserved c =
     rw add-one
     (leave _ _ _ _ _ _ _ _ _ _ c.loop-start.invariant c.loop-start-test.false (valid_byte 64 _ c.requires _)
-    (c.children_match.ensures.if-true (not-false _ c.if-not-children_match.false)))
+    (c.children_match.ensures.if_true c.if-not-children_match.false))
 
 pub returns-then-limit-held : goal.returns-then-limit-held
 returns-then-limit-held c =

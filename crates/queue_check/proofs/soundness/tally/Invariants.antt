@@ -2,12 +2,6 @@
 use Prim.Native.Nat.{◌-◌}
 use lib.ListN.{length}
 use Rattle.queue_check.proofs.Tally.{Passed, Passing}
-use Rattle.queue_check.proofs.soundness.tally.Reads as reads
-use Rattle.queue_check.proofs.soundness.tally.Lts as lts
-use Rattle.queue_check.proofs.soundness.children_match.Reads as children-match-reads
-use Rattle.queue_check.proofs.soundness.place.Reads as place-reads
-use Rattle.queue_check.proofs.soundness.unsound.Reads as unsound-reads
-use Rattle.queue_state.proofs.wide16.Reads as wide16-reads
 use Rattle.queue_check.proofs.soundness.tally.Given as goal
 
 abbrev pub invariant-loop-start : goal.invariant-loop-start

@@ -1,8 +1,6 @@
 -- `raised` meets its contract. The lengths of the nodes before `node` are raised (proofs/Raised.antt).
 use Prim.Native.Nat.{◌-◌}
 use Rattle.queue_push.proofs.Raised.{Raising}
-use Rattle.queue_push.proofs.arrivals.raised.Reads as reads
-use Rattle.queue_push.proofs.arrivals.raised.Lts as lts
 use Rattle.queue_push.proofs.arrivals.raised.Given as goal
 
 abbrev pub invariant-loop-node : goal.invariant-loop-node

@@ -2,23 +2,19 @@ use native.Mathlib.Omega.{arith}
 use mathlib.Core.Path.{refl}
 use Prim.Native.Nat.{◌-◌}
 use Rattle.topology.proofs.Lookup.{valid_size}
-use Rattle.queue_state.proofs.Arrays.{kept}
 use Rattle.queue_push.proofs.WalkLoop.{set_out, no_child, step_down, ends_above, at_leaf}
 use Rattle.queue_push.proofs.arrivals.walk.Goals as goal
 
 pub loop-i-init : goal.loop-i-init
 loop-i-init c = set_out _ c.requires _ _ _ refl
 
-pub overflow_cast-step : goal.overflow_cast-step
-overflow_cast-step c = omega (arith, c.struct_known-1.given)
-
 pub returns-in_default : goal.returns-in_default
 returns-in_default c =
-    no_child _ c.requires _ _ _ _ _ _ c.loop-i.invariant c.loop-i-test.true (kept _ c.args.path.steps c.well_formed.1.0.1.1.0.1.0.1) _ c.child.ensures c.in_default.is
+    no_child _ c.requires _ _ _ _ _ _ c.loop-i.invariant c.loop-i-test.true c.well_formed.1.0.1.1.0.1.0.1 _ c.child.ensures c.in_default.is
 
 pub loop-i-preserved : goal.loop-i-preserved
 loop-i-preserved c =
-    step_down _ c.requires _ _ _ _ _ _ c.loop-i.invariant c.loop-i-test.true (kept _ c.args.path.steps c.well_formed.1.0.1.1.0.1.0.1) _ _ c.child.ensures c.in-Node.is
+    step_down _ c.requires _ _ _ _ _ _ c.loop-i.invariant c.loop-i-test.true c.well_formed.1.0.1.1.0.1.0.1 _ _ c.child.ensures c.in-Node.is
 
 pub bounds-bytes-node : goal.bounds-bytes-node
 bounds-bytes-node c =
