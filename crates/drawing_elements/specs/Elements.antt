@@ -18,11 +18,11 @@ opening rows =
 unfoldable pub head : ℕ → List ℕ
 head rows =
     opening rows
-    ++ (bytes "text{font:10px sans_serif;text_anchor:middle}path{fill:none;stroke:black}ellipse{fill:white;stroke:black}\n"
-    ++ (bytes ".label,.note{font_size:12px}.label,.note,.joins text,.legend text{text_anchor:start}\n"
+    ++ (bytes "text{font:10px sans-serif;text-anchor:middle}path{fill:none;stroke:black}ellipse{fill:white;stroke:black}\n"
+    ++ (bytes ".label,.note{font-size:12px}.label,.note,.joins text,.legend text{text-anchor:start}\n"
     ++ (bytes ".joins g{color:midnightblue}.joins g:nth-child(3n){color:maroon}.joins g:nth-child(3n+1){color:darkgreen}\n"
-    ++ (bytes ".joins path{stroke:current_color}.joins text{fill:current_color}.fault{fill:firebrick;stroke:none}.fault+text{fill:white}\n"
-    ++ (bytes ".passed{stroke_dasharray:1 2}.image{fill:lightcyan;stroke_width:2}.between{stroke_dasharray:4 2}.unused{fill:lightgrey;stroke:none}\n"
+    ++ (bytes ".joins path{stroke:currentColor}.joins text{fill:currentColor}.fault{fill:firebrick;stroke:none}.fault+text{fill:white}\n"
+    ++ (bytes ".passed{stroke-dasharray:1 2}.image{fill:lightcyan;stroke-width:2}.between{stroke-dasharray:4 2}.unused{fill:lightgrey;stroke:none}\n"
     ++ bytes ".legend text{fill:black}</style><rect width='100%' height='100%' fill='white'/>\n")))))
 
 -- The two sides of a sheet: the source's, and the chip's (`true`). Where the root stands, the label above it, and the side's name.

@@ -56,8 +56,8 @@ pub struct Batch {
     pub slots: [Slot; 256],
 }
 
-// The script reader: the script, and the offset of its next command. A function over a struct that holds a slice has to be proved by hand, so those
-// over this one are thin; the functions of `cursor`, over the slice and the number, do the work.
+// The script reader: the script, and the offset of its next command. The functions over it are thin; those of `cursor`, over the slice and the number,
+// do the work.
 #[derive(Clone, Copy)]
 pub struct Reader<'a> {
     pub script: &'a [u8],

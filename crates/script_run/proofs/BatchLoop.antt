@@ -2,15 +2,13 @@
 -- code has. A call after which the script runs on adds its line; a call that stops it, the end, or a refusal completes the text.
 use mathlib.Core.Path.{◌≡◌, refl, sym, ap, ◌∙◌, subst}
 use mathlib.Core.Logic.{◌⊎◌, inl, inr}
-use Prim.Native.Nat.{ℕ, ◌+◌, ◌≤◌}
+use Prim.Native.Nat.{ℕ, ◌+◌, ◌≤◌, ◌<◌}
 use native.Mathlib.Omega.{arith}
 use native.Mathlib.Numerals.{add-one}
 use mathlib.Core.List.{List, [], ◌∷◌, ◌++◌, append_assoc, append-nil}
 use mathlib.Core.Bool.{Bool, true, false, not, cond}
 use lib.ListN.{length, take, drop, get_or, drop_of_length-le}
 use lib.Seq.{drop-cons}
-use lib.Dec.{ltb}
-use borrow.Author.Tests.{ltb-true}
 use Rattle.base.proofs.Tests.{clash}
 use Rattle.queue_push.specs.declared.Path.{Path}
 use Rattle.queue_state.specs.State.{machine}
@@ -58,7 +56,7 @@ exchanged true a c = refl
 exchanged false a c = refl
 
 module _ (source target images : List ℕ) (slots : List Slot) (s₀ : State) (p₀ : Path) (before : List ℕ) (place : ℕ) (after : List ℕ)
-    (s t : State) (p : Path) (end : ℕ) (i : ℕ) (d : Slot) (h : ltb i 256 ≡ true) (k : length slots ≡ 256)
+    (s t : State) (p : Path) (end : ℕ) (i : ℕ) (d : Slot) (h : i < 256) (k : length slots ≡ 256)
     (g : Going source target images slots s₀ p₀ before place after s t p end true i) where
   abbrev read : Read
   read = (get_or slots i d).read
@@ -67,7 +65,7 @@ module _ (source target images : List ℕ) (slots : List Slot) (s₀ : State) (p
   Next' after' s' t' p' end' going = Going source target images slots s₀ p₀ before place after' s' t' p' end' going (i + 1)
 
   left : reads_of (drop i slots) ≡ read ∷ reads_of (drop (i + 1) slots)
-  left = rw add-one (ap reads_of (drop-cons slots i d (omega (arith, ltb-true i 256 h, k))))
+  left = rw add-one (ap reads_of (drop-cons slots i d (omega (arith, h, k))))
 
   split : (rest : List Read) → text_of (reads_of slots ++ rest) (stage_of s₀ p₀) ≡ g.text ++ text_of (read ∷ (reads_of (drop (i + 1) slots) ++ rest)) (stage_of s p)
   split rest = g.follows rest ∙ ap (λ (l : List Read). g.text ++ text_of (l ++ rest) (stage_of s p)) left

@@ -6,5 +6,4 @@ pub mod ServeCases
 pub mod CallOf
 pub mod BatchLoop
 pub mod RunLoop
-pub mod LentAgain
 pub mod Lengths

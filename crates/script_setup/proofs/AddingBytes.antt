@@ -38,9 +38,6 @@ module _ (array : List ℕ) (n most : ℕ) (bytes : List ℕ) (b : ℕ) (k : Kep
         are = k.are ∙ sym (take-append-le most bytes (b ∷ []) (omega (arith, k.some)));
       }
 
-pub kept-fits : (array : List ℕ) (n most : ℕ) (bytes : List ℕ) → Kept array n most bytes → n ≤ length array
-kept-fits array n most bytes k = omega (arith, k.long, k.some)
-
 none_kept : (array : List ℕ) (n most : ℕ) → length array ≡ most → n ≡ 0 → Kept array n most []
 none_kept array n most l e = record { long = l; some = omega arith; are = rw e (sym (take-nil most)) }
 

@@ -1,7 +1,7 @@
 -- The invariant of the loop of `gather`: while it runs, the code has what is gathered so far, and what is still to be gathered completes the
 -- definition; once it stops, the code has all, and the reader finds what the definition leaves. `turn` is one command.
 use mathlib.Core.Path.{◌≡◌, refl, sym, ap, ◌∙◌}
-use Prim.Native.Nat.{ℕ, zero, suc, ◌+◌, ◌<◌}
+use Prim.Native.Nat.{ℕ, zero, suc, ◌+◌, ◌-◌, ◌<◌}
 use native.Mathlib.Omega.{arith}
 use mathlib.Core.List.{List, [], ◌∷◌, ◌++◌}
 use mathlib.Core.Bool.{Bool, true, false, cond}
@@ -15,13 +15,12 @@ use Rattle.script_commands.specs.declared.Read.{Read}
 use Rattle.script_commands.specs.declared.Read.TheVariants.{End, Next, Refused}
 use Rattle.script_commands.specs.Reading.{read_at, next_at, reads_by, reads}
 use Rattle.script_commands.proofs.ReadAt.{further, next-is}
-use Rattle.script_commands.proofs.ReadsFrom.{reads_by_lem}
+use Rattle.script_commands.proofs.ReadsFrom.{reads_by_lem, to_come, fewer}
 use Rattle.script_setup.specs.declared.Ending.{Ending}
 use Rattle.script_setup.specs.declared.Ending.TheVariants.{End as AtEnd, Refused as AtRefusal, Compile as AtCompile}
 use Rattle.script_setup.specs.declared.Drawing.{Drawing}
-use Rattle.script_setup.specs.declared.Gathered.{Gathered}
 use Rattle.script_setup.specs.declared.turns.Gathering.{Gathering}
-use Rattle.script_setup.specs.Gathering.{Given, ended, gather_by, gather_reads, gathered, limit_of, Draws, Gathers}
+use Rattle.script_setup.specs.Gathering.{Given, ended, gather_by, gather_reads, limit_of, Draws, Gathers}
 use Rattle.script_setup.specs.InnerTurns.{out_of_turn, stopped, in_turn, added}
 use Rattle.script_setup.specs.InnerAdding.{Undrawn, given}
 use Rattle.script_setup.proofs.AddingBytes.{undrawn, draws_source, draws_target, draws_limit}
@@ -96,14 +95,28 @@ module _ (script : List ℕ) (total : Given) where
       (ap (λ (l : List Read). gather_reads l h.source h.target h.limit) (sym (reads_by_lem script at)) ∙ h.rest) in
       (m, omega arith, rw (e', e) next)
 
+-- the invariant at the number of reads to come, after one command
+pub turn_on : (script : List ℕ) (total : Given) (at : ℕ) (g : Gathering) → g.going ≡ true → Inv script total (length script - at + 1) at g → (r : Read)
+    → r ≡ read_at script at → (g' : Gathering) → g' ≡ added g.gathered.drawing r → (at' : ℕ) → at' ≡ next_at script at
+    → Inv script total (length script - at' + 1) at' g' × (to_come script at' g'.going < to_come script at g.going)
+turn_on script total at g go i r e g' e' at' f =
+    let t = turn script total (length script - at + 1) at g go i r e g' e' in
+    let j : Inv script total t.0 at' g' = rw f t.2 in
+    (at_gap at' g' t.0 j, rw go (fewer script at at' t.0 g'.going t.1 (λ h. ((j.goes h).enough, (j.goes h).some))))
+  where
+    at_gap : (at' : ℕ) (g' : Gathering) (n : ℕ) → Inv script total n at' g' → Inv script total (length script - at' + 1) at' g'
+    at_gap at' g' n j =
+        record {
+          goes = λ h.
+              let k = j.goes h in
+              record { source = k.source; target = k.target; limit = k.limit; draws = k.draws; rest = k.rest; enough = omega arith; some = omega arith };
+          over = j.over;
+        }
+
 pub begins : (script : List ℕ) (at : ℕ) (g : Gathering) → Undrawn g.gathered.drawing × (g.going ≡ true)
-    → Inv script (gather_reads (reads script at) [] [] none) (suc (length script)) at g
+    → Inv script (gather_reads (reads script at) [] [] none) (length script - at + 1) at g
 begins script at g u =
     record {
       goes = λ _. record { source = []; target = []; limit = none; draws = undrawn g.gathered.drawing u.0; rest = refl; enough = omega arith; some = omega arith };
       over = λ q. absurd (clash (let z : true ≡ false = sym u.1 ∙ q in cc));
     }
-
-pub of_script : (script : List ℕ) (r : Gathered) → Gathers (gather_reads (reads script 0) [] [] none) r → Gathers (gathered script) r
-unfolding gathered
-of_script script r g = g

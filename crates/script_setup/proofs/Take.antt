@@ -1,14 +1,10 @@
 -- A command in turn, by whether it is a setup command; in the `else` of a `let` it is not.
 use mathlib.Core.Path.{◌≡◌, refl}
 use Prim.Native.Nat.{ℕ}
-use mathlib.Core.List.{[], ◌∷◌}
 use mathlib.Core.Bool.{true}
-use types.Run.{OneOf, miss}
-use denote.Enum.Declared.{tag_of}
 use Rattle.script_commands.specs.declared.Setup.{Setup as SetupCommand}
 use Rattle.script_commands.specs.declared.Command.{Command}
 use Rattle.script_commands.specs.declared.Command.TheVariants.{Setup, Compile, Call}
-use Rattle.script_commands.specs.contracts.Command.{the_type}
 use Rattle.script_setup.specs.declared.Ending.TheVariants.{End as AtEnd, Compile as AtCompile}
 use Rattle.script_setup.specs.declared.Drawing.{Drawing}
 use Rattle.script_setup.specs.InnerTurns.{stopped, in_turn}
@@ -18,7 +14,7 @@ pub gives : (d : Drawing) (c : Command) (s : SetupCommand) (at : ℕ) (n : Drawi
     → record { gathered = record { drawing = n; ending = AtEnd }; going = true } ≡ in_turn d c at
 gives d c s at n e f = rw (e, f) refl
 
-pub compiles : (d : Drawing) (c : Command) (at : ℕ) → OneOf (1 ∷ 2 ∷ []) (tag_of the_type c) → stopped d (AtCompile at) ≡ in_turn d c at
-compiles d (Setup s) at h = absurd (miss (1 ∷ 2 ∷ []) 0 tt h)
+pub compiles : (d : Drawing) (c : Command) (at : ℕ) → ((s : SetupCommand) → c ≡ Setup s → ⊥) → stopped d (AtCompile at) ≡ in_turn d c at
+compiles d (Setup s) at h = absurd (h s refl)
 compiles d Compile at h = refl
 compiles d (Call c) at h = refl

@@ -10,7 +10,7 @@ use Rattle.drawing_svg.proofs.put_fault.Goals as goal
 
 pub overflow_add-node : goal.overflow_add-node
 overflow_add-node c =
-    omega (arith, c.accepted_bytes-node.ensures, c.pre, accepted_few c.args.limit c.args.bytes.now)
+    omega (arith, c.accepted_bytes-node.ensures, c.requires, accepted_few c.args.limit c.args.bytes.now)
 
 pub overflow_cast-rows : goal.overflow_cast-rows
 overflow_cast-rows c =
@@ -18,7 +18,7 @@ overflow_cast-rows c =
     omega (
       arith,
       rows_few args.limit args.bytes.now _ _ c.accepted_bytes-node.ensures c.smaller-part.ensures,
-      c.pre,
+      c.requires,
     )
 
 pub slice_bounds-put_tree-end : goal.slice_bounds-put_tree-end
@@ -27,7 +27,7 @@ slice_bounds-put_tree-end c =
 
 pub overflow_add-node-2 : goal.overflow_add-node-2
 overflow_add-node-2 c =
-    omega (arith, c.accepted_bytes-node.ensures, c.pre, accepted_few c.args.limit c.args.bytes.now)
+    omega (arith, c.accepted_bytes-node.ensures, c.requires, accepted_few c.args.limit c.args.bytes.now)
 
 pub put_tree-tree-requires : goal.put_tree-tree-requires
 put_tree-tree-requires c =
@@ -35,7 +35,7 @@ put_tree-tree-requires c =
     omega (
       arith,
       rows_few args.limit args.bytes.now _ _ c.accepted_bytes-node.ensures c.smaller-part.ensures,
-      c.pre,
+      c.requires,
       length-take c.smaller-part.result args.bytes.now,
     )
 

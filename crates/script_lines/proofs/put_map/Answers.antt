@@ -1,5 +1,4 @@
 use mathlib.Core.Path.{ap, ◌∙◌}
-use Prim.Native.Nat.{◌-◌}
 use lib.Seq.{take_all}
 use native.Mathlib.Omega.{arith}
 use Rattle.script_lines.specs.Lines.{all_spaced, map_line}

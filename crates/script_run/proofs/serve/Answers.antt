@@ -1,86 +1,41 @@
 use mathlib.Core.Path.{refl, sym, ◌∙◌}
-use mathlib.Core.Logic.{⊎_elim, inl, inr}
-use Prim.Native.Nat.{◌-◌}
-use borrow.Author.Tests.{ltb-true, ltb-false}
+use mathlib.Core.Logic.{inl, inr}
 use native.Mathlib.Omega.{arith}
-use lib.Seq.{length-take-le}
 use Rattle.queue_state.specs.Calls.{answer_of}
-use Rattle.text.proofs.Written.{puts_length}
 use Rattle.script_run.proofs.ServeCases.{sent, unsent, push_turned, pop_turned}
 use Rattle.script_run.proofs.BatchLoop.{start, still, at-end, at_fault, stepped, replied_on, comes}
 use Rattle.script_run.proofs.serve.Goals as goal
-
-pub slice_bounds-source_bytes-end : goal.slice_bounds-source_bytes-end
-slice_bounds-source_bytes-end c = c.requires.0.fits.source-nodes
-
-pub slice_bounds-drawn_tree-end : goal.slice_bounds-drawn_tree-end
-slice_bounds-drawn_tree-end c = sym (length-take-le _ _ c.requires.0.fits.source-nodes)
-
-pub slice_bounds-target_bytes-end : goal.slice_bounds-target_bytes-end
-slice_bounds-target_bytes-end c = c.requires.0.fits.target-nodes
-
-pub slice_bounds-chip_tree-end : goal.slice_bounds-chip_tree-end
-slice_bounds-chip_tree-end c = sym (length-take-le _ _ c.requires.0.fits.target-nodes)
-
-pub slice_bounds-map-end : goal.slice_bounds-map-end
-slice_bounds-map-end c = c.requires.0.images
-
-pub slice_bounds-images-end : goal.slice_bounds-images-end
-slice_bounds-images-end c = sym (length-take-le _ _ c.requires.0.images)
+use Rattle.script_run.proofs.serve.Goals.{then-over-eq0, else-over-eq0}
 
 pub loop-going-init : goal.loop-going-init
 loop-going-init c = (start _ _ _ _ _ _ _ _ _ c.requires.0.served c.requires.1, c.requires.2)
-
-pub offset_bounds-slots-i : goal.offset_bounds-slots-i
-offset_bounds-slots-i c = omega (arith, ltb-true c.loop-going.i 256 c.if-i-lt256.true)
-
-pub bounds-slots-i : goal.bounds-slots-i
-bounds-slots-i c = omega (arith, ltb-true c.loop-going.i 256 c.if-i-lt256.true)
-
-pub overflow_add-i : goal.overflow_add-i
-overflow_add-i c = omega (arith, ltb-true c.loop-going.i 256 c.if-i-lt256.true)
-
-pub loop-going-smaller-in-End : goal.loop-going-smaller-in-End
-loop-going-smaller-in-End c = omega (arith, ltb-true c.loop-going.i 256 c.if-i-lt256.true)
 
 pub loop-going-preserved-in-End : goal.loop-going-preserved-in-End
 loop-going-preserved-in-End c =
     let g = still _ _ _ _ _ _ _ _ _ _ _ _ _ _ _ c.loop-going-test.true c.loop-going.invariant.0 in
     (at-end _ _ _ _ _ _ _ _ _ _ _ _ _ _ _ c.if-i-lt256.true c.loop-going.invariant.1 g (sym c.call_read.ensures ∙ c.in-End.is), c.loop-going.invariant.1)
 
-pub loop-going-smaller-in-Refused : goal.loop-going-smaller-in-Refused
-loop-going-smaller-in-Refused c = omega (arith, ltb-true c.loop-going.i 256 c.if-i-lt256.true)
-
 pub loop-going-preserved-in-Refused : goal.loop-going-preserved-in-Refused
 loop-going-preserved-in-Refused c =
     let g = still _ _ _ _ _ _ _ _ _ _ _ _ _ _ _ c.loop-going-test.true c.loop-going.invariant.0 in
     (at_fault _ _ _ _ _ _ _ _ _ _ _ _ _ _ _ c.if-i-lt256.true c.loop-going.invariant.1 g _ _ _ _ (sym c.call_read.ensures ∙ c.in-Refused.is) c.put_no-end.ensures, c.loop-going.invariant.1)
-
-pub loop-going-smaller-in-Step : goal.loop-going-smaller-in-Step
-loop-going-smaller-in-Step c = omega (arith, ltb-true c.loop-going.i 256 c.if-i-lt256.true)
 
 pub loop-going-preserved-in-Step : goal.loop-going-preserved-in-Step
 loop-going-preserved-in-Step c =
     let g = still _ _ _ _ _ _ _ _ _ _ _ _ _ _ _ c.loop-going-test.true c.loop-going.invariant.0 in
     (rw c.extended-path.ensures (stepped _ _ _ _ _ _ _ _ _ _ _ _ _ _ _ c.if-i-lt256.true c.loop-going.invariant.1 g _ _ _ _ (sym c.call_read.ensures ∙ c.in-Call.is) c.in-Step.is _ c.loop-going-test.true), c.loop-going.invariant.1)
 
-pub loop-going-smaller-in-Push : goal.loop-going-smaller-in-Push
-loop-going-smaller-in-Push c = omega (arith, ltb-true c.loop-going.i 256 c.if-i-lt256.true)
-
 pub loop-going-preserved-in-Push : goal.loop-going-preserved-in-Push
 loop-going-preserved-in-Push c =
     let g = still _ _ _ _ _ _ _ _ _ _ _ _ _ _ _ c.loop-going-test.true c.loop-going.invariant.0 in
     let answered =
     push_turned _ _ _ _ _ _ (g.served refl) _ _ _ c.ended-whole.ensures _ (answer_of c.if-over-eq0.answer) _ c.if-over-eq0.chip c.push-drawn.ensures
-    (⊎_elim
-    (λ x. sent _ _ _ _ _ _ _ c.carry-over.ensures c.if-over-eq0.answer c.if-over-eq0.chip _ _ x.0.taken x.1.ensures x.3 x.4)
-    (λ x. unsent _ _ _ _ _ _ _ c.carry-over.ensures c.if-over-eq0.answer c.if-over-eq0.chip (g.served refl).in_step.mapped x.0.left x.1 x.2)
-    c.if-over-eq0.branch)
+    (elim c.if-over-eq0.branch [
+      | then-over-eq0 w ↦ sent _ _ _ _ _ _ _ c.carry-over.ensures c.if-over-eq0.answer c.if-over-eq0.chip _ _ w.if-over-eq0.true w.push-sent.ensures w.chip-is w.answer-is
+      | else-over-eq0 w ↦ unsent _ _ _ _ _ _ _ c.carry-over.ensures c.if-over-eq0.answer c.if-over-eq0.chip (g.served refl).in_step.mapped w.if-over-eq0.false w.chip-is w.answer-is
+    ])
     c.no_steps-path.result c.no_steps-path.ensures in
     (replied_on _ _ _ _ _ _ _ _ _ _ _ _ _ _ _ c.if-i-lt256.true c.loop-going.invariant.1 g _ _ _ (sym c.call_read.ensures ∙ c.in-Call.is) c.in-Push.is _ _ _ _ answered _ _ _ c.stops-going.ensures c.put_reply-end.ensures, c.loop-going.invariant.1)
-
-pub loop-going-smaller : goal.loop-going-smaller
-loop-going-smaller c = omega (arith, ltb-true c.loop-going.i 256 c.if-i-lt256.true)
 
 pub loop-going-preserved : goal.loop-going-preserved
 loop-going-preserved c =
@@ -88,14 +43,8 @@ loop-going-preserved c =
     let answered = pop_turned _ _ _ _ _ _ (g.served refl) _ _ _ _ c.pop-drawn.ensures.0 c.pop-taken.ensures.0 in
     (replied_on _ _ _ _ _ _ _ _ _ _ _ _ _ _ _ c.if-i-lt256.true c.loop-going.invariant.1 g _ _ _ (sym c.call_read.ensures ∙ c.in-Call.is) c.in-Pop.is _ _ _ _ answered _ _ _ c.stops-going-in-Pop.ensures c.put_reply-end-in-Pop.ensures, c.loop-going.invariant.1)
 
-pub shape_of-out-else-i-lt256 : goal.shape_of-out-else-i-lt256
-shape_of-out-else-i-lt256 c = puts_length c.loop-going.invariant.0.puts
-
 pub returns-else-i-lt256 : goal.returns-else-i-lt256
-returns-else-i-lt256 c = comes _ c.requires.0 _ _ _ _ _ _ _ _ _ c.loop-going.invariant.0 (inr (omega (arith, ltb-false c.loop-going.i 256 c.if-i-lt256.false, c.loop-going.invariant.1)))
-
-pub shape_of-out-after-loop-going : goal.shape_of-out-after-loop-going
-shape_of-out-after-loop-going c = puts_length c.loop-going.invariant.0.puts
+returns-else-i-lt256 c = comes _ c.requires.0 _ _ _ _ _ _ _ _ _ c.loop-going.invariant.0 (inr (omega (arith, c.loop-going.invariant.1)))
 
 pub returns-after-loop-going : goal.returns-after-loop-going
 returns-after-loop-going c = comes _ c.requires.0 _ _ _ _ _ _ _ _ _ c.loop-going.invariant.0 (inl c.loop-going-test.false)

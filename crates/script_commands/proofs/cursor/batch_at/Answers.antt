@@ -1,5 +1,4 @@
 use mathlib.Core.Path.{refl}
-use Prim.Native.Nat.{◌-◌}
 use native.Mathlib.Omega.{arith}
 use Rattle.script_commands.proofs.Batches.{filled_none, filled_more, filled_all}
 use Rattle.script_commands.proofs.cursor.batch_at.Goals as goal

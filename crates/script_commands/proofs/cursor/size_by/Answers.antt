@@ -1,6 +1,6 @@
 -- `size_by` meets its contract: the cases of the byte.
-use mathlib.Core.Path.{refl, sym}
-use Rattle.script_commands.proofs.FirstByte.{size_is, no_size}
+use mathlib.Core.Path.{refl}
+use Rattle.script_commands.proofs.FirstByte.{size_is}
 use Rattle.script_commands.proofs.cursor.size_by.Goals as goal
 
 pub returns-in-1 : goal.returns-in-1
@@ -29,6 +29,3 @@ returns-in-9 c = size_is _ 9 _ c.in-9.is refl
 
 pub returns-in-10 : goal.returns-in-10
 returns-in-10 c = size_is _ 10 _ c.in-10.is refl
-
-pub returns-in_default : goal.returns-in_default
-returns-in_default c = sym (no_size _ c.in_default-own.rest.0.0.0.0.0.0.0.0.1 c.in_default-own.rest.0.0.0.0.0.0.0.1 c.in_default-own.rest.0.0.0.0.0.0.1 c.in_default-own.rest.0.0.0.0.0.1 c.in_default-own.rest.0.0.0.0.1 c.in_default-own.rest.0.0.0.1 c.in_default-own.rest.0.0.1 c.in_default-own.rest.0.1 c.in_default-own.rest.1)

@@ -71,4 +71,4 @@ pub returns-in-Is-word_at-8 : goal.returns-in-Is-word_at-8
 returns-in-Is-word_at-8 c = wide-push-read _ _ _ _ _ _ _ c.in-10.is (word_there _ _ 4 _ _ c.word_at-in-10.ensures c.in-Is-word_at-6.is) (word_there _ _ 4 _ _ c.word_at-in-10-2.ensures c.in-Is-word_at-7.is) (word_there _ _ 4 _ _ c.word_at-in-10-3.ensures c.in-Is-word_at-8.is) c.wide_rank-in-10.ensures
 
 pub returns-in_default : goal.returns-in_default
-returns-in_default c = unknown _ _ _ (no_size _ c.in_default-own.rest.0.0.0.0.0.0.0.0.1 c.in_default-own.rest.0.0.0.0.0.0.0.1 c.in_default-own.rest.0.0.0.0.0.0.1 c.in_default-own.rest.0.0.0.0.0.1 c.in_default-own.rest.0.0.0.0.1 c.in_default-own.rest.0.0.0.1 c.in_default-own.rest.0.0.1 c.in_default-own.rest.0.1 c.in_default-own.rest.1)
+returns-in_default c = unknown _ _ _ (no_size c.args.code (omega arith) (omega arith) (omega arith) (omega arith) (omega arith) (omega arith) (omega arith) (omega arith) (omega arith))
