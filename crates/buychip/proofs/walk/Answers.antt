@@ -6,6 +6,6 @@ use Rattle.text.proofs.Written.{puts_length}
 use Rattle.buychip.proofs.walk.Goals as goal
 
 pub slice_bounds-print-end-2 : goal.slice_bounds-print-end-2
-slice_bounds-print-end-2 c =
+slice_bounds-print-end-2 g c =
     let puts = c.put_table-end.ensures.puts in
     sym (length-take-le _ _ (omega (arith, puts.next, puts_length puts)))
