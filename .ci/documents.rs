@@ -4,8 +4,8 @@
 //!     rustc --edition 2021 -o /tmp/documents .ci/documents.rs && /tmp/documents
 //!
 //! A file is cited by its path in backquotes, without the leading `crates/` and without the ending: `topology/specs/Tree` is
-//! crates/topology/specs/Tree.antt. A folder stands for the file with a fixed name in it: `topology/src` for lib.rt, `gatewalk/src` for main.rt,
-//! `topology/proofs/read` for Proof.antt. Names are cited as "`a`, `b` in `topology/specs/Tree`", or as "`a` in [words](path)".
+//! crates/topology/specs/Tree.antt. A folder stands for the files with a fixed name in it: `topology/src` for lib.rt, `gatewalk/src` for main.rt,
+//! `topology/proofs/read` for Invariants.antt and Answers.antt. Names are cited as "`a`, `b` in `topology/specs/Tree`", or as "`a` in [words](path)".
 
 use std::fs;
 use std::path::{Path, PathBuf};
@@ -34,7 +34,8 @@ fn files(folder: &Path, extensions: &[&str]) -> Vec<PathBuf> {
     for entry in fs::read_dir(folder).expect("a folder that is there") {
         let path = entry.expect("an entry of a folder").path();
         let name = path.file_name().unwrap_or_default().to_string_lossy();
-        if path.is_dir() && name != "target" && !name.starts_with(".git") {
+        let is_built = name == "target" || name == "out";
+        if path.is_dir() && !is_built && !name.starts_with(".git") {
             found.extend(files(&path, extensions));
         } else if extensions
             .iter()
@@ -91,13 +92,14 @@ fn check_document(document: &Path, faults: &mut Vec<String>) {
 }
 
 /// Whether a code span is a path of the repository: it has a `/` and no blank, and begins with a crate or with a folder of the repository, but not with
-/// target/. What goes on like a crate's path is one too, so that a crate that is not there is noticed.
+/// target/, and is not of a folder out/, which is built too. What goes on like a crate's path is one too, so that a crate that is not there is noticed.
 fn is_path(span: &str) -> bool {
     let parts: Vec<&str> = span.split('/').collect();
     let in_crate = ["src", "specs", "proofs", "must-fail"];
     parts.len() > 1
         && !span.contains(char::is_whitespace)
         && !["", "..", "target"].contains(&parts[0])
+        && !parts.contains(&"out")
         && (Path::new(parts[0]).is_dir()
             || Path::new("crates").join(parts[0]).is_dir()
             || in_crate.contains(&parts[1]))
@@ -112,11 +114,7 @@ fn file_of(span: &str) -> Result<PathBuf, String> {
         .filter(|path| path.exists())
         .collect();
     match found.as_slice() {
-        [path] => Ok(["lib.rt", "main.rt", "Proof.antt"]
-            .iter()
-            .map(|name| path.join(name))
-            .find(|file| file.exists())
-            .unwrap_or(path.clone())),
+        [path] => Ok(path.clone()),
         [] => Err(format!("`{span}` is not there")),
         _ => Err(format!("`{span}` is the path of more than one file")),
     }
@@ -166,14 +164,24 @@ fn all_stand_in(names: &[&str], file: &Path) -> Result<(), String> {
     if names.is_empty() {
         return Ok(());
     }
-    if file.is_dir() {
+    let fixed = ["lib.rt", "main.rt", "Invariants.antt", "Answers.antt"];
+    let parts: Vec<PathBuf> = match file.is_dir() {
+        true => fixed.iter().map(|name| file.join(name)).collect(),
+        false => vec![file.to_path_buf()],
+    };
+    let texts: Vec<String> = parts
+        .iter()
+        .filter(|part| part.exists())
+        .map(|part| without_imports(&read(part)))
+        .collect();
+    if texts.is_empty() {
         return Err(format!(
             "`{}` is cited from a folder, {}",
             names[0],
             file.display()
         ));
     }
-    let text = without_imports(&read(file));
+    let text = texts.join("\n");
     match names.iter().find(|name| !stands_in(name, &text)) {
         Some(name) => Err(format!("`{name}` is not in {}", file.display())),
         None => Ok(()),
@@ -203,7 +211,7 @@ fn stands_in(name: &str, text: &str) -> bool {
 fn check_crates(faults: &mut Vec<String>) {
     let readme = read(Path::new("README.md"));
     for line in read(Path::new("crates.txt")).lines() {
-        let name = line.split(':').next().unwrap_or("");
+        let name = line.split([' ', ':']).next().unwrap_or("");
         if !line.starts_with('#') && !readme.contains(&format!("`{name}`")) {
             faults.push(format!("README.md: the crate `{name}` is missing"));
         }

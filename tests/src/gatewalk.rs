@@ -102,16 +102,16 @@ pub fn program() -> PathBuf {
     }
 }
 
-/// A program of that name, as `rt check` has made it.
+/// A program of that name, as `rt run` and `rt ci` make it.
 fn built(name: &str) -> PathBuf {
-    let folder = Path::new(env!("CARGO_MANIFEST_DIR")).join("../target/bin");
-    there(folder.join(name))
+    let folder = Path::new(env!("CARGO_MANIFEST_DIR")).join("../crates");
+    there(folder.join(name).join("out").join(name))
 }
 
 fn there(program: PathBuf) -> PathBuf {
     assert!(
         program.is_file(),
-        "{} is missing; run `rt check` first",
+        "{} is missing; `samples/build` builds it",
         program.display()
     );
     program

@@ -366,7 +366,7 @@ fn built(folder: &Folder) {
     }
     make(
         "crates.txt",
-        "base:\nlow: base io\ngatewalk: low  # a program\nother: base\n",
+        "base:\nlow: base io\ngatewalk: low  # a program\nother staticlib: base\n",
     );
     make("crates/base/src/lib.rt", "");
     make("crates/low/proofs/Law.antt", "");
@@ -376,9 +376,11 @@ fn built(folder: &Folder) {
     // The program answers by the length of its script, so that two scripts differ.
     let program = "#!/bin/sh\\necho map 0\\necho in $(wc -c)\\n";
     let kit = format!(
-        "#!/bin/sh\necho called >> calls\n[ ! -e broken ] || {{ echo 'rt: FAILED: gatewalk'; exit 1; }}\n\
-         mkdir -p target/bin target/stamp\nprintf '{program}' > target/bin/gatewalk\nchmod +x target/bin/gatewalk\n\
-         touch target/stamp/gatewalk\necho 'rt: gatewalk proved (1 s)'\n"
+        "#!/bin/sh\necho called >> ../../calls\n[ \"$*\" = run ] || exit 1\n\
+         [ ! -e ../../broken ] || {{ echo 'rt: FAILED: gatewalk' >&2; exit 1; }}\n\
+         mkdir -p out\nprintf '{program}' > out/gatewalk\nchmod +x out/gatewalk\n\
+         echo 'rt: gatewalk proved (1 s)' >&2\n\
+         echo 'rt: running out/gatewalk; to give it other input, run that file yourself' >&2\nout/gatewalk\n"
     );
     executable(&make("kit/rt", &kit));
     let path = format!(

@@ -16,12 +16,12 @@ loop-i-preserved c =
     let taken = c.loop-i-test.true in (
       omega (arith, taken),
       length-set loop.out loop.i _ ∙ loop.invariant.1,
-      copy_next args.t1 args.out.now loop.out loop.i loop.invariant.2 (omega (arith, taken)) (omega (arith, taken, pre)),
+      copy_next args.map args.out.now loop.out loop.i loop.invariant.2 (omega (arith, taken)) (omega (arith, taken, pre)),
     )
 
 pub returns : goal.returns
 returns c =
     let loop = c.loop-i in
     let args = c.args in
-    copy_end args.t1 args.out.now loop.out loop.i loop.invariant.2 (omega (arith, loop.invariant.0, c.loop-i-test.false))
+    copy_end args.map args.out.now loop.out loop.i loop.invariant.2 (omega (arith, loop.invariant.0, c.loop-i-test.false))
     (omega arith)

@@ -9,9 +9,9 @@ loop-i-init c = fill_none entry_of _ 2304 (omega arith) _ (omega arith)
 
 pub loop-i-preserved : goal.loop-i-preserved
 loop-i-preserved c =
-    fill_more entry_of c.args.t1 2304 (omega arith) _ _ _ _ c.loop-i.invariant c.loop-i-test.true
+    fill_more entry_of c.args.plain 2304 (omega arith) _ _ _ _ c.loop-i.invariant c.loop-i-test.true
     c.entry_of.ensures
 
 pub returns : goal.returns
 returns c =
-    fill_all entry_of c.args.t1 2304 (omega arith) _ _ c.loop-i.invariant c.loop-i-test.false
+    fill_all entry_of c.args.plain 2304 (omega arith) _ _ c.loop-i.invariant c.loop-i-test.false

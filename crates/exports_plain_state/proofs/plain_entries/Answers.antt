@@ -9,9 +9,9 @@ loop-i-init c = fill_none plain_entry _ 2304 (omega arith) _ (omega arith)
 
 pub loop-i-preserved : goal.loop-i-preserved
 loop-i-preserved c =
-    fill_more plain_entry c.args.t1 2304 (omega arith) _ _ _ _ c.loop-i.invariant c.loop-i-test.true
+    fill_more plain_entry c.args.entries 2304 (omega arith) _ _ _ _ c.loop-i.invariant c.loop-i-test.true
     c.plain_entry.ensures
 
 pub returns : goal.returns
 returns c =
-    fill_all plain_entry c.args.t1 2304 (omega arith) _ _ c.loop-i.invariant c.loop-i-test.false
+    fill_all plain_entry c.args.entries 2304 (omega arith) _ _ c.loop-i.invariant c.loop-i-test.false

@@ -4,4 +4,4 @@ use lib.ListN.{length}
 use Rattle.exports_topology.proofs.linduvar_branch.Goals as goal
 
 pub returns : goal.returns
-returns c = (c.branch-part.ensures.0.0, ap length c.branch-part.ensures.0.1)
+returns c = (c.branch-part.ensures.refusal_after.0, ap length c.branch-part.ensures.refusal_after.1)

@@ -10,10 +10,10 @@ pub returns-then-at-part : goal.returns-then-at-part
 returns-then-at-part c =
     let at = c.args.at in
     get_or_in c.branch-part.result.now at 0 255 c.if-at-part.true
-    ∙ ap (λ (l : List ℕ). get_or l at 255) c.branch-part.ensures.0.1
+    ∙ ap (λ (l : List ℕ). get_or l at 255) c.branch-part.ensures.refusal_after.1
 
 pub returns-else-at-part : goal.returns-else-at-part
 returns-else-at-part c =
     let at = c.args.at in
     sym (get_or-eq_default c.branch-part.result.now 255 c.if-at-part.false)
-    ∙ ap (λ (l : List ℕ). get_or l at 255) c.branch-part.ensures.0.1
+    ∙ ap (λ (l : List ℕ). get_or l at 255) c.branch-part.ensures.refusal_after.1
