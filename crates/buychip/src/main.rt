@@ -2,18 +2,18 @@
 // most, and writes the table.
 #![tactic(auto)]
 
-fn walk(input: &mut [u8], text: &mut [u8]) {
-    let n = io::read_full(0, input);
-    if text_stream::input_failed(n, input.len()) {
+fn walk(rt: &(impl Input + Print + Eprint), input: &mut [u8], text: &mut [u8]) {
+    let n = text_stream::read_full(rt, input);
+    if text_stream::input_failed(rt, n, input.len()) {
         return;
     }
     let end = regular_table::put_table(&input[..n], text);
-    text_stream::print(&text[..end]);
+    text_stream::print(rt, &text[..end]);
 }
 
 // The table fits: seven lines of at most 85 bytes (`table_fits` in regular_table/proofs/Lengths).
-fn main() {
+fn main(rt: HostRuntime) {
     let mut input = [0u8; 65536];
     let mut text = [0u8; 595];
-    walk(&mut input, &mut text);
+    walk(&rt, &mut input, &mut text);
 }

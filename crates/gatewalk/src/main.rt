@@ -2,18 +2,18 @@
 // script prints.
 #![tactic(auto)]
 
-fn walk(input: &mut [u8], text: &mut [u8]) {
-    let n = io::read_full(0, input);
-    if text_stream::input_failed(n, input.len()) {
+fn walk(rt: &(impl Input + Print + Eprint), input: &mut [u8], text: &mut [u8]) {
+    let n = text_stream::read_full(rt, input);
+    if text_stream::input_failed(rt, n, input.len()) {
         return;
     }
     let end = script_run::run(&input[..n], text);
-    text_stream::print(&text[..end]);
+    text_stream::print(rt, &text[..end]);
 }
 
 // The text fits: at most 13 bytes for each command, and 132 for a map (`output-fits` in script_run/proofs/Lengths).
-fn main() {
+fn main(rt: HostRuntime) {
     let mut input = [0u8; 65536];
     let mut text = [0u8; 852100];
-    walk(&mut input, &mut text);
+    walk(&rt, &mut input, &mut text);
 }

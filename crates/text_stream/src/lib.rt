@@ -1,30 +1,50 @@
 // A program's standard input and output, and what it says on standard error where they fail.
 #![tactic(auto)]
 
-const IN: i32 = 0;
+ghost use Rattle.std.specs.Prelude.{◌≤◌, length};
 
-const OUT: i32 = 1;
-
-const ERRORS: i32 = 2;
+use std::io::Read;
 
 // Writes a text, and an error message to standard error if it cannot all be written.
-pub fn print(text: &[u8]) {
-    if !io::write_all(OUT, text) {
-        io::write_all(ERRORS, b"cannot write all of the output\n");
+pub fn print(rt: &(impl Print + Eprint), text: &[u8]) {
+    if rt.write_all(text).is_err() {
+        say(rt, "cannot write all of the output\n");
     }
+}
+
+// Reads standard input until the buffer is full, the input ends or a read fails, and returns how many bytes it put at the start of the buffer. A read that
+// a signal interrupts counts as one that failed.
+pub fn read_full(rt: &impl Input, buffer: &mut [u8]) -> usize
+    ensures { result ≤ length buffer.new }
+{
+    let mut input = rt.reader();
+    let mut done = 0;
+    while done < buffer.len() {
+        match input.read(&mut buffer[done..]) {
+            Ok(0) | Err(_) => break,
+            Ok(n) => done += n,
+        }
+    }
+    done
 }
 
 // Whether standard input failed before its end, where `count` bytes were read into a buffer of `room` bytes; then it writes an error message to standard
 // error. At the end of the input a further read gives no byte. A directory, a closed input and one that does not wait for its bytes fail.
-pub fn input_failed(count: usize, room: usize) -> bool {
+pub fn input_failed(rt: &(impl Input + Eprint), count: usize, room: usize) -> bool {
     if room <= count {
         return false;
     }
     let mut next = [0u8; 1];
-    let byte: &mut [u8] = &mut next;
-    if libc::read(IN, byte) == 0 {
-        return false;
+    match rt.reader().read(&mut next) {
+        Ok(0) => false,
+        _ => {
+            say(rt, "cannot read all of the input\n");
+            true
+        }
     }
-    io::write_all(ERRORS, b"cannot read all of the input\n");
-    true
+}
+
+// Writes an error message to standard error. Where that fails too, there is nowhere left to say so.
+fn say(rt: &impl Eprint, message: &str) {
+    let _ = rt.eprint(message);
 }
