@@ -103,7 +103,7 @@ pub fn program() -> PathBuf {
 }
 
 /// A program of that name, as `rt run` and `rt ci` make it.
-fn built(name: &str) -> PathBuf {
+pub fn built(name: &str) -> PathBuf {
     let folder = Path::new(env!("CARGO_MANIFEST_DIR")).join("../crates");
     there(folder.join(name).join("out").join(name))
 }

@@ -2,7 +2,7 @@
 //! scripts and compares all that they print. The first difference ends the run.
 
 use linduvar_tests::commands::{opening, push, step, POP};
-use linduvar_tests::gatewalk::{end, program, walk, walk_slowly};
+use linduvar_tests::gatewalk::{built, end, program, walk, walk_slowly};
 use linduvar_tests::paper::text;
 use linduvar_tests::random::{seeded, Random};
 use linduvar_tests::reached::Reached;
@@ -112,7 +112,10 @@ fn lost_streams() {
     assert_eq!(said, LOST);
     assert!(end(&[], "", 0).0.success());
     for name in ["gatewalk", "drawtrees", "buychip", "readtree"] {
-        let program = program().with_file_name(name);
+        let program = match name {
+            "gatewalk" => program(),
+            _ => built(name),
+        };
         let folder = File::open("/").expect("the root folder");
         let output = Command::new(program).stdin(folder).output().expect(name);
         assert!(
