@@ -237,11 +237,11 @@ diagnosis-number source target = by_outcome (outcome source target) ∙ outcome-
 
 -- The numbers of an answer are small.
 abbrev pub Small : ℕ → ℕ → Diagnosis → Type 0
-Small source_nodes_lem target_nodes_lem Loads = Unit
-Small source_nodes_lem target_nodes_lem (Refused n) = Unit
-Small source_nodes_lem target_nodes_lem (TooDeep node needed there) = (node ≤ source_nodes_lem) × (needed ≤ source_nodes_lem) × (there ≤ target_nodes_lem)
-Small source_nodes_lem target_nodes_lem (TooManyLeaves node needed there) = (node ≤ source_nodes_lem) × (needed ≤ source_nodes_lem) × (there ≤ target_nodes_lem)
-Small source_nodes_lem target_nodes_lem (NotTogether node) = node ≤ source_nodes_lem
+Small source_nodes target_nodes Loads = Unit
+Small source_nodes target_nodes (Refused n) = Unit
+Small source_nodes target_nodes (TooDeep node needed there) = (node ≤ source_nodes) × (needed ≤ source_nodes) × (there ≤ target_nodes)
+Small source_nodes target_nodes (TooManyLeaves node needed there) = (node ≤ source_nodes) × (needed ≤ source_nodes) × (there ≤ target_nodes)
+Small source_nodes target_nodes (NotTogether node) = node ≤ source_nodes
 
 leaves_most : (bytes : List ℕ) (n : ℕ) → leaves_under bytes n ≤ length bytes
 unfolding leaves branch_part

@@ -17,9 +17,10 @@ use Rattle.script_setup.specs.declared.Ending.{Ending}
 use Rattle.script_setup.specs.declared.Ending.TheVariants.{End as AtEnd, Refused as AtRefusal, Compile as AtCompile}
 use Rattle.script_setup.specs.declared.Gathered.{Gathered}
 use Rattle.script_setup.specs.Gathering.{Given, gather_by, gather_reads, limit_of, Gathers}
+use Rattle.script_setup.proofs.AddingBytes.{kept-fits}
 use Rattle.script_run.specs.Execute.{drawing, execute}
 use Rattle.script_run.specs.Output.{text_of, output}
-use Rattle.script_run.specs.InnerParts.{opening_text, start_by, start_text}
+use Rattle.script_run.specs.InnerParts.{opening_text, start_by, start_text, Fits}
 use Rattle.script_run.proofs.CompileCases.{kept-text}
 
 -- the text of an 04 in turn, with the limit that was given
@@ -69,6 +70,9 @@ module _ (g : Given) (r : Gathered) (w : Gathers g r) where
 
   starts : (text : List ℕ) → Said g text → text ≡ start_text r g.left
   starts text h = rw w.ending (by_ending g.ending text h)
+
+  pub gathered-fits : Fits r.drawing
+  gathered-fits = record { source_nodes = kept-fits _ _ _ _ w.draws.source; target_nodes = kept-fits _ _ _ _ w.draws.target }
 
 pub output_starts : (script : List ℕ) (r : Gathered) → Gathers (gather_reads (reads script 0) [] [] none) r
     → output script ≡ start_text r (gather_reads (reads script 0) [] [] none).left

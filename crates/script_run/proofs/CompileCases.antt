@@ -97,15 +97,15 @@ opened-comes d at f r w z before after end q p b =
       puts = rw b.ends q;
       ready = λ _. record {
         fits = rw b.drawing f;
-        images = rw (b.drawing, b.trees) (map-fits d.source (chip d) d.source_nodes d.limit f.source_nodes_lem r w z);
+        images = rw (b.drawing, b.trees) (map-fits d.source (chip d) d.source_nodes d.limit f.source_nodes r w z);
         served = rw (b.drawing, b.trees) (record {
-          in_step = opened_in_step d.source (chip d) d.source_nodes d.limit f.source_nodes_lem r w z;
+          in_step = opened_in_step d.source (chip d) d.source_nodes d.limit f.source_nodes r w z;
           few = rw b.steps (omega arith);
           plain = rw b.steps refl;
         });
       };
       follows = λ rest.
-          opened-text d.source (chip d) d.source_nodes d.limit f.source_nodes_lem r w z at rest
+          opened-text d.source (chip d) d.source_nodes d.limit f.source_nodes r w z at rest
           ∙ rw (b.goes, b.trees, b.steps) refl;
     }
 

@@ -1,14 +1,15 @@
 -- The invariant of the loop of `run`: the text written so far; while the script runs, what the code has, and that the text of the remaining reads
 -- completes the output; once it stops, the text is the output. `turn` is one batch.
 use mathlib.Core.Path.{◌≡◌, refl, sym, ap, ◌∙◌}
-use Prim.Native.Nat.{ℕ, zero, suc, ◌+◌, ◌-◌, ◌<◌}
+use Prim.Native.Nat.{ℕ, zero, suc, ◌+◌, ◌-◌, ◌≤◌, ◌<◌}
 use native.Mathlib.Omega.{arith}
 use mathlib.Core.List.{List, [], ◌∷◌, ◌++◌, append_assoc, append-nil}
 use mathlib.Core.Bool.{Bool, true, false, cond}
 use mathlib.Core.Option.{none}
 use lib.ListN.{length}
+use Rattle.base.proofs.Map.{length-map}
 use Rattle.text.specs.Text.{Puts}
-use Rattle.text.proofs.Written.{puts_as, puts_then}
+use Rattle.text.proofs.Written.{puts_length, puts_as, puts_then}
 use Rattle.script_commands.specs.declared.Read.{Read}
 use Rattle.script_commands.specs.declared.Read.TheVariants.{End, Next, Refused}
 use Rattle.script_commands.specs.declared.Slot.{Slot}
@@ -41,6 +42,14 @@ module _ (script : List ℕ) where
       by_read (Refused m offset) more = refl
       by_read (Next c offset) more = ap (printed (execute stage c).0 offset) (more (execute stage c).1)
 
+  -- a batch has as many slots as reads
+  pub slots_long : (slots : List Slot) (at : ℕ) → reads_of slots ≡ first_reads 256 script at → length slots ≡ 256
+  slots_long slots at e = sym (length-map (λ (s : Slot). s.read) slots) ∙ ap length e ∙ length_finds 256 at
+    where
+      length_finds : (n at : ℕ) → length (first_reads n script at) ≡ n
+      length_finds zero at = refl
+      length_finds (suc n) at = ap suc (length_finds n (next_at script at))
+
   module _ (before : List ℕ) where
     pub record Inv (n at : ℕ) (p : Progress) (out : List ℕ) : Type 0 where
       pub text : List ℕ
@@ -48,6 +57,12 @@ module _ (script : List ℕ) where
       pub ready : p.printed.going ≡ true → Ready p
       pub rest : text ++ cond p.printed.going (text_of (reads script at) (stage_in p)) [] ≡ output script
       pub enough : p.printed.going ≡ true → (length script < at + n) × (0 < n)
+
+    pub long : (n at : ℕ) (p : Progress) (out : List ℕ) → Inv n at p out → length out ≡ length before
+    long n at p out i = puts_length i.puts
+
+    pub room : (n at : ℕ) (p : Progress) (out : List ℕ) → Inv n at p out → p.printed.end ≤ length out
+    room n at p out i = omega (arith, i.puts.next, long n at p out i)
 
     pub over : (n at : ℕ) (p : Progress) (out : List ℕ) → Inv n at p out → p.printed.going ≡ false → Puts before 0 (output script) out p.printed.end
     over n at p out i f = puts_as (sym (rw f (append-nil i.text)) ∙ i.rest) i.puts

@@ -54,8 +54,8 @@ batch_text batch p rest = text_of (batch ++ rest) (stage_in p)
 
 -- the counts of a drawing are within its arrays
 pub record Fits (d : Drawing) : Type 0 where
-  pub source_nodes_lem : d.source_nodes ≤ length d.source
-  pub target_nodes_lem : d.target_nodes ≤ length d.target
+  pub source_nodes : d.source_nodes ≤ length d.source
+  pub target_nodes : d.target_nodes ≤ length d.target
 
 -- both trees are in step, for a drawing, a chip and the images of a map, and at most 8 steps are gathered
 pub record Served (source target images : List ℕ) (s t : State) (p : Path) : Type 0 where

@@ -38,14 +38,17 @@ module _ (array : List ℕ) (n most : ℕ) (bytes : List ℕ) (b : ℕ) (k : Kep
         are = k.are ∙ sym (take-append-le most bytes (b ∷ []) (omega (arith, k.some)));
       }
 
+pub kept-fits : (array : List ℕ) (n most : ℕ) (bytes : List ℕ) → Kept array n most bytes → n ≤ length array
+kept-fits array n most bytes k = omega (arith, k.long, k.some)
+
 none_kept : (array : List ℕ) (n most : ℕ) → length array ≡ most → n ≡ 0 → Kept array n most []
 none_kept array n most l e = record { long = l; some = omega arith; are = rw e (sym (take-nil most)) }
 
 pub undrawn : (d : Drawing) → Undrawn d → Draws d [] [] none
 undrawn d u =
     record {
-      source = none_kept d.source d.source_nodes 33 u.source u.source_nodes_lem;
-      target = none_kept d.target d.target_nodes 65 u.target u.target_nodes_lem;
+      source = none_kept d.source d.source_nodes 33 u.source u.source_nodes;
+      target = none_kept d.target d.target_nodes 65 u.target u.target_nodes;
       limit = rw u.limited refl;
     }
 

@@ -19,8 +19,9 @@ use Rattle.script_commands.proofs.ReadsFrom.{reads_by_lem, to_come, fewer}
 use Rattle.script_setup.specs.declared.Ending.{Ending}
 use Rattle.script_setup.specs.declared.Ending.TheVariants.{End as AtEnd, Refused as AtRefusal, Compile as AtCompile}
 use Rattle.script_setup.specs.declared.Drawing.{Drawing}
+use Rattle.script_setup.specs.declared.Gathered.{Gathered}
 use Rattle.script_setup.specs.declared.turns.Gathering.{Gathering}
-use Rattle.script_setup.specs.Gathering.{Given, ended, gather_by, gather_reads, limit_of, Draws, Gathers}
+use Rattle.script_setup.specs.Gathering.{Given, ended, gather_by, gather_reads, gathered, limit_of, Draws, Gathers}
 use Rattle.script_setup.specs.InnerTurns.{out_of_turn, stopped, in_turn, added}
 use Rattle.script_setup.specs.InnerAdding.{Undrawn, given}
 use Rattle.script_setup.proofs.AddingBytes.{undrawn, draws_source, draws_target, draws_limit}
@@ -120,3 +121,7 @@ begins script at g u =
       goes = λ _. record { source = []; target = []; limit = none; draws = undrawn g.gathered.drawing u.0; rest = refl; enough = omega arith; some = omega arith };
       over = λ q. absurd (clash (let z : true ≡ false = sym u.1 ∙ q in cc));
     }
+
+pub of_script : (script : List ℕ) (r : Gathered) → Gathers (gather_reads (reads script 0) [] [] none) r → Gathers (gathered script) r
+unfolding gathered
+of_script script r g = g

@@ -6,9 +6,9 @@ use Rattle.script_setup.specs.declared.Drawing.{Drawing}
 
 pub record Undrawn (d : Drawing) : Type 0 where
   pub source : length d.source ≡ 33
-  pub source_nodes_lem : d.source_nodes ≡ 0
+  pub source_nodes : d.source_nodes ≡ 0
   pub target : length d.target ≡ 65
-  pub target_nodes_lem : d.target_nodes ≡ 0
+  pub target_nodes : d.target_nodes ≡ 0
   pub limited : d.limited ≡ false
 
 unfoldable pub source_added : Drawing → ℕ → Drawing
