@@ -52,12 +52,12 @@ fn read(path: &Path) -> String {
     fs::read_to_string(path).unwrap_or_else(|error| panic!("{}: {error}", path.display()))
 }
 
-/// Backquotes divide a document, so that every second piece is a code span. The notes in docs/changes name files as they were then: of them only the
-/// links are checked.
+/// Backquotes divide a document, so that every second piece is a code span. The notes in docs/changes and docs/PORT.md name files as they were then: of
+/// them only the links are checked.
 fn check_document(document: &Path, faults: &mut Vec<String>) {
     let text = read(document);
     let pieces: Vec<&str> = text.split('`').collect();
-    let is_note = document.starts_with("./docs/changes");
+    let is_note = document.starts_with("./docs/changes") || document.ends_with("docs/PORT.md");
     for (index, line) in text.lines().enumerate() {
         if line.matches('`').count() % 2 == 1 {
             let place = index + 1;
