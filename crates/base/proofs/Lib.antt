@@ -10,3 +10,4 @@ pub mod Replicate
 pub mod Tabulate
 pub mod Set
 pub mod Sum
+pub mod Chains

@@ -43,9 +43,6 @@ pub below_all : (n : ℕ) (p : ℕ → Bool) → ((i : ℕ) → i < n → p i �
 below_all zero p f = refl
 below_all (suc n) p f = and_both (below_all n p (λ i h. f i (omega arith))) (f n (omega arith))
 
-pub all_false : (n : ℕ) (p : ℕ → Bool) (i : ℕ) → i < n → p i ≡ false → all n p ≡ false
-all_false n p i h e = sym (refuted (all n p) (λ q. false≢true (sym e ∙ all_below n p q i h)))
-
 pub all_cong : (n : ℕ) (p q : ℕ → Bool) → ((i : ℕ) → i < n → p i ≡ q i) → all n p ≡ all n q
 all_cong zero p q f = refl
 all_cong (suc n) p q f = rw (all_cong n p q (λ i h. f i (omega arith)), f n (omega arith))

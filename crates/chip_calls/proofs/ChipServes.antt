@@ -7,7 +7,13 @@ use native.Mathlib.Omega.{arith}
 use mathlib.Core.List.{List, []}
 use mathlib.Core.Bool.{Bool, true, false, cond}
 use mathlib.Core.Option.{Option, none, some}
+use Rattle.std.specs.Prelude.{Ok, Err, Some, None}
 use Rattle.base.specs.Refusals.{or_else}
+use Rattle.base.proofs.Tests.{clash}
+use Rattle.refusal.specs.Numbers.{number}
+use Rattle.refusal.specs.declared.Refusal.{Refusal}
+use Rattle.refusal.specs.declared.Refusal.TheVariants as r
+use Rattle.refusal.proofs.Numbers.{number-ne0}
 use Rattle.topology.specs.Tree.{Topo}
 use Rattle.topology.specs.Address.{addr}
 use Rattle.topology.specs.Reader.{fault, tree}
@@ -15,7 +21,7 @@ use Rattle.topology.proofs.Lookup.{valid_size}
 use Rattle.topology.proofs.Reader.{fault_wider}
 use Rattle.pifo_model.specs.Queue.{Rank}
 use Rattle.pifo_model.specs.Tree.{Step, path_fault, PTree, pop}
-use Rattle.pifo_model.specs.Machine.{Call, pushing, popping, Answer, accepted, refused, serve_pop}
+use Rattle.pifo_model.specs.Machine.{Call, pushing, popping, Answer, accepted, departed, refused, full, serve_pop}
 use Rattle.embedding_model.specs.Check.{list_fault, map_fault}
 use Rattle.embedding_model.specs.Rules.{image, Passes}
 use Rattle.embedding_model.proofs.MapFault.{map_fault_none}
@@ -28,8 +34,7 @@ use Rattle.queue_state.proofs.WellFormed.{formed}
 use Rattle.queue_push.specs.Calls.{steps_of}
 use Rattle.queue_push.specs.declared.Path.{Path}
 use Rattle.queue_pop.specs.Way.{way_of}
-use Rattle.queue_pop.specs.declared.Way.{Way}
-use Rattle.discipline_model.specs.Figure.{kind_at, rank_by, steps_down}
+use Rattle.discipline_model.specs.Figure.{kind_at, rank_by, steps_down, finishes_down, fits_down, with_finishes}
 use Rattle.discipline_model.specs.Scheduler.{Request, calling, pushing_to, is_leaf}
 use Rattle.discipline_model.specs.declared.Disciplines.{Disciplines}
 use Rattle.discipline_model.proofs.StepsDown.{steps_valid}
@@ -39,15 +44,16 @@ use Rattle.discipline_clock.proofs.NoDeparture.{clock_ill, clock_idle}
 use Rattle.discipline_path.specs.Plans.{Planned}
 use Rattle.discipline_path.specs.declared.Plan.{Plan}
 use Rattle.discipline_path.proofs.PlannedPush.{planned_call}
+use Rattle.tree_below.specs.Below.{PushesAlong, settled, PushesPlanned, Pops}
 use Rattle.tree_state.specs.declared.Tree.{Tree}
-use Rattle.tree_state.proofs.Schedules.{tree_with, learnt, ill_scheduled, called, no_leaf, late, taken, not_taken}
+use Rattle.tree_state.specs.Calls.{tree_with}
+use Rattle.tree_state.proofs.Schedules.{learnt, ill_scheduled, called, no_leaf, late, taken, not_taken}
 use Rattle.tree_state.proofs.Below.{push-learnt, refused-accepted}
 use Rattle.pair_step.specs.InStep.{ServesCarried}
 use Rattle.pair_step.proofs.InStep.{carried_follows}
 use Rattle.pair_schedule.specs.Chip.{image_rank}
 use Rattle.translator.specs.Carry.{carry_fault, Carries}
 use Rattle.translator.specs.PushesLand.{push_along}
-use Rattle.translator.specs.declared.Carried.{Carried}
 use Rattle.translator.proofs.Carries.{carry_none}
 use Rattle.translator.proofs.PushesLand.{carried_serves, refused_serves}
 use Rattle.chip_state.specs.Calls.{chip_refusal, serve_mapped, ChipServes}
@@ -108,14 +114,17 @@ module _ (source m : List ℕ) (t : Tree) where
       unfolding chip_refusal
       map-chip w = rw (valid, kept-formed source t n e z, w) (sym (map-number w))
 
-      -- refused by 6 to 11 or 26, tested after 18
-      pub map-refused : (k : ℕ) → k ≡ map_fault source (bytes s) m → k ≢ 0 → (q : Request Packet)
-          → ChipServes source m t q (refused (cond (well_formed s) k 18)) t
-      map-refused k f y q = by_form (well_formed s) refl
+      -- the answer for a refusal that is tested after 18
+      abbrev tested : Refusal → Answer Packet
+      tested f = refused (number (cond (well_formed s) f r.State))
+
+      -- refused by 6 to 11 or 26
+      pub map-refused : (f : Refusal) → number f ≡ map_fault source (bytes s) m → (q : Request Packet) → ChipServes source m t q (tested f) t
+      map-refused f h q = by_form (well_formed s) refl
         where
-          by_form : (w : Bool) → well_formed s ≡ w → ChipServes source m t q (refused (cond w k 18)) t
+          by_form : (w : Bool) → well_formed s ≡ w → ChipServes source m t q (refused (number (cond w f r.State))) t
           by_form false i = ill i q
-          by_form true w = ill_scheduled (chip_refusal source m) (serve_mapped source m) t q k (map-chip w ∙ sym f) y
+          by_form true w = ill_scheduled (chip_refusal source m) (serve_mapped source m) t q (number f) (map-chip w ∙ sym h) (number-ne0 f)
 
       -- ---- the map meets the rules, and the state is well formed
       module _ (w : well_formed s ≡ true) (p : map_fault source (bytes s) m ≡ 0) where
@@ -150,51 +159,53 @@ module _ (source m : List ℕ) (t : Tree) where
           by_fault (suc f) = refl
 
       -- ---- a push by path, whose path was carried over or refused
-      module _ (path : Path) (packet : Packet) (c : Carried) (o : Carries source (bytes s) m path c) where
+      module _ (path : Path) (packet : Packet) where
         abbrev request : Request Packet
         request = calling (push_along path packet)
 
-        push-below : (w : well_formed s ≡ true) → map_fault source (bytes s) m ≡ 0 → (a : Answer Packet) (r : State)
-            → ServesCarried S T m s (push_along path packet) a r → ChipServes source m t request a (tree_with r d)
-        push-below w p a r v =
-            by_call w p (push_along path packet) a r d v
-            (sym (ap (learnt S d (image_rank m (machine s))) (carried_follows S T m s (push_along path packet) a r w v).answer
+        push-below : (w : well_formed s ≡ true) → map_fault source (bytes s) m ≡ 0 → (a : Answer Packet) (u : State)
+            → ServesCarried S T m s (push_along path packet) a u → ChipServes source m t request a (tree_with u d)
+        push-below w p a u v =
+            by_call w p (push_along path packet) a u d v
+            (sym (ap (learnt S d (image_rank m (machine s))) (carried_follows S T m s (push_along path packet) a u w v).answer
             ∙ carried_learnt (steps_of path) path.leaf_rank packet))
             refl
 
-        pub path_refused : c.refusal ≢ 0 → ChipServes source m t request (refused (cond (well_formed s) c.refusal 18)) t
+        pub path_refused : (f : Refusal) → Carries source (bytes s) m path (Err f) → ChipServes source m t request (tested f) t
         unfolding carry_fault
-        path_refused y = by_map (map_fault source (bytes s) m) refl
+        path_refused f o = by_map (map_fault source (bytes s) m) refl
           where
-            by_form : (w : Bool) → well_formed s ≡ w → map_fault source (bytes s) m ≡ 0 → ChipServes source m t request (refused (cond w c.refusal 18)) t
+            by_form : (w : Bool) → well_formed s ≡ w → map_fault source (bytes s) m ≡ 0 → ChipServes source m t request (refused (number (cond w f r.State))) t
             by_form false i p = ill i request
-            by_form true w p =
-                push-below w p (refused c.refusal) s (refused_serves source (bytes s) m path c o p y s packet)
+            by_form true w p = push-below w p (refused (number f)) s (refused_serves source (bytes s) m path f o p s packet)
 
-            by_map : (f : ℕ) → map_fault source (bytes s) m ≡ f → ChipServes source m t request (refused (cond (well_formed s) c.refusal 18)) t
+            by_map : (k : ℕ) → map_fault source (bytes s) m ≡ k → ChipServes source m t request (tested f) t
             by_map zero p = by_form (well_formed s) refl p
-            by_map (suc f) p =
-                let same : c.refusal ≡ map_fault source (bytes s) m = o.refusal ∙ ap (λ (g : ℕ). or_else g (path_fault S (steps_of path))) p ∙ sym p in
-                map-refused c.refusal same y request
+            by_map (suc k) p = map-refused f (o.refusal ∙ ap (λ (g : ℕ). or_else g (path_fault S (steps_of path))) p ∙ sym p) request
 
-        pub path_carried : c.refusal ≡ 0 → (a : Answer Packet) (r : State) → Serves s (push_along c.path packet) a r
-            → ChipServes source m t request a (tree_with r d)
-        path_carried y a r v = by_form (well_formed s) refl
+        pub path_carried : (c : Path) → Carries source (bytes s) m path (Ok c) → (a : Answer Packet) (u : Tree) → PushesAlong t c packet a u
+            → ChipServes source m t request a u
+        path_carried c o a u g = rw g.after (by_form (well_formed s) refl)
           where
-            by_form : (w : Bool) → well_formed s ≡ w → ChipServes source m t request a (tree_with r d)
-            by_form false i = ill_call request (push_along c.path packet) a r d i v refl
+            by_form : (w : Bool) → well_formed s ≡ w → ChipServes source m t request a (tree_with g.state d)
+            by_form false i = ill_call request (push_along c packet) a g.state d i g.below refl
             by_form true w =
-                push-below w (carry_none source (bytes s) m (steps_of path) (sym o.refusal ∙ y)).0 a r
-                (carried_serves source (bytes s) m path c o y s packet a r v)
+                push-below w (carry_none source (bytes s) m (steps_of path) (sym o.refusal)).0 a g.state
+                (carried_serves source (bytes s) m path c o s packet a g.state g.below)
 
       -- ---- a pop, which also answers its way
-      pub by_pop : map_fault source (bytes s) m ≡ 0 → (a : Answer Packet) (r : State) (way : Way) (after : Disciplines) → Serves s popping a r → way ≡ way_of s
-          → after ≡ clocked d source way m → ChipServes source m t (calling popping) a (tree_with r after)
+      pub by_pop : map_fault source (bytes s) m ≡ 0 → (a : Answer Packet) (u : Tree) → Pops t source m a u → ChipServes source m t (calling popping) a u
       unfolding machine
-      by_pop p a r way after v f h = by_form (well_formed s) refl
+      by_pop p a u o = rw o.after (by_form (well_formed s) refl)
         where
+          v : Serves s popping a o.state
+          v = o.below
+
+          after : Disciplines
+          after = clocked d source (way_of s) m
+
           k : after ≡ clocked d source (way_of s) m
-          k = h ∙ ap (λ (x : Way). clocked d source x m) f
+          k = refl
 
           learns : (w : well_formed s ≡ true) (o : Option (Packet × PTree Packet)) → pop (tree_of s) ≡ o
               → after ≡ learnt S d (image_rank m (machine s)) (serve_pop (machine s) o).0
@@ -205,10 +216,10 @@ module _ (source m : List ℕ) (t : Tree) where
               clock_after source wide d (way_of s) m (image_rank m (machine s)) after (omega (arith, E.long, nodes))
               (λ n l kept. rank_way s (image m n) w (E.within n (omega (arith, nodes)) kept)) k
 
-          by_form : (w : Bool) → well_formed s ≡ w → ChipServes source m t (calling popping) a (tree_with r after)
-          by_form false i = ill_call (calling popping) popping a r after i v (k ∙ clock_ill s d source m i)
+          by_form : (w : Bool) → well_formed s ≡ w → ChipServes source m t (calling popping) a (tree_with o.state after)
+          by_form false i = ill_call (calling popping) popping a o.state after i v (k ∙ clock_ill s d source m i)
           by_form true w =
-              by_call w p popping a r after v
+              by_call w p popping a o.state after v
               (learns w (pop (tree_of s)) refl ∙ ap (learnt S d (image_rank m (machine s))) (sym (v.answer w)))
               (ap (λ (x : Disciplines). x.rules) k)
 
@@ -217,27 +228,18 @@ module _ (source m : List ℕ) (t : Tree) where
         abbrev to_leaf : Request Packet
         to_leaf = pushing_to leaf class len packet
 
-        pub not_a_leaf : (l : Bool) → (fault 64 source ≡ 0 → l ≡ is_leaf S leaf) → l ≡ false → (k : ℕ) → k ≡ or_else (map_fault source (bytes s) m) 25
-            → ChipServes source m t to_leaf (refused (cond (well_formed s) k 18)) t
-        not_a_leaf l is f k number_is = by_map (map_fault source (bytes s) m) refl
+        pub not_a_leaf : (l : Bool) → (fault 64 source ≡ 0 → l ≡ is_leaf S leaf) → l ≡ false → 0 ≡ map_fault source (bytes s) m
+            → ChipServes source m t to_leaf (tested r.NoLeaf) t
+        not_a_leaf l is f p = by_form (well_formed s) refl
           where
-            by_form : (w : Bool) → well_formed s ≡ w → map_fault source (bytes s) m ≡ 0 → ChipServes source m t to_leaf (refused (cond w 25 18)) t
-            by_form false i p = ill i to_leaf
-            by_form true w p =
-                no_leaf S (serve_carried S T m) (image_rank m) (chip_refusal source m) (serve_mapped source m) t (ok w p) (chip_is source m t) leaf class len packet
-                (sym (is wide) ∙ f)
-
-            by_map : (g : ℕ) → map_fault source (bytes s) m ≡ g → ChipServes source m t to_leaf (refused (cond (well_formed s) k 18)) t
-            by_map zero p =
-                let number : k ≡ 25 = number_is ∙ ap (λ (g : ℕ). or_else g 25) p in
-                rw number (by_form (well_formed s) refl p)
-            by_map (suc g) p =
-                let number : k ≡ map_fault source (bytes s) m = number_is ∙ ap (λ (g : ℕ). or_else g 25) p ∙ sym p in
-                map-refused k number (λ y. omega (arith, number, p, y)) to_leaf
+            by_form : (w : Bool) → well_formed s ≡ w → ChipServes source m t to_leaf (refused (number (cond w r.NoLeaf r.State))) t
+            by_form false i = ill i to_leaf
+            by_form true w =
+                no_leaf S (serve_carried S T m) (image_rank m) (chip_refusal source m) (serve_mapped source m) t (ok w (sym p)) (chip_is source m t)
+                leaf class len packet (sym (is wide) ∙ f)
 
         module _ (l : Bool) (is : fault 64 source ≡ 0 → l ≡ is_leaf S leaf) (here : l ≡ true) (plan : Plan)
-            (planned : fault 64 source ≡ 0 → is_leaf S leaf ≡ true → Planned S d leaf class len plan)
-            (c : Carried) (o : Carries source (bytes s) m plan.path c) where
+            (planned : fault 64 source ≡ 0 → is_leaf S leaf ≡ true → Planned S d leaf class len plan) where
           at_leaf : is_leaf S leaf ≡ true
           at_leaf = sym (is wide) ∙ here
 
@@ -258,54 +260,75 @@ module _ (source m : List ℕ) (t : Tree) where
               steps_in (pushing ss x y) = ss
               steps_in popping = []
 
-          pub leaf-refused : c.refusal ≢ 0 → ChipServes source m t to_leaf (refused (cond (well_formed s) c.refusal 18)) t
+          pub leaf-refused : (f : Refusal) → Carries source (bytes s) m plan.path (Err f) → ChipServes source m t to_leaf (tested f) t
           unfolding carry_fault
-          leaf-refused y = map-refused c.refusal (by_map (map_fault source (bytes s) m) refl) y to_leaf
+          leaf-refused f o = map-refused f (by_map (map_fault source (bytes s) m) refl) to_leaf
             where
-              by_map : (f : ℕ) → map_fault source (bytes s) m ≡ f → c.refusal ≡ map_fault source (bytes s) m
+              by_map : (k : ℕ) → map_fault source (bytes s) m ≡ k → number f ≡ map_fault source (bytes s) m
               by_map zero p =
                   let none = ap (path_fault S) steps_of_lem ∙ steps_valid S d class leaf at_leaf in
-                  absurd (y (o.refusal ∙ ap (λ (g : ℕ). or_else g (path_fault S (steps_of plan.path))) p ∙ none))
-              by_map (suc f) p = o.refusal ∙ ap (λ (g : ℕ). or_else g (path_fault S (steps_of plan.path))) p ∙ sym p
+                  absurd (number-ne0 f (o.refusal ∙ ap (λ (g : ℕ). or_else g (path_fault S (steps_of plan.path))) p ∙ none))
+              by_map (suc k) p = o.refusal ∙ ap (λ (g : ℕ). or_else g (path_fault S (steps_of plan.path))) p ∙ sym p
 
-          module _ (y : c.refusal ≡ 0) (a : Answer Packet) (r : State) (v : Serves s (push_along c.path packet) a r) where
+          finish_by : (b : Bool) → fits_down S d len 0 (addr S leaf) ≡ b
+              → plan.finish ≡ cond b (Some (finishes_down S d len 0 (addr S leaf) d.finish)) None
+          finish_by b e = the_plan.finish ∙ ap (λ (b : Bool). cond b (Some (finishes_down S d len 0 (addr S leaf) d.finish)) None) e
+
+          module _ (c : Path) (o : Carries source (bytes s) m plan.path (Ok c)) where
             mapped : map_fault source (bytes s) m ≡ 0
-            mapped = (carry_none source (bytes s) m (steps_of plan.path) (sym o.refusal ∙ y)).0
+            mapped = (carry_none source (bytes s) m (steps_of plan.path) (sym o.refusal)).0
 
-            carried : ServesCarried S T m s below_call a r
-            carried =
-                subst (λ (x : Call Packet). ServesCarried S T m s x a r) same_call
-                (carried_serves source (bytes s) m plan.path c o y s packet a r v)
+            module _ (a : Answer Packet) (u : State) (v : Serves s (push_along c packet) a u) where
+              carried : ServesCarried S T m s below_call a u
+              carried =
+                  subst (λ (x : Call Packet). ServesCarried S T m s x a u) same_call
+                  (carried_serves source (bytes s) m plan.path c o s packet a u v)
 
-            taken-formed : (h : ℕ) → a ≡ accepted h → well_formed s ≡ true
-            taken-formed h e = by_form (well_formed s) refl
+              accepted-formed : (h : ℕ) → a ≡ accepted h → well_formed s ≡ true
+              accepted-formed h e = by_form (well_formed s) refl
+                where
+                  by_form : (w : Bool) → well_formed s ≡ w → w ≡ true
+                  by_form true _ = refl
+                  by_form false i = absurd (refused-accepted (sym (v.ill i) ∙ e))
+
+              leaf_late : (h : ℕ) → a ≡ accepted h → well_formed s ≡ true → fits_down S d len 0 (addr S leaf) ≡ false
+                  → ChipServes source m t to_leaf (refused 23) t
+              leaf_late h e w f =
+                  late S (serve_carried S T m) (image_rank m) (chip_refusal source m) (serve_mapped source m) t (ok w mapped) (chip_is source m t)
+                  leaf class len packet at_leaf a u (below_carried S T m s below_call a u w carried) h e f
+
+              leaf-taken : (h : ℕ) → a ≡ accepted h → well_formed s ≡ true → fits_down S d len 0 (addr S leaf) ≡ true
+                  → ChipServes source m t to_leaf a (tree_with u (with_finishes d (finishes_down S d len 0 (addr S leaf) d.finish)))
+              leaf-taken h e w f =
+                  let after = with_finishes d (finishes_down S d len 0 (addr S leaf) d.finish) in
+                  taken S (serve_carried S T m) (image_rank m) (chip_refusal source m) (serve_mapped source m) t (ok w mapped) (chip_is source m t)
+                  leaf class len packet at_leaf a u (below_carried S T m s below_call a u w carried) h e f after refl
+                  (after_call w mapped below_call a u after carried refl (v.formed w))
+
+              leaf_rest : ((h : ℕ) → a ≡ accepted h → ⊥) → ChipServes source m t to_leaf a (tree_with u d)
+              leaf_rest n = by_form (well_formed s) refl
+                where
+                  by_form : (w : Bool) → well_formed s ≡ w → ChipServes source m t to_leaf a (tree_with u d)
+                  by_form false i = ill_call to_leaf (push_along c packet) a u d i v refl
+                  by_form true w =
+                      not_taken S (serve_carried S T m) (image_rank m) (chip_refusal source m) (serve_mapped source m) t (ok w mapped) (chip_is source m t)
+                      leaf class len packet at_leaf a u (below_carried S T m s below_call a u w carried) n
+                      (after_call w mapped below_call a u d carried refl (v.formed w))
+
+            -- the push that the plan asks for, by the answer below
+            leaf_settled : (a : Answer Packet) (u : State) → Serves s (push_along c packet) a u
+                → let x = settled t plan.finish a u in ChipServes source m t to_leaf x.0 x.1
+            leaf_settled (accepted h) u v = by_fits (accepted-formed (accepted h) u v h refl) (fits_down S d len 0 (addr S leaf)) refl
               where
-                by_form : (w : Bool) → well_formed s ≡ w → w ≡ true
-                by_form true _ = refl
-                by_form false i = absurd (refused-accepted (sym (v.ill i) ∙ e))
+                by_fits : well_formed s ≡ true → (b : Bool) → fits_down S d len 0 (addr S leaf) ≡ b
+                    → let x = settled t plan.finish (accepted h) u in ChipServes source m t to_leaf x.0 x.1
+                by_fits w true e = rw (finish_by true e) (leaf-taken (accepted h) u v h refl w e)
+                by_fits w false e = rw (finish_by false e) (leaf_late (accepted h) u v h refl w e)
+            leaf_settled (departed x) u v = leaf_rest (departed x) u v (λ h e. clash (cc))
+            leaf_settled (refused x) u v = leaf_rest (refused x) u v (λ h e. clash (cc))
+            leaf_settled (full x k) u v = leaf_rest (full x k) u v (λ h e. clash (cc))
 
-            pub leaf_late : (h : ℕ) → a ≡ accepted h → plan.fits ≡ false → ChipServes source m t to_leaf (refused 23) t
-            leaf_late h e f =
-                let w = taken-formed h e in
-                late S (serve_carried S T m) (image_rank m) (chip_refusal source m) (serve_mapped source m) t (ok w mapped) (chip_is source m t) leaf class len packet
-                at_leaf a r (below_carried S T m s below_call a r w carried) h e (sym the_plan.fits ∙ f)
-
-            pub leaf-taken : (h : ℕ) → a ≡ accepted h → plan.fits ≡ true → (after : Disciplines)
-                → after ≡ record { rules = d.rules; virtual_time = d.virtual_time; finish = plan.finish }
-                → ChipServes source m t to_leaf a (tree_with r after)
-            leaf-taken h e f after k =
-                let w = taken-formed h e in
-                let whole = k ∙ ap (λ (fs : List Rank). record { rules = d.rules; virtual_time = d.virtual_time; finish = fs }) (the_plan.finish f) in
-                taken S (serve_carried S T m) (image_rank m) (chip_refusal source m) (serve_mapped source m) t (ok w mapped) (chip_is source m t) leaf class len packet
-                at_leaf a r (below_carried S T m s below_call a r w carried) h e (sym the_plan.fits ∙ f) after whole
-                (after_call w mapped below_call a r after carried (ap (λ (x : Disciplines). x.rules) k) (v.formed w))
-
-            pub leaf_rest : ((h : ℕ) → a ≡ accepted h → ⊥) → ChipServes source m t to_leaf a (tree_with r d)
-            leaf_rest n = by_form (well_formed s) refl
-              where
-                by_form : (w : Bool) → well_formed s ≡ w → ChipServes source m t to_leaf a (tree_with r d)
-                by_form false i = ill_call to_leaf (push_along c.path packet) a r d i v refl
-                by_form true w =
-                    not_taken S (serve_carried S T m) (image_rank m) (chip_refusal source m) (serve_mapped source m) t (ok w mapped) (chip_is source m t) leaf class len packet
-                    at_leaf a r (below_carried S T m s below_call a r w carried) n
-                    (after_call w mapped below_call a r d carried refl (v.formed w))
+            pub by_leaf : (a : Answer Packet) (u : Tree) → PushesPlanned t c plan.finish packet a u → ChipServes source m t to_leaf a u
+            by_leaf a u g =
+                let v = leaf_settled g.answer g.state g.below in
+                subst (λ (x : Answer Packet × Tree). ChipServes source m t to_leaf x.0 x.1) (sym g.outcome) v

@@ -1,2 +1,1 @@
-pub mod MapFault
 pub mod ChipServes

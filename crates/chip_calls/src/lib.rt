@@ -1,34 +1,38 @@
 // The calls on a chip's tree with disciplines (paper 02, 2.1), with a map of a drawing. The disciplines, and their faults, are those of the drawing's
 // nodes; the queues are the chip's. The drawing and the map are arguments of each call; the chip's own topology is in its state.
+//
+// The drawing and the map are two slices, as C gives them: a struct of both would be taken apart in each call, since what it calls takes the slices.
+// The first test of a call has no `?`: the call answers no Result but a `TreeServed`, which holds the tree too.
 #![tactic(auto)]
 
-ghost use Rattle.std.specs.Prelude.{◌≡◌};
-ghost use Rattle.base.specs.Refusals.{or_else};
+ghost use Rattle.std.specs.Prelude.{◌≡◌, cond};
+ghost use Rattle.refusal.specs.declared.Refusal.TheVariants as r;
 ghost use Rattle.pifo_model.specs.Machine.{pushing, popping};
-ghost use Rattle.embedding_model.specs.Check.{map_fault};
+ghost use Rattle.queue_state.specs.State.{well_formed};
 ghost use Rattle.queue_state.specs.Calls.{answer_of};
+ghost use Rattle.queue_state.specs.declared.Answer.TheVariants as a;
 ghost use Rattle.queue_push.specs.Calls.{steps_of};
 ghost use Rattle.discipline_model.specs.Scheduler.{calling, pushing_to};
 ghost use Rattle.chip_state.specs.Calls.{ChipServes};
 
-use chip_counts::first_fault;
+use chip_counts::test_first;
 use discipline_check::is_leaf;
-use discipline_clock::after_pop;
-use discipline_model::Disciplines;
 use discipline_path::plan_to;
-use embedding_check::Checked;
+use embedding_check::check;
 use queue_counts::refused;
 use queue_push::Path;
 use queue_state::{Answer, Packet};
+use refusal::Refusal;
+use translator::carry;
 use tree_state::{Tree, TreeServed};
 
-// The refusal of a map, or `after` if the map passes.
-fn map_fault(source: &[u8], target: &[u8], map: &[u8], after: u8) -> u8
-    ensures { result ≡ or_else (map_fault source.now target.now map.now) after }
+// A refusal that is tested after 18, with the tree as it was.
+fn refuse(tree: Tree, refusal: Refusal) -> TreeServed
+    ensures { result ≡ record { tree = tree; answer = a.Refused (cond (well_formed tree.state) refusal r.State) } }
 {
-    match embedding_check::check(source, target, map) {
-        Checked::Passes => after,
-        Checked::Refused(number) => number,
+    TreeServed {
+        tree,
+        answer: Answer::Refused(refused(tree.state, refusal)),
     }
 }
 
@@ -37,38 +41,15 @@ fn map_fault(source: &[u8], target: &[u8], map: &[u8], after: u8) -> u8
 pub fn push(source: &[u8], map: &[u8], tree: Tree, path: Path, packet: Packet) -> TreeServed
     ensures { ChipServes source.now map.now tree (calling (pushing (steps_of path) path.leaf_rank packet)) (answer_of result.answer) result.tree }
 {
-    let state = tree.state;
-    let disciplines = tree.disciplines;
-    let frame = state.frame;
-    let topology = frame.topology;
-    let nodes = frame.nodes;
-    let rules = disciplines.rules;
-    let number = first_fault(source, nodes, rules);
-    if number != 0 {
+    if let Err(refusal) = test_first(source, &tree) {
         return TreeServed {
             tree,
-            answer: Answer::Refused(number),
+            answer: Answer::Refused(refusal),
         };
     }
-    let target = &topology[..nodes];
-    let carried = translator::carry(source, target, map, path);
-    let refusal = carried.refusal;
-    if refusal != 0 {
-        return TreeServed {
-            tree,
-            answer: refused(state, refusal),
-        };
-    }
-    let over = carried.path;
-    let served = queue_push::push(state, over, packet);
-    let after = served.state;
-    let answer = served.answer;
-    TreeServed {
-        tree: Tree {
-            state: after,
-            disciplines,
-        },
-        answer,
+    match carry(source, tree.state.bytes(), map, path) {
+        Ok(over) => tree_below::push_along(&tree, over, packet),
+        Err(refusal) => refuse(tree, refusal),
     }
 }
 
@@ -85,70 +66,23 @@ pub fn push_to_leaf(
 ) -> TreeServed
     ensures { ChipServes source.now map.now tree (pushing_to leaf class length packet) (answer_of result.answer) result.tree }
 {
-    let state = tree.state;
-    let disciplines = tree.disciplines;
-    let frame = state.frame;
-    let topology = frame.topology;
-    let nodes = frame.nodes;
-    let rules = disciplines.rules;
-    let number = first_fault(source, nodes, rules);
-    if number != 0 {
+    if let Err(refusal) = test_first(source, &tree) {
         return TreeServed {
             tree,
-            answer: Answer::Refused(number),
+            answer: Answer::Refused(refusal),
         };
     }
-    let target = &topology[..nodes];
+    let target = tree.state.bytes();
     if !is_leaf(source, leaf) {
-        let fault = map_fault(source, target, map, 25);
-        return TreeServed {
-            tree,
-            answer: refused(state, fault),
+        return match check(source, target, map) {
+            Ok(()) => refuse(tree, Refusal::NoLeaf),
+            Err(refusal) => refuse(tree, refusal),
         };
     }
-    let plan = plan_to(source, disciplines, leaf, class, length);
-    let drawn = plan.path;
-    let carried = translator::carry(source, target, map, drawn);
-    let refusal = carried.refusal;
-    if refusal != 0 {
-        return TreeServed {
-            tree,
-            answer: refused(state, refusal),
-        };
-    }
-    let along = carried.path;
-    let served = queue_push::push(state, along, packet);
-    let after = served.state;
-    let answer = served.answer;
-    match answer {
-        Answer::Accepted(_) => {
-            if !plan.fits {
-                return TreeServed {
-                    tree,
-                    answer: Answer::Refused(23),
-                };
-            }
-            let times = disciplines.virtual_time;
-            let finish = plan.finish;
-            TreeServed {
-                tree: Tree {
-                    state: after,
-                    disciplines: Disciplines {
-                        rules,
-                        virtual_time: times,
-                        finish,
-                    },
-                },
-                answer,
-            }
-        }
-        _ => TreeServed {
-            tree: Tree {
-                state: after,
-                disciplines,
-            },
-            answer,
-        },
+    let plan = plan_to(source, tree.disciplines, leaf, class, length);
+    match carry(source, target, map, plan.path) {
+        Ok(over) => tree_below::push_planned(&tree, over, plan.finish, packet),
+        Err(refusal) => refuse(tree, refusal),
     }
 }
 
@@ -157,37 +91,14 @@ pub fn push_to_leaf(
 pub fn pop(source: &[u8], map: &[u8], tree: Tree) -> TreeServed
     ensures { ChipServes source.now map.now tree (calling popping) (answer_of result.answer) result.tree }
 {
-    let state = tree.state;
-    let disciplines = tree.disciplines;
-    let frame = state.frame;
-    let topology = frame.topology;
-    let nodes = frame.nodes;
-    let rules = disciplines.rules;
-    let number = first_fault(source, nodes, rules);
-    if number != 0 {
+    if let Err(refusal) = test_first(source, &tree) {
         return TreeServed {
             tree,
-            answer: Answer::Refused(number),
+            answer: Answer::Refused(refusal),
         };
     }
-    let target = &topology[..nodes];
-    let mapped = map_fault(source, target, map, 0);
-    if mapped != 0 {
-        return TreeServed {
-            tree,
-            answer: refused(state, mapped),
-        };
-    }
-    let popped = queue_pop::pop(state);
-    let way = popped.way;
-    let served = popped.served;
-    let after = served.state;
-    let answer = served.answer;
-    TreeServed {
-        tree: Tree {
-            state: after,
-            disciplines: after_pop(disciplines, source, way, map),
-        },
-        answer,
+    match check(source, tree.state.bytes(), map) {
+        Ok(()) => tree_below::pop(&tree, source, map),
+        Err(refusal) => refuse(tree, refusal),
     }
 }

@@ -1,4 +1,4 @@
--- The first tests of a call on a chip's tree, which `first_fault` makes, case by case. If they refuse, their number is that of the whole call
+-- The first tests of a call on a chip's tree (`first_fault`), case by case. If they refuse, their number is that of the whole call
 -- (`first_number`). If not, the drawing is a tree, and only the chip's state can make the tree ill formed (`kept-formed`).
 use mathlib.Core.Path.{◌≡◌, refl, sym, ap, ◌∙◌}
 use mathlib.Core.Logic.{◌≢◌}
@@ -7,14 +7,15 @@ use native.Mathlib.Omega.{arith}
 use mathlib.Core.List.{List}
 use mathlib.Core.Bool.{Bool, true, false, ◌&&◌, cond}
 use lib.Dec.{eqb, leb}
-use borrow.Author.Tests.{leb-true, le-leb, lt-leb, ne_eqb}
+use borrow.Author.Tests.{leb-true, le-leb, lt-leb}
 use Rattle.base.specs.Refusals.{or_else}
-use Rattle.base.proofs.Refusals.{or_else_none, or_else_first}
+use Rattle.base.proofs.Refusals.{or_else_none}
 use Rattle.base.proofs.Tests.{and_parts}
-use Rattle.topology.specs.Reader.{fault, tree, reading}
-use Rattle.topology.specs.declared.Reading.{Reading}
-use Rattle.topology.specs.declared.Reading.TheVariants.{Tree as Read, Refused}
-use Rattle.topology.proofs.Cases.{read-tree, read-refused}
+use Rattle.std.specs.Prelude.{Result, is_ok}
+use Rattle.refusal.specs.Numbers.{number, number_of}
+use Rattle.refusal.specs.declared.Refusal.{Refusal}
+use Rattle.refusal.proofs.Numbers.{refused_first, is_ok-number}
+use Rattle.topology.specs.Reader.{fault, tree}
 use Rattle.topology.proofs.Reader.{fault_wider}
 use Rattle.queue_state.specs.State.{well_formed}
 use Rattle.queue_state.proofs.WellFormed.{formed}
@@ -24,33 +25,23 @@ use Rattle.tree_state.specs.Calls.{well_formed_by}
 use Rattle.tree_state.specs.declared.Tree.{Tree}
 use Rattle.chip_counts.specs.FirstFault.{first_fault}
 
--- ---- what `first_fault` answers
+-- ---- what the first tests answer
 
-module _ (source : List ℕ) (r : Reading) (e : r ≡ reading (fault 32 source)) (nodes : ℕ) (rules : List Rule) where
-  pub drawing-fault : (number : ℕ) → r ≡ Refused number → number ≡ first_fault source nodes rules
+module _ (source : List ℕ) (nodes : ℕ) (rules : List Rule) where
+  pub drawing-fault : (e : Refusal) → number e ≡ fault 32 source → number e ≡ first_fault source nodes rules
   unfolding first_fault
-  drawing-fault number q =
-      let f = read-refused (fault 32 source) r e number q in
-      f.0 ∙ or_else_first (fault 32 source) (cond (leb nodes 64 && eqb (rule_fault (tree source) rules) 0) 0 18) f.1
+  drawing-fault e h = refused_first e (fault 32 source) (cond (leb nodes 64 && eqb (rule_fault (tree source) rules) 0) 0 18) h
 
-  module _ (t : r ≡ Read) where
-    valid : fault 32 source ≡ 0
-    valid = read-tree (fault 32 source) r e t
-
+  module _ (valid : 0 ≡ fault 32 source) where
     pub too_many : 64 < nodes → 18 ≡ first_fault source nodes rules
     unfolding first_fault
-    too_many h = rw (valid, lt-leb nodes 64 h) refl
+    too_many h = rw (← valid, lt-leb nodes 64 h) refl
 
-    module _ (h : nodes ≤ 64) (f : ℕ) (is : fault 64 source ≡ 0 → f ≡ rule_fault (tree source) rules) where
-      judged : first_fault source nodes rules ≡ cond (eqb f 0) 0 18
-      unfolding first_fault
-      judged = rw (valid, le-leb nodes 64 h, sym (is (fault_wider 32 64 source (omega arith) valid))) refl
-
-      pub rules_fault : f ≢ 0 → 18 ≡ first_fault source nodes rules
-      rules_fault n = sym (judged ∙ ap (λ (b : Bool). cond b 0 18) (ne_eqb f 0 n))
-
-      pub no_fault : f ≡ 0 → 0 ≡ first_fault source nodes rules
-      no_fault z = sym (judged ∙ ap (λ (k : ℕ). cond (eqb k 0) 0 18) z)
+    pub judged : nodes ≤ 64 → (o : Result Unit Refusal) → (fault 64 source ≡ 0 → number_of o ≡ rule_fault (tree source) rules)
+        → first_fault source nodes rules ≡ cond (is_ok o) 0 18
+    unfolding first_fault
+    judged h o is =
+        rw (← valid, le-leb nodes 64 h, ← is_ok-number o (rule_fault (tree source) rules) (is (fault_wider 32 64 source (omega arith) (sym valid)))) refl
 
 -- ---- what follows for the tree
 

@@ -1,2 +1,1 @@
 pub mod ChipFault
-pub mod OpenedBoth

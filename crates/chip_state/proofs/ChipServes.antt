@@ -28,9 +28,9 @@ use Rattle.discipline_model.specs.declared.Disciplines.{Disciplines}
 use Rattle.pair_schedule.specs.Chip.{image_rank}
 use Rattle.pair_step.specs.InStep.{PushesCarried, ServesCarried}
 use Rattle.pair_step.proofs.InStep.{carried_follows}
-use Rattle.tree_state.specs.Calls.{scheduler_of, well_formed_by}
+use Rattle.tree_state.specs.Calls.{tree_with, scheduler_of, well_formed_by}
 use Rattle.tree_state.specs.declared.Tree.{Tree}
-use Rattle.tree_state.proofs.Schedules.{tree_with, Below}
+use Rattle.tree_state.proofs.Schedules.{Below}
 use Rattle.tree_state.proofs.Below.{serve_topology}
 use Rattle.chip_state.specs.Calls.{chip_refusal, serve_mapped}
 

@@ -1,10 +1,6 @@
 -- If no packet departs, the way is empty, and the disciplines stay as they were.
-use mathlib.Core.Path.{◌≡◌, refl, ap, ◌∙◌}
-use Prim.Native.Nat.{ℕ, suc}
-use mathlib.Core.List.{List, [], ◌∷◌}
-use mathlib.Core.Bool.{Bool, true, false, cond}
+use Rattle.std.proofs.Common.{◌≡◌, ℕ, suc, List, [], ◌∷◌, Bool, true, false, None, cond, eqb, refl, ap, ◌∙◌}
 use mathlib.Core.Option.{none}
-use lib.Dec.{eqb}
 use Rattle.pifo_model.specs.Queue.{Rank}
 use Rattle.pifo_model.specs.Tree.{pop}
 use Rattle.pifo_model.specs.Way.{way}
@@ -20,13 +16,13 @@ use Rattle.discipline_model.specs.declared.Rule.{Rule}
 use Rattle.discipline_model.specs.declared.Disciplines.{Disciplines}
 use Rattle.discipline_clock.specs.Clock.{times_by, with_times, clocked}
 
-times_none : (rules : List Rule) (n : ℕ) (bs l : List ℕ) (vs : List Rank) → times_by rules (λ _. none) n bs l vs ≡ vs
+times_none : (rules : List Rule) (n : ℕ) (bs l : List ℕ) (vs : List Rank) → times_by rules (λ _. None) n bs l vs ≡ vs
 times_none rules n [] l vs = refl
 times_none rules n (b ∷ bs) [] vs = refl
 times_none rules n (b ∷ bs) (a ∷ l) [] = refl
 times_none rules n (b ∷ bs) (a ∷ l) (v ∷ vs) = by_kind (eqb (acts_by b (kind_at rules n)) weighted) (times_none rules (suc n) bs l vs)
   where
-    by_kind : (w : Bool) → times_by rules (λ _. none) (suc n) bs l vs ≡ vs → cond w v v ∷ times_by rules (λ _. none) (suc n) bs l vs ≡ v ∷ vs
+    by_kind : (w : Bool) → times_by rules (λ _. None) (suc n) bs l vs ≡ vs → cond w v v ∷ times_by rules (λ _. None) (suc n) bs l vs ≡ v ∷ vs
     by_kind true e = ap (λ (x : List Rank). v ∷ x) e
     by_kind false e = ap (λ (x : List Rank). v ∷ x) e
 

@@ -19,7 +19,7 @@ use Rattle.pifo_model.specs.Queue.{Rank}
 use Rattle.discipline_model.specs.Figure.{weighted, kind_at, acts_at, finish, most_finish, finish_by, fits_by, finishes_down, fits_down}
 use Rattle.discipline_model.specs.declared.Disciplines.{Disciplines}
 use Rattle.discipline_model.proofs.ActsAt.{acts_passed}
-use Rattle.discipline_model.proofs.Route.{OnWay, way_on, way_from_lem, way_ind}
+use Rattle.discipline_model.proofs.Route.{OnWay, way_on, way_from, way_ind}
 
 by_length : (k c f : ℕ) (fs : List Rank) → length (finish_by k c f fs) ≡ length fs
 by_length k c f fs = by_test (eqb k weighted)
@@ -36,8 +36,8 @@ by_other k c f x fs h = by_test (eqb k weighted) refl
     by_test true e = get_or-set_other fs c x f 0 (λ q. h (eqb-true k weighted e) (sym q))
     by_test false e = refl
 
-fits_by_lem : (k f : ℕ) → (k ≡ weighted → f ≤ most_finish) → fits_by k f ≡ true
-fits_by_lem k f h = by_test (eqb k weighted) refl
+fits_weighted : (k f : ℕ) → (k ≡ weighted → f ≤ most_finish) → fits_by k f ≡ true
+fits_weighted k f h = by_test (eqb k weighted) refl
   where
     by_test : (b : Bool) → eqb k weighted ≡ b → cond b (leb f most_finish) true ≡ true
     by_test true e = le-leb f most_finish (h (eqb-true k weighted e))
@@ -67,7 +67,7 @@ module _ (t : Topo) (d : Disciplines) (len : ℕ) where
     finish_before : (x n : ℕ) (a : Addr) → n < size t → addr t leaf ≡ addr t n ++ a → x ≤ n → (fs : List Rank)
         → get_or (finishes_down t d len n a fs) x 0 ≡ get_or fs x 0
     finish_before x =
-        way_from_lem t leaf l (λ (n : ℕ) (a : Addr). x ≤ n → (fs : List Rank) → get_or (finishes_down t d len n a fs) x 0 ≡ get_or fs x 0) (λ h fs. refl)
+        way_from t leaf l (λ (n : ℕ) (a : Addr). x ≤ n → (fs : List Rank) → get_or (finishes_down t d len n a fs) x 0 ≡ get_or fs x 0) (λ h fs. refl)
         (λ n i a on rest h fs.
         let c = child_of t n i in
         let f = finish d n c len in
@@ -105,7 +105,7 @@ module _ (t : Topo) (d : Disciplines) (len : ℕ) where
         → fits_down t d len 0 (addr t leaf) ≡ true
     finishes_fit h =
         way_ind t leaf l (λ (n : ℕ) (a : Addr). fits_down t d len n a ≡ true) refl
-        (λ n i a on rest. and_both (fits_by_lem (acts_at t d.rules n) (finish d n (child_of t n i) len) (h n i on)) rest)
+        (λ n i a on rest. and_both (fits_weighted (acts_at t d.rules n) (finish d n (child_of t n i) len) (h n i on)) rest)
 
   -- the finishes fit from a passed node down exactly where they fit from its child down
   pub passed_fits : (n i : ℕ) (a : Addr) → width (subtree t n) ≡ 1 → fits_down t d len n (i ∷ a) ≡ fits_down t d len (child_of t n i) a

@@ -7,7 +7,6 @@ use Prim.Native.Nat.{ℕ, ◌≤◌}
 use native.Mathlib.Omega.{arith}
 use mathlib.Core.List.{List}
 use mathlib.Core.Bool.{Bool, true, false, cond}
-use Rattle.base.proofs.Tests.{clash}
 use Rattle.topology.specs.Tree.{Topo}
 use Rattle.topology.specs.Address.{Addr, addr}
 use Rattle.pifo_model.specs.Queue.{Rank}
@@ -33,7 +32,7 @@ module _ {P : Type 0} (s : Scheduler P) where
   pub path_leaves : (ss : List Step) (l : Rank) (p : P) → (serve_own s (calling (pushing ss l p))).1.disciplines ≡ s.disciplines
   path_leaves ss l p =
       let c = pushing ss l p in
-      by_answer (serve s.core c).0 (serve s.core c).1 (λ q e. let z = (departed_pop s.core c q e).0 in clash (cc))
+      by_answer (serve s.core c).0 (serve s.core c).1 (λ q e. let z = (departed_pop s.core c q e).0 in cc)
     where
       by_answer : (a : Answer P) (m : Machine P) → ((q : P) → a ≡ departed q → ⊥)
           → (called_by drawing s (rank_at s.core) (a, m)).1.disciplines ≡ s.disciplines
@@ -48,10 +47,10 @@ module _ {P : Type 0} (s : Scheduler P) where
     where
       by_answer : (a : Answer P) (m : Machine P) → let r = called_by drawing s (rank_at s.core) (a, m) in
           r.0 ≡ departed p → r.1.disciplines ≡ after_pop drawing s.disciplines (rank_at s.core)
-      by_answer (accepted h) m e = absurd (clash (cc))
+      by_answer (accepted h) m e = cc
       by_answer (departed q) m e = refl
-      by_answer (refused n) m e = absurd (clash (cc))
-      by_answer (full n c) m e = absurd (clash (cc))
+      by_answer (refused n) m e = cc
+      by_answer (full n c) m e = cc
 
   -- a push to a leaf: its push by path, the disciplines after it, and whether its finishes fit
   module _ (leaf class length : ℕ) (p : P) where
@@ -77,15 +76,15 @@ module _ {P : Type 0} (s : Scheduler P) where
         by_answer : (b : Bool) (a : Answer P) (m : Machine P) → let r = pushed_by s after b (a, m) in
             r.0 ≡ accepted h → (a ≡ accepted h) × (r.1 ≡ with m after)
         by_answer true (accepted n) m e = (e, refl)
-        by_answer false (accepted n) m e = absurd (clash (cc))
-        by_answer b (departed q) m e = absurd (clash (cc))
-        by_answer b (refused n) m e = absurd (clash (cc))
-        by_answer b (full n c) m e = absurd (clash (cc))
+        by_answer false (accepted n) m e = cc
+        by_answer b (departed q) m e = cc
+        by_answer b (refused n) m e = cc
+        by_answer b (full n c) m e = cc
 
         by_leaf : (b : Bool) → let r = cond b (pushed_by s after fits (serve s.core push)) (refused 25, s) in
             r.0 ≡ accepted h → ((serve s.core push).0 ≡ accepted h) × (r.1 ≡ with (serve s.core push).1 after)
         by_leaf true e = by_answer fits (serve s.core push).0 (serve s.core push).1 e
-        by_leaf false e = absurd (clash (cc))
+        by_leaf false e = cc
 
     pub finish-refused : (serve_own s (pushing_to leaf class length p)).0 ≡ refused 23
         → (fits ≡ false) × ((h : ℕ) × ((serve s.core push).0 ≡ accepted h))
@@ -93,11 +92,11 @@ module _ {P : Type 0} (s : Scheduler P) where
       where
         by_answer : (b : Bool) (a : Answer P) (m : Machine P) → number_of a ≤ 16 → (pushed_by s after b (a, m)).0 ≡ refused 23
             → (b ≡ false) × ((h : ℕ) × (a ≡ accepted h))
-        by_answer true (accepted n) m l e = absurd (clash (cc))
+        by_answer true (accepted n) m l e = cc
         by_answer false (accepted n) m l e = (refl, (n, refl))
-        by_answer b (departed q) m l e = absurd (clash (cc))
+        by_answer b (departed q) m l e = cc
         by_answer b (refused n) m l e = absurd (omega (arith, l, ap number_of e))
-        by_answer b (full n c) m l e = absurd (clash (cc))
+        by_answer b (full n c) m l e = cc
 
         by_leaf : (b : Bool) → (cond b (pushed_by s after fits (serve s.core push)) (refused 25, s)).0 ≡ refused 23
             → (fits ≡ false) × ((h : ℕ) × ((serve s.core push).0 ≡ accepted h))

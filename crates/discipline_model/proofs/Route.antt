@@ -24,14 +24,14 @@ way_on t to n i w =
 -- way, and so at the root. Q is a statement about a node and the rest of the address there.
 module _ (t : Topo) (to : ℕ) (l : to < size t) (Q : ℕ → Addr → Type 0) (end : Q to [])
     (up : (n i : ℕ) (a : Addr) → OnWay t to n i → Q (child_of t n i) a → Q n (i ∷ a)) where
-  pub way_from_lem : (n : ℕ) (a : Addr) → n < size t → addr t to ≡ addr t n ++ a → Q n a
-  way_from_lem n [] h e = subst (λ (m : ℕ). Q m []) (addr_inj t to n l h (e ∙ append-nil (addr t n))) end
-  way_from_lem n (i ∷ a) h e =
+  pub way_from : (n : ℕ) (a : Addr) → n < size t → addr t to ≡ addr t n ++ a → Q n a
+  way_from n [] h e = subst (λ (m : ℕ). Q m []) (addr_inj t to n l h (e ∙ append-nil (addr t n))) end
+  way_from n (i ∷ a) h e =
       let there = in_below t (addr t n) (i ∷ a) (subst (In t) e (addr_in t to l)) in
       let has : HasChild t n i = (h, there.0, there.1) in
       let on : addr t to ≡ addr t (child_of t n i) ++ a =
       e ∙ sym (append_assoc (addr t n) (i ∷ []) a) ∙ ap (λ (b : Addr). b ++ a) (sym (addr-child_of t n i has)) in
-      up n i a record { has = has; above = (a, on) } (way_from_lem (child_of t n i) a (child_of_lt t n i has) on)
+      up n i a record { has = has; above = (a, on) } (way_from (child_of t n i) a (child_of_lt t n i has) on)
 
   pub way_ind : Q 0 (addr t to)
-  way_ind = way_from_lem 0 (addr t to) (size_pos t) (rw (addr_root t))
+  way_ind = way_from 0 (addr t to) (size_pos t) (rw (addr_root t))

@@ -2,12 +2,17 @@
 -- start-time fair queueing, Figure 1 of document 002, with the children of a node as its flows. All lists are indexed by the node numbers of the
 -- drawing; the weight and the finish of a node are those that it has as a child of its parent. A node that is passed over (2.2) gives rank 0 and
 -- keeps nothing.
-use Rattle.std.specs.Prelude.{ℕ, zero, suc, ◌+◌, ◌*◌, ◌/◌, max, List, [], ◌∷◌, Bool, true, ◌&&◌, cond, get_or, set, replicate, eqb, leb, ltb}
+use Rattle.std.specs.Prelude.{ℕ, zero, suc, ◌+◌, ◌*◌, ◌/◌, max, List, [], ◌∷◌, get_or, set, replicate, Bool, true, ◌&&◌, cond, eqb, leb, ltb}
+use Rattle.std.specs.Prelude.{Result, Ok, Err}
 use Rattle.std.proofs.Math.Option.{Option, none, some}
 use Rattle.topology.specs.Tree.{Topo, width, size}
 use Rattle.topology.specs.Address.{Addr, subtree, child_of}
 use Rattle.pifo_model.specs.Queue.{Rank}
 use Rattle.pifo_model.specs.Tree.{Step, step}
+use Rattle.refusal.specs.declared.Refusal.{Refusal}
+use Rattle.refusal.specs.declared.Refusal.TheVariants.{Rules}
+use Rattle.discipline_model.specs.declared.Discipline.{Discipline}
+use Rattle.discipline_model.specs.declared.Discipline.TheVariants.{Arrival, Strict, Weighted}
 use Rattle.discipline_model.specs.declared.Rule.{Rule}
 use Rattle.discipline_model.specs.declared.Disciplines.{Disciplines}
 
@@ -20,6 +25,19 @@ strict = 1
 
 abbrev pub weighted : ℕ
 weighted = 2
+
+abbrev pub number : Discipline → ℕ
+number Arrival = arrival
+number Strict = strict
+number Weighted = weighted
+
+-- the discipline that a number names, or the refusal 24
+abbrev pub named : ℕ → Result Discipline Refusal
+named k = cond (eqb k arrival) (Ok Arrival) (cond (eqb k strict) (Ok Strict) (cond (eqb k weighted) (Ok Weighted) (Err Rules)))
+
+-- the discipline by which number k acts: a number that names none acts as arrival does
+abbrev pub discipline_of : ℕ → Discipline
+discipline_of k = cond (eqb k weighted) Weighted (cond (eqb k strict) Strict Arrival)
 
 abbrev pub no_rule : Rule
 no_rule = record { discipline = arrival; weight = 0 }

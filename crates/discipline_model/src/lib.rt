@@ -3,19 +3,38 @@
 #![tactic(auto)]
 
 ghost use Rattle.std.specs.Prelude.{◌≡◌};
-ghost use Rattle.discipline_model.specs.Figure.{acts_by};
+ghost use Rattle.discipline_model.specs.Figure.{acts_by, named, discipline_of};
 
 use queue_state::Rank;
+use refusal::Refusal;
 
-// A discipline by its number: arrival gives rank 0, strict the packet's class, weighted the start of Figure 1 of document 002. Any other number
-// names none.
-pub const ARRIVAL: u8 = 0;
+#[derive(Clone, Copy, PartialEq, Eq)]
+pub enum Discipline {
+    // Gives rank 0.
+    Arrival,
+    // Gives the packet's class.
+    Strict,
+    // Gives the start of Figure 1 of document 002.
+    Weighted,
+}
 
-pub const STRICT: u8 = 1;
+// The discipline that a number names; a number that names none is refused by 24.
+impl TryFrom<u8> for Discipline {
+    type Error = Refusal;
 
-pub const WEIGHTED: u8 = 2;
+    ghost try_from_gives = { λ number outcome. outcome ≡ named number };
 
-// A node's discipline, and its weight as a child of its parent.
+    fn try_from(number: u8) -> Result<Discipline, Refusal> {
+        match number {
+            0 => Ok(Discipline::Arrival),
+            1 => Ok(Discipline::Strict),
+            2 => Ok(Discipline::Weighted),
+            _ => Err(Refusal::Rules),
+        }
+    }
+}
+
+// The number of a node's discipline, as C writes it (`Discipline`), and its weight as a child of its parent.
 #[repr(C)]
 #[derive(Clone, Copy)]
 pub struct Rule {
@@ -23,7 +42,8 @@ pub struct Rule {
     pub weight: u8,
 }
 
-// All by node of the drawing: the rules, the virtual time of each node, and the last finish of each node as a child of its parent.
+// All by node of the drawing: the rules, the virtual time of each node, and the last finish of each node as a child of its parent. They are three
+// arrays, as C has them.
 #[repr(C)]
 #[derive(Clone, Copy)]
 pub struct Disciplines {
@@ -32,12 +52,14 @@ pub struct Disciplines {
     pub finish: [Rank; 64],
 }
 
-// The discipline by which a node with `children` children acts: arrival for a node with one child, which is passed over (2.2), else its own.
-pub fn acting(children: u8, discipline: u8) -> u8
-    ensures { result ≡ acts_by children discipline }
+// The discipline by which a node with `children` children acts: arrival for a node with one child, which is passed over (2.2), else that of its own
+// number, or arrival if the number names none.
+// It takes the number, as a `Rule` for C has it: a `Discipline` in its place would ask more of callers.
+pub fn acting(children: u8, discipline: u8) -> Discipline
+    ensures { result ≡ discipline_of (acts_by children discipline) }
 {
     if children == 1 {
-        return ARRIVAL;
+        return Discipline::Arrival;
     }
-    discipline
+    Discipline::try_from(discipline).unwrap_or(Discipline::Arrival)
 }

@@ -1,3 +1,2 @@
-pub mod ShareOf
 pub mod PlanTo
 pub mod PlannedPush

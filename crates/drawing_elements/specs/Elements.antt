@@ -1,6 +1,10 @@
 -- The elements of a sheet, each a template and its numbers, and the sheets that show no tree. A unit of length is a quarter of a millimetre.
-use Rattle.std.specs.Prelude.{ℕ, ◌+◌, ◌*◌, Bool, true, false, cond, List, [], ◌∷◌, ◌++◌, eqb, leb}
+use Rattle.std.specs.Prelude.{ℕ, ◌+◌, ◌*◌, cond, List, [], ◌∷◌, ◌++◌, eqb, leb}
 use Rattle.text_templates.specs.Template.{bytes, filled}
+use Rattle.drawing_elements.specs.declared.Side.{Side}
+use Rattle.drawing_elements.specs.declared.Side.TheVariants.{Source, Chip}
+use Rattle.drawing_elements.specs.declared.Lack.{Lack}
+use Rattle.drawing_elements.specs.declared.Lack.TheVariants.{Depth, Leaves, Room}
 use Rattle.topology_places.specs.declared.Role.{Role}
 use Rattle.topology_places.specs.declared.Role.TheVariants.{Plain, Passed, Image, Between, Unused}
 
@@ -25,18 +29,18 @@ head rows =
     ++ (bytes ".passed{stroke-dasharray:1 2}.image{fill:lightcyan;stroke-width:2}.between{stroke-dasharray:4 2}.unused{fill:lightgrey;stroke:none}\n"
     ++ bytes ".legend text{fill:black}</style><rect width='100%' height='100%' fill='white'/>\n")))))
 
--- The two sides of a sheet: the source's, and the chip's (`true`). Where the root stands, the label above it, and the side's name.
-abbrev pub left_of : Bool → ℕ
-left_of false = 24
-left_of true = 446
+-- The two sides of a sheet: where the root stands, the label above it, and the side's name.
+abbrev pub left_of : Side → ℕ
+left_of Source = 24
+left_of Chip = 446
 
-abbrev pub label_of : Bool → List ℕ
-label_of false = bytes "<g><text class='label' x='24' y='32'>source</text>\n"
-label_of true = bytes "<g><text class='label' x='446' y='32'>chip</text>\n"
+abbrev pub label_of : Side → List ℕ
+label_of Source = bytes "<g><text class='label' x='24' y='32'>source</text>\n"
+label_of Chip = bytes "<g><text class='label' x='446' y='32'>chip</text>\n"
 
-abbrev pub side_name : Bool → List ℕ
-side_name false = bytes "source"
-side_name true = bytes "chip"
+abbrev pub side_name : Side → List ℕ
+side_name Source = bytes "source"
+side_name Chip = bytes "chip"
 
 -- The edge to a node in row y: from row `from` down the trunk at x, and right to the node; and the node's child number at it.
 unfoldable pub edge : ℕ → ℕ → ℕ → ℕ → List ℕ
@@ -117,8 +121,8 @@ unfoldable pub fault_text : ℕ → ℕ → List ℕ
 fault_text number node = filled (fault_words number) (node ∷ []) 0
 
 -- the refusal of a tree at fault, in words, and the end of the sheet
-unfoldable pub fault_note : Bool → ℕ → ℕ → ℕ → List ℕ
-fault_note chip number offset node = note number offset ++ (fault_lead number node ++ (side_name chip ++ (fault_text number node ++ note_end)))
+unfoldable pub fault_note : Side → ℕ → ℕ → ℕ → List ℕ
+fault_note side number offset node = note number offset ++ (fault_lead number node ++ (side_name side ++ (fault_text number node ++ note_end)))
 
 -- What the branch under a node lacks that fits nowhere on the chip: depth for a leaf, leaves, or room for the branches below it.
 unfoldable pub depth_text : ℕ → ℕ → ℕ → List ℕ
@@ -130,3 +134,9 @@ leaves_text node needed there =
 
 unfoldable pub room_text : ℕ → List ℕ
 room_text node = filled (bytes ": the branches below node # do not fit side by side") (node ∷ []) 0
+
+-- the words for each lack
+abbrev pub lack_text : ℕ → Lack → List ℕ
+lack_text node (Depth needed there) = depth_text node needed there
+lack_text node (Leaves needed there) = leaves_text node needed there
+lack_text node Room = room_text node

@@ -1,360 +1,304 @@
-// The elements of a sheet in SVG, each a template filled in with its numbers, and the sheets that show no tree. `chip` says whether a side of the sheet
-// is the chip's.
+// The elements of a sheet in SVG, each a template filled in with its numbers, and the sheets that show no tree.
 #![tactic(auto)]
 
-ghost use Rattle.std.specs.Prelude.{◌≡◌, ◌≤◌, min, max, ◌&&◌, leb, ltb};
-ghost use Rattle.text.specs.Text.{Puts};
+ghost use Rattle.std.specs.Prelude.{◌≡◌, ◌≤◌, ◌&&◌, leb, ltb, cond};
+ghost use Rattle.refusal.specs.Numbers.{number};
+ghost use Rattle.text.specs.Appending.{Appends};
+ghost use Rattle.text_templates.specs.Template.{bytes};
 ghost use Rattle.drawing_elements.specs.Elements.{row, left_of, side_name, label_of, head, edge, mark, class_name, join, legend};
-ghost use Rattle.drawing_elements.specs.Elements.{note, note_end, refused_end, refusal, nothing, fault_lead, fault_text, fault_note};
-ghost use Rattle.drawing_elements.specs.Elements.{depth_text, leaves_text, room_text};
+ghost use Rattle.drawing_elements.specs.Elements.{note, note_end, refused_end, nothing, fault_start, fault_words, fault_note, lack_text};
+ghost use Rattle.drawing_elements.specs.Elements.{refusal as refusal_sheet};
 
-use text::put_word;
+use refusal::Refusal;
+use std::ops::Range;
+use text::Text;
 use text_templates::put_filled;
 use topology_places::Role;
 
-// Where the root of the source and of the chip stands.
-pub const SOURCE_LEFT: usize = 24;
-
-pub const CHIP_LEFT: usize = 446;
+// Where an element stands on the sheet.
+#[derive(Clone, Copy)]
+pub struct Point {
+    pub x: usize,
+    pub y: usize,
+}
 
 // The row of a node.
 pub fn row_of(node: u8) -> usize
     ensures { result ≡ row node }
 {
-    48 + 16 * node as usize
+    48 + 16 * usize::from(node)
 }
 
-// The larger and the smaller of two numbers.
-pub fn larger(a: usize, b: usize) -> usize
-    ensures { result ≡ max a b }
-{
-    if a < b { b } else { a }
+// The two sides of a sheet.
+#[derive(Clone, Copy)]
+pub enum Side {
+    Source,
+    Chip,
 }
 
-pub fn smaller(a: usize, b: usize) -> usize
-    ensures { result ≡ min a b }
-{
-    if a < b { a } else { b }
-}
-
-// Whether `node` is one of the nodes `from` to `to` - 1.
-pub fn is_marked(from: usize, to: usize, node: usize) -> bool
-    ensures { result ≡ leb from node && ltb node to }
-{
-    if from <= node { node < to } else { false }
-}
-
-// Where the root stands: on the source's side of the sheet, or on the chip's.
-pub fn left_of(chip: bool) -> usize
-    ensures { (result ≡ left_of chip) × (result ≤ 446) }
-{
-    if chip { CHIP_LEFT } else { SOURCE_LEFT }
-}
-
-// The name of a side.
-fn put_side(out: &mut [u8], at: usize, chip: bool) -> usize
-    ensures { Puts out.old at (side_name chip) out.new result }
-{
-    if chip {
-        return put_word(out, at, b"chip");
+impl Side {
+    // Where the root stands.
+    pub fn left(self) -> usize
+        ensures { (result ≡ left_of self) × (result ≤ 446) }
+    {
+        match self {
+            Side::Source => 24,
+            Side::Chip => 446,
+        }
     }
-    put_word(out, at, b"source")
-}
 
-// The label above a tree.
-pub fn put_label(out: &mut [u8], at: usize, chip: bool) -> usize
-    ensures { Puts out.old at (label_of chip) out.new result }
-{
-    if chip {
-        return put_word(
-            out,
-            at,
-            b"<g><text class='label' x='446' y='32'>chip</text>\n",
-        );
+    fn name(self) -> &'static [u8]
+        ensures { result.now ≡ side_name self }
+    {
+        match self {
+            Side::Source => b"source",
+            Side::Chip => b"chip",
+        }
     }
-    put_word(
-        out,
-        at,
-        b"<g><text class='label' x='24' y='32'>source</text>\n",
-    )
+
+    // The label above a tree.
+    pub fn label(self) -> &'static [u8]
+        ensures { result.now ≡ label_of self }
+    {
+        match self {
+            Side::Source => b"<g><text class='label' x='24' y='32'>source</text>\n",
+            Side::Chip => b"<g><text class='label' x='446' y='32'>chip</text>\n",
+        }
+    }
 }
 
 // The head of a sheet with a number of rows: its size, the styles of its parts, and a white ground.
-pub fn put_head(out: &mut [u8], at: usize, rows: u8) -> usize
-    ensures { Puts out.old at (head rows) out.new result }
+pub fn put_head(text: &mut Text<'_>, rows: u8)
+    ensures { Appends text.old (head rows) text.new }
 {
-    let open = put_filled(
-        out,
-        at,
+    let rows = usize::from(rows);
+    put_filled(
+        text,
         b"<svg xmlns='http://www.w3.org/2000/svg' width='190mm' height='#mm' viewBox='0 0 760 #'><style>\n",
-        &[20 + 4 * rows as usize, 80 + 16 * rows as usize],
+        &[20 + 4 * rows, 80 + 16 * rows],
     );
-    let shapes = put_word(
-        out,
-        open,
+    text.put_word(
         b"text{font:10px sans-serif;text-anchor:middle}path{fill:none;stroke:black}ellipse{fill:white;stroke:black}\n",
     );
-    let words = put_word(
-        out,
-        shapes,
+    text.put_word(
         b".label,.note{font-size:12px}.label,.note,.joins text,.legend text{text-anchor:start}\n",
     );
-    let joins = put_word(
-        out,
-        words,
+    text.put_word(
         b".joins g{color:midnightblue}.joins g:nth-child(3n){color:maroon}.joins g:nth-child(3n+1){color:darkgreen}\n",
     );
-    let colours = put_word(
-        out,
-        joins,
+    text.put_word(
         b".joins path{stroke:currentColor}.joins text{fill:currentColor}.fault{fill:firebrick;stroke:none}.fault+text{fill:white}\n",
     );
-    let looks = put_word(
-        out,
-        colours,
+    text.put_word(
         b".passed{stroke-dasharray:1 2}.image{fill:lightcyan;stroke-width:2}.between{stroke-dasharray:4 2}.unused{fill:lightgrey;stroke:none}\n",
     );
-    put_word(
-        out,
-        looks,
+    text.put_word(
         b".legend text{fill:black}</style><rect width='100%' height='100%' fill='white'/>\n",
-    )
+    );
 }
 
-// The edge to a node in row y: from row `from` down the trunk at x, and right to the node; and the node's child number at it.
-pub fn put_edge(out: &mut [u8], at: usize, x: usize, from: usize, y: usize, child: usize) -> usize
-    ensures { Puts out.old at (edge x from y child) out.new result }
+// The edge to a node in a row: from a point down the trunk, and right to the node; and the node's child number at it.
+#[tactic(auto, unfolding(crate::specs::Elements::edge))]
+pub fn put_edge(text: &mut Text<'_>, from: Point, row: usize, child: usize)
+    ensures { Appends text.old (edge from.x from.y row child) text.new }
 {
     put_filled(
-        out,
-        at,
+        text,
         b"<path d='M#,#V#h30'/><text x='#' y='#' dx='12' dy='-2'>#</text>\n",
-        &[x, from, y, x, y, child],
-    )
+        &[from.x, from.y, row, from.x, row, child],
+    );
 }
 
-// A node at x and y: an ellipse of a class with the node's number in it.
-pub fn put_mark(out: &mut [u8], at: usize, class: &[u8], x: usize, y: usize, node: usize) -> usize
-    ensures { Puts out.old at (mark class.now x y node) out.new result }
+// An ellipse of a class with the node's number in it.
+fn put_mark(text: &mut Text<'_>, class: &[u8], at: Point, node: usize)
+    ensures { Appends text.old (mark class.now at.x at.y node) text.new }
 {
-    let ellipse = put_word(out, at, b"<ellipse class='");
-    let name = put_word(out, ellipse, class);
+    text.put_word(b"<ellipse class='");
+    text.put_word(class);
     put_filled(
-        out,
-        name,
+        text,
         b"' cx='#' cy='#' rx='9' ry='7'/><text x='#' y='#' dy='4'>#</text>\n",
-        &[x, y, x, y, node],
-    )
+        &[at.x, at.y, at.x, at.y, node],
+    );
 }
 
-// A node's ellipse, of the class that its role names.
-pub fn put_role(out: &mut [u8], at: usize, role: Role, x: usize, y: usize, node: usize) -> usize
-    ensures { Puts out.old at (mark (class_name role) x y node) out.new result }
+// The class of a node by its role.
+fn class_name(role: Role) -> &'static [u8]
+    ensures { result.now ≡ class_name role }
 {
     match role {
-        Role::Plain => put_mark(out, at, b"plain", x, y, node),
-        Role::Passed => put_mark(out, at, b"passed", x, y, node),
-        Role::Image => put_mark(out, at, b"image", x, y, node),
-        Role::Between => put_mark(out, at, b"between", x, y, node),
-        Role::Unused => put_mark(out, at, b"unused", x, y, node),
+        Role::Plain => b"plain",
+        Role::Passed => b"passed",
+        Role::Image => b"image",
+        Role::Between => b"between",
+        Role::Unused => b"unused",
     }
 }
 
-// The line from a source node at x and y to its image on the chip, at `over` and `down`, and the number of each beside the other.
-pub fn put_join(
-    out: &mut [u8],
-    at: usize,
-    x: usize,
-    y: usize,
-    over: usize,
-    down: usize,
-    node: usize,
-    image: usize,
-) -> usize
-    ensures { Puts out.old at (join x y over down node image) out.new result }
+// A node's ellipse: one of the marked nodes has a class of its own, and another that of its role.
+pub fn put_node(text: &mut Text<'_>, marked: &Range<usize>, role: Role, at: Point, node: usize)
+    ensures { Appends text.old
+        (cond (leb marked.now.start node && ltb node marked.now.end) (mark (bytes "fault") at.x at.y node) (mark (class_name role) at.x at.y node))
+        text.new }
 {
-    let line = put_filled(
-        out,
-        at,
+    if marked.contains(&node) {
+        put_mark(text, b"fault", at, node);
+    } else {
+        put_mark(text, class_name(role), at, node);
+    }
+}
+
+// The line from a source node to its image on the chip, and the number of each beside the other.
+pub fn put_join(text: &mut Text<'_>, from: Point, to: Point, node: usize, image: usize)
+    ensures { Appends text.old (join from.x from.y to.x to.y node image) text.new }
+{
+    put_filled(
+        text,
         b"<g><path d='M#,#m40,0H304L430,#H#'/><text x='#' y='#' dx='12' dy='4'>at #</text>",
-        &[x, y, down, over, x, y, image],
+        &[from.x, from.y, to.y, to.x, from.x, from.y, image],
     );
     put_filled(
-        out,
-        line,
+        text,
         b"<text x='#' y='#' dx='12' dy='4'>for #</text></g>\n",
-        &[over, down, node],
-    )
+        &[to.x, to.y, node],
+    );
 }
 
 // The looks of nodes with their words, behind the last row.
-pub fn put_legend(out: &mut [u8], at: usize, rows: u8) -> usize
-    ensures { Puts out.old at (legend rows) out.new result }
+pub fn put_legend(text: &mut Text<'_>, rows: u8)
+    ensures { Appends text.old (legend rows) text.new }
 {
-    let open = put_filled(
-        out,
-        at,
+    put_filled(
+        text,
         b"<g class='legend' transform='translate(0,#)'>\n",
         &[8 + row_of(rows)],
     );
-    let plain = put_word(
-        out,
-        open,
+    text.put_word(
         b"<ellipse class='plain' cx='24' rx='9' ry='7'/><text x='37' dy='4'>node</text>\n",
     );
-    let passed = put_word(
-        out,
-        plain,
+    text.put_word(
         b"<ellipse class='passed' cx='94' rx='9' ry='7'/><text x='107' dy='4'>passed over</text>\n",
     );
-    let image = put_word(
-        out,
-        passed,
+    text.put_word(
         b"<ellipse class='image' cx='198' rx='9' ry='7'/><text x='211' dy='4'>image</text>\n",
     );
-    let between = put_word(
-        out,
-        image,
+    text.put_word(
         b"<ellipse class='between' cx='273' rx='9' ry='7'/><text x='286' dy='4'>above an image</text>\n",
     );
-    let unused = put_word(
-        out,
-        between,
+    text.put_word(
         b"<ellipse class='unused' cx='394' rx='9' ry='7'/><text x='407' dy='4'>unused</text>\n",
     );
-    put_word(
-        out,
-        unused,
+    text.put_word(
         b"<ellipse class='fault' cx='474' rx='9' ry='7'/><text x='487' dy='4'>see note</text></g>\n",
-    )
+    );
 }
 
 // The start of a note: a refusal's number, and the offset of the command refused.
-pub fn put_note(out: &mut [u8], at: usize, number: usize, offset: usize) -> usize
-    ensures { Puts out.old at (note number offset) out.new result }
+#[tactic(auto, unfolding(crate::specs::Elements::note))]
+pub fn put_note(text: &mut Text<'_>, refusal: Refusal, offset: usize)
+    ensures { Appends text.old (note (number refusal) offset) text.new }
 {
     put_filled(
-        out,
-        at,
+        text,
         b"<text class='note' x='24' y='14'>no # #",
-        &[number, offset],
-    )
+        &[usize::from(u8::from(refusal)), offset],
+    );
 }
 
 // The end of a note and of the sheet.
-pub fn put_note_end(out: &mut [u8], at: usize) -> usize
-    ensures { Puts out.old at note_end out.new result }
+pub fn put_note_end(text: &mut Text<'_>)
+    ensures { Appends text.old note_end text.new }
 {
-    put_word(out, at, b"</text>\n</svg>\n")
+    text.put_word(b"</text>\n</svg>\n");
 }
 
 // The end of a sheet, with a refusal before it.
-fn put_refused(out: &mut [u8], at: usize, number: u8, offset: usize) -> usize
-    ensures { Puts out.old at (refused_end number offset) out.new result }
+fn put_refused(text: &mut Text<'_>, refusal: Refusal, offset: usize)
+    ensures { Appends text.old (refused_end (number refusal) offset) text.new }
 {
-    let note = put_note(out, at, number as usize, offset);
-    put_note_end(out, note)
+    put_note(text, refusal, offset);
+    put_note_end(text);
 }
 
 // A refusal alone: its number, and the offset of the command refused.
-pub fn draw_refusal(number: u8, offset: usize, out: &mut [u8], at: usize) -> usize
-    ensures { Puts out.old at (refusal number offset) out.new result }
+pub fn draw_refusal(text: &mut Text<'_>, refusal: Refusal, offset: usize)
+    ensures { Appends text.old (refusal_sheet (number refusal) offset) text.new }
 {
-    let head = put_head(out, at, 0);
-    put_refused(out, head, number, offset)
+    put_head(text, 0);
+    put_refused(text, refusal, offset);
 }
 
 // The sheet of a script that ends before 04.
-pub fn draw_nothing(out: &mut [u8], at: usize) -> usize
-    ensures { Puts out.old at nothing out.new result }
+pub fn draw_nothing(text: &mut Text<'_>)
+    ensures { Appends text.old nothing text.new }
 {
-    let head = put_head(out, at, 0);
-    put_word(
-        out,
-        head,
-        b"<text class='note' x='24' y='14'>nothing to draw</text>\n</svg>\n",
-    )
+    put_head(text, 0);
+    text.put_word(b"<text class='note' x='24' y='14'>nothing to draw</text>\n</svg>\n");
 }
 
-// What is wrong with a tree's bytes, by the number of the refusal, at a node: the words before the tree's name.
-fn put_fault_lead(out: &mut [u8], at: usize, number: u8, node: usize) -> usize
-    ensures { Puts out.old at (fault_lead number node) out.new result }
+// What is wrong with a tree's bytes at a node: the words before the tree's name.
+fn fault_start(refusal: Refusal) -> &'static [u8]
+    ensures { result.now ≡ fault_start (number refusal) }
 {
-    if number <= 2 {
-        return put_filled(out, at, b": the ", &[node]);
+    match refusal {
+        Refusal::Incomplete | Refusal::Excess => b": the ",
+        _ => b": node # of the ",
     }
-    put_filled(out, at, b": node # of the ", &[node])
 }
 
 // The words after it.
-fn put_fault_text(out: &mut [u8], at: usize, number: u8, node: usize) -> usize
-    ensures { Puts out.old at (fault_text number node) out.new result }
+fn fault_words(refusal: Refusal) -> &'static [u8]
+    ensures { result.now ≡ fault_words (number refusal) }
 {
-    if number == 1 {
-        return put_filled(out, at, b" ends before it is complete", &[node]);
+    match refusal {
+        Refusal::Incomplete => b" ends before it is complete",
+        Refusal::Excess => b" is complete before node #",
+        Refusal::TooManyNodes => b" is one too many",
+        Refusal::TooManyChildren => b" has more than 8 children",
+        _ => b" lies 9 steps down",
     }
-    if number == 2 {
-        return put_filled(out, at, b" is complete before node #", &[node]);
-    }
-    if number == 3 {
-        return put_filled(out, at, b" is one too many", &[node]);
-    }
-    if number == 4 {
-        return put_filled(out, at, b" has more than 8 children", &[node]);
-    }
-    put_filled(out, at, b" lies 9 steps down", &[node])
 }
 
 // The refusal of a tree at fault, in words, and the end of the sheet.
-pub fn put_fault_note(
-    out: &mut [u8],
-    at: usize,
-    chip: bool,
-    number: u8,
-    offset: usize,
-    node: usize,
-) -> usize
-    ensures { Puts out.old at (fault_note chip number offset node) out.new result }
+pub fn put_fault_note(text: &mut Text<'_>, side: Side, refusal: Refusal, offset: usize, node: usize)
+    ensures { Appends text.old (fault_note side (number refusal) offset node) text.new }
 {
-    let note = put_note(out, at, number as usize, offset);
-    let lead = put_fault_lead(out, note, number, node);
-    let side = put_side(out, lead, chip);
-    let text = put_fault_text(out, side, number, node);
-    put_note_end(out, text)
+    put_note(text, refusal, offset);
+    put_filled(text, fault_start(refusal), &[node]);
+    text.put_word(side.name());
+    put_filled(text, fault_words(refusal), &[node]);
+    put_note_end(text);
 }
 
-// What a leaf lacks that fits nowhere on the chip.
-pub fn put_depth_text(out: &mut [u8], at: usize, node: usize, needed: usize, there: usize) -> usize
-    ensures { Puts out.old at (depth_text node needed there) out.new result }
-{
-    put_filled(
-        out,
-        at,
-        b": node # needs # levels above it, the chip has #",
-        &[node, needed, there],
-    )
+// What the branch under a node lacks that fits nowhere on the chip: depth for a leaf, leaves, or room for the branches below it.
+// It repeats three cases of `Diagnosis` in embedding_diagnosis: this crate knows no diagnosis, and has no words for the other two cases.
+#[derive(Clone, Copy)]
+pub enum Lack {
+    Depth { needed: usize, there: usize },
+    Leaves { needed: usize, there: usize },
+    Room,
 }
 
-// What a branch lacks that has too many leaves.
-pub fn put_leaves_text(out: &mut [u8], at: usize, node: usize, needed: usize, there: usize) -> usize
-    ensures { Puts out.old at (leaves_text node needed there) out.new result }
+// What the branch under a node lacks, in words.
+#[tactic(auto, unfolding(crate::specs::Elements::depth_text, crate::specs::Elements::leaves_text, crate::specs::Elements::room_text))]
+pub fn put_lack(text: &mut Text<'_>, node: usize, lack: Lack)
+    ensures { Appends text.old (lack_text node lack) text.new }
 {
-    put_filled(
-        out,
-        at,
-        b": the branch of node # has # leaves, a chip branch where it may go at most #",
-        &[node, needed, there],
-    )
-}
-
-// What another branch lacks that fits nowhere.
-pub fn put_room_text(out: &mut [u8], at: usize, node: usize) -> usize
-    ensures { Puts out.old at (room_text node) out.new result }
-{
-    put_filled(
-        out,
-        at,
-        b": the branches below node # do not fit side by side",
-        &[node],
-    )
+    match lack {
+        Lack::Depth { needed, there } => put_filled(
+            text,
+            b": node # needs # levels above it, the chip has #",
+            &[node, needed, there],
+        ),
+        Lack::Leaves { needed, there } => put_filled(
+            text,
+            b": the branch of node # has # leaves, a chip branch where it may go at most #",
+            &[node, needed, there],
+        ),
+        Lack::Room => put_filled(
+            text,
+            b": the branches below node # do not fit side by side",
+            &[node],
+        ),
+    }
 }

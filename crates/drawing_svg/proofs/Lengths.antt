@@ -3,7 +3,7 @@
 -- An element is longest at its largest numbers. A tree that is drawn has at most 33 or 65 bytes, as many as a setup keeps, and no node's depth or
 -- child number exceeds its own number. So columns are at most 984 in the source and 2,366 in the target, and rows at most 560 and 1,072. That is more
 -- than a tree's depth of 8 needs, by a digit here and there.
-use mathlib.Core.Path.{◌≡◌, refl, ◌∙◌, ap}
+use mathlib.Core.Path.{◌≡◌, refl, sym, ◌∙◌}
 use mathlib.Core.Logic.{◌≢◌}
 use Prim.Native.Nat.{ℕ, zero, suc, ◌+◌, ◌*◌, ◌≤◌, ◌<◌, max}
 use native.Mathlib.Nat.{not-suc-le-zero}
@@ -12,7 +12,7 @@ use mathlib.Core.List.{List, [], ◌∷◌, ◌++◌}
 use mathlib.Core.Bool.{Bool, true, false, ◌&&◌, cond}
 use lib.ListN.{length, get_or, take, length-append, length-take}
 use lib.Dec.{eqb, leb, ltb}
-use borrow.Author.Tests.{eqb-false}
+use borrow.Author.Tests.{eqb-true, eqb-false}
 use Rattle.text.specs.Text.{decimal_last, decimal}
 use Rattle.text_templates.specs.Template.{bytes, filled}
 use Rattle.text_templates.proofs.Lengths.{filled_most}
@@ -27,12 +27,10 @@ use Rattle.topology_places.specs.declared.Role.TheVariants.{Plain, Passed, Image
 use Rattle.topology_places.proofs.Counted.{depth_most, parent_most, number_most, trunk_most}
 use Rattle.topology_reading.specs.Accepted.{accepted_bytes}
 use Rattle.topology_reading.proofs.FirstFault.{accepted_few}
-use Rattle.embedding_model.specs.Least.{search_map}
+use Rattle.std.specs.Option.{unwrap_or}
+use Rattle.refusal.specs.Numbers.{number}
+use Rattle.embedding_model.specs.Least.{search_fault, search_map}
 use Rattle.embedding_model.proofs.Search.{search_most, faultless, images_pass}
-use Rattle.embedding_outcome.specs.Outcomes.{outcome, number_of}
-use Rattle.embedding_outcome.proofs.OutcomeNumber.{outcome-number}
-use Rattle.embedding_outcome.specs.declared.Outcome.{Outcome}
-use Rattle.embedding_outcome.specs.declared.Outcome.TheVariants.{Map, NoMap, Refused as AtFault}
 use Rattle.embedding_diagnosis.specs.Diagnosis.{diagnosis}
 use Rattle.embedding_diagnosis.specs.declared.Diagnosis.{Diagnosis}
 use Rattle.embedding_diagnosis.specs.declared.Diagnosis.TheVariants.{Loads, Refused as TreeFault, TooDeep, TooManyLeaves, NotTogether}
@@ -43,12 +41,16 @@ use Rattle.script_setup.specs.Gathering.{gathered}
 use Rattle.script_setup.proofs.Endings.{Inside, ends_inside}
 use Rattle.script_setup.specs.declared.Ending.{Ending}
 use Rattle.script_setup.specs.declared.Ending.TheVariants.{End, Refused, Compile}
+use Rattle.drawing_elements.specs.declared.Lack.{Lack}
+use Rattle.drawing_elements.specs.declared.Lack.TheVariants.{Depth, Leaves, Room}
+use Rattle.drawing_elements.specs.declared.Side.{Side}
+use Rattle.drawing_elements.specs.declared.Side.TheVariants.{Source, Chip}
 use Rattle.drawing_elements.specs.Elements.{row, opening, head, left_of, label_of, side_name, edge, numbered, mark, class_name, join, legend}
-use Rattle.drawing_elements.specs.Elements.{note, note_end, refused_end, refusal, nothing, fault_start, fault_lead, fault_words, fault_text, fault_note}
-use Rattle.drawing_elements.specs.Elements.{depth_text, leaves_text, room_text}
+use Rattle.drawing_elements.specs.Elements.{note, refused_end, refusal, nothing, fault_start, fault_lead, fault_words, fault_text}
+use Rattle.drawing_elements.specs.Elements.{fault_note, depth_text, leaves_text, room_text, lack_text}
 use Rattle.drawing_svg.specs.Sheet.{column, each, edge_of, role_in, node_of, tree_of, join_of, joins_of, pair_of, foot}
-use Rattle.drawing_svg.specs.Sheet.{fault_of, fault_sheet, marked_of, misfit_sheet, mapped_sheet, outcome_sheet, sheet, limit_in, sheet_by, script_sheet}
-use Rattle.drawing_svg.proofs.Sheet.{unmapped_trees, mapped_found}
+use Rattle.drawing_svg.specs.Sheet.{fault_of, fault_sheet, misfit_of, misfit_sheet, mapped_sheet, sheet, sheet_by, script_sheet}
+use Rattle.drawing_svg.proofs.Sheet.{unmapped_small}
 
 -- ---- the elements at their largest numbers
 
@@ -80,8 +82,7 @@ join_most x y over down node image a b c d e f =
     let there : List ℕ = 2366 ∷ 1072 ∷ 32 ∷ [] in
     omega (
       arith,
-      length-append (filled line from 0) (filled beside to 0),
-      length-append (filled line far 0) (filled beside there 0),
+      length-append {A = ℕ},
       filled_most line from far (a, (b, (d, (c, (a, (b, (f, tt))))))) 0,
       filled_most beside to there (c, (d, (e, tt))) 0,
     )
@@ -156,87 +157,82 @@ class_length Image = omega arith
 class_length Between = omega arith
 class_length Unused = omega arith
 
-label_length : (chip : Bool) → length (label_of chip) ≤ 51
-label_length true = omega arith
-label_length false = omega arith
+label_length : (side : Side) → length (label_of side) ≤ 51
+label_length Source = omega arith
+label_length Chip = omega arith
 
 -- ---- a tree
 
 each-length : (text : ℕ → List ℕ) (most n : ℕ) → ((k : ℕ) → k < n → length (text k) ≤ most) → length (each text n) ≤ most * n
 each-length text most zero h = omega arith
 each-length text most (suc n) h =
-    omega (arith, length-append (each text n) (text n), each-length text most n (λ k l. h k (omega arith)), h n (omega arith))
+    omega (arith, length-append {A = ℕ}, each-length text most n (λ k l. h k (omega arith)), h n (omega arith))
 
 -- A tree with no node behind node `last`: the edge to a node takes at most `line` bytes, and its ellipse with its number at most `spot`, where 23
 -- bytes are the ellipse's start with the longest class.
-module _ (chip : Bool) (last line spot : ℕ) (tree images : List ℕ) (from to : ℕ) (few : length tree ≤ suc last)
-    (l : length (edge (left_of chip + 30 * last) (row last) (row last) last) ≡ line)
-    (s : length (numbered (left_of chip + 30 * last) (row last) last) + 23 ≡ spot) where
-  column_most : (k : ℕ) → k ≤ last → column (left_of chip) tree k ≤ left_of chip + 30 * last
+module _ (side : Side) (last line spot : ℕ) (tree images : List ℕ) (from to : ℕ) (few : length tree ≤ suc last)
+    (l : length (edge (left_of side + 30 * last) (row last) (row last) last) ≡ line)
+    (s : length (numbered (left_of side + 30 * last) (row last) last) + 23 ≡ spot) where
+  column_most : (k : ℕ) → k ≤ last → column (left_of side) tree k ≤ left_of side + 30 * last
   column_most k h = omega (arith, depth_most tree k)
 
-  edge-length : (k : ℕ) → k < length tree → length (edge_of (left_of chip) tree k) ≤ line
+  edge-length : (k : ℕ) → k < length tree → length (edge_of (left_of side) tree k) ≤ line
   unfolding edge_of
   edge-length k h = by_test (eqb (depth tree k) 0)
     where
       by_test : (b : Bool)
-          → length (cond b [] (edge (column (left_of chip) tree (parent tree k)) (row (trunk_from tree k)) (row k) (child_number tree k))) ≤ line
+          → length (cond b [] (edge (column (left_of side) tree (parent tree k)) (row (trunk_from tree k)) (row k) (child_number tree k))) ≤ line
       by_test true = omega arith
       by_test false =
           omega (
             arith,
-            edge_most (left_of chip + 30 * last) (row last) last (column (left_of chip) tree (parent tree k)) (row (trunk_from tree k)) (row k)
+            edge_most (left_of side + 30 * last) (row last) last (column (left_of side) tree (parent tree k)) (row (trunk_from tree k)) (row k)
                 (child_number tree k) (column_most (parent tree k) (omega (arith, parent_most tree k))) (omega (arith, trunk_most tree k))
                 (omega arith) (omega (arith, number_most tree k)),
             l,
           )
 
-  mark-length : (class : List ℕ) (k : ℕ) → length class ≤ 7 → k < length tree → length (mark class (column (left_of chip) tree k) (row k) k) ≤ spot
+  mark-length : (class : List ℕ) (k : ℕ) → length class ≤ 7 → k < length tree → length (mark class (column (left_of side) tree k) (row k) k) ≤ spot
   unfolding mark
   mark-length class k n h =
-      let here = numbered (column (left_of chip) tree k) (row k) k in
       omega (
         arith,
-        length-append class here,
-        numbered_most (left_of chip + 30 * last) (row last) last (column (left_of chip) tree k) (row k) k (column_most k (omega arith)) (omega arith)
+        length-append {A = ℕ},
+        numbered_most (left_of side + 30 * last) (row last) last (column (left_of side) tree k) (row k) k (column_most k (omega arith)) (omega arith)
             (omega arith),
         s,
       )
 
-  node_length : (k : ℕ) → k < length tree → length (node_of chip tree images from to k) ≤ spot
+  node_length : (k : ℕ) → k < length tree → length (node_of side tree images from to k) ≤ spot
   unfolding node_of
   node_length k h = by_test (leb from k && ltb k to)
     where
       by_test : (b : Bool) → length (
-          cond b (mark (bytes "fault") (column (left_of chip) tree k) (row k) k)
-          (mark (class_name (role_in chip tree images k)) (column (left_of chip) tree k) (row k) k)
+          cond b (mark (bytes "fault") (column (left_of side) tree k) (row k) k)
+          (mark (class_name (role_in side tree images k)) (column (left_of side) tree k) (row k) k)
           )
           ≤ spot
       by_test true = mark-length (bytes "fault") k (omega arith) h
-      by_test false = mark-length (class_name (role_in chip tree images k)) k (class_length (role_in chip tree images k)) h
+      by_test false = mark-length (class_name (role_in side tree images k)) k (class_length (role_in side tree images k)) h
 
-  tree-length : length (tree_of chip tree images from to) ≤ 56 + line * length tree + spot * length tree
+  tree-length : length (tree_of side tree images from to) ≤ 56 + line * length tree + spot * length tree
   unfolding tree_of
   tree-length =
-      let edges = each (edge_of (left_of chip) tree) (length tree) in
-      let nodes = each (node_of chip tree images from to) (length tree) in
       omega (
         arith,
-        length-append (label_of chip) (edges ++ (nodes ++ bytes "</g>\n")),
-        length-append edges (nodes ++ bytes "</g>\n"),
-        length-append nodes (bytes "</g>\n"),
-        label_length chip,
-        each-length (edge_of (left_of chip) tree) line (length tree) edge-length,
-        each-length (node_of chip tree images from to) spot (length tree) node_length,
+        length-append {A = ℕ},
+        label_length side,
+        each-length (edge_of (left_of side) tree) line (length tree) edge-length,
+        each-length (node_of side tree images from to) spot (length tree) node_length,
       )
 
-source_length : (tree images : List ℕ) (from to : ℕ) → length tree ≤ 33 → length (tree_of false tree images from to) ≤ 5732
+source_length : (tree images : List ℕ) (from to : ℕ) → length tree ≤ 33 → length (tree_of Source tree images from to) ≤ 5732
 source_length tree images from to h =
-    omega (arith, tree-length false 32 75 97 tree images from to h largest.source_edge (omega (arith, largest.source_numbered)))
+    omega (arith, tree-length Source 32 75 97 tree images from to h largest.source_edge (omega (arith, largest.source_numbered)))
 
-chip-length : (tree images : List ℕ) (from to : ℕ) → length tree ≤ 65 → length (tree_of true tree images from to) ≤ 11821
+chip-length : (tree images : List ℕ) (from to : ℕ) → length tree ≤ 65 → length (tree_of Chip tree images from to) ≤ 11821
 chip-length tree images from to h =
-    omega (arith, tree-length true 64 80 101 tree images from to h largest.target_edge (omega (arith, largest.target_numbered)))
+    omega (arith, tree-length Chip 64 80 101 tree images from to h largest.target_edge (omega (arith, largest.target_numbered)))
 
 -- ---- both trees
 
@@ -267,10 +263,9 @@ module _ (source target images : List ℕ) (s : length source ≤ 33) (t : lengt
   joins_length : length (joins_of source target images) ≤ 23 + 152 * length images
   unfolding joins_of
   joins_length =
-      let lines = each (λ a. join_of source target a (get_or images a 0)) (length images) in
       omega (
         arith,
-        length-append lines (bytes "</g>\n"),
+        length-append {A = ℕ},
         each-length (λ a. join_of source target a (get_or images a 0)) 152 (length images) join-length,
       )
 
@@ -279,14 +274,9 @@ module _ (source target images : List ℕ) (s : length source ≤ 33) (t : lengt
   unfolding pair_of
   pair_length from to =
       let rows = max (length source) (length target) in
-      let left = tree_of false source images from to in
-      let right = tree_of true target images 0 0 in
       omega (
         arith,
-        length-append (head rows) (joins_of source target images ++ (left ++ (right ++ legend rows))),
-        length-append (joins_of source target images) (left ++ (right ++ legend rows)),
-        length-append left (right ++ legend rows),
-        length-append right (legend rows),
+        length-append {A = ℕ},
         head-length rows (omega arith),
         joins_length,
         source_length source images from to s,
@@ -298,16 +288,16 @@ module _ (source target images : List ℕ) (s : length source ≤ 33) (t : lengt
 
 refused-length : (number offset : ℕ) → number ≤ 22 → offset < 65536 → length (refused_end number offset) ≤ 59
 refused-length number offset h g =
-    omega (arith, length-append (note number offset) note_end, note_most number offset h (omega arith), largest.note_is)
+    omega (arith, length-append {A = ℕ}, note_most number offset h (omega arith), largest.note_is)
 
 refusal-length : (number offset : ℕ) → number ≤ 22 → offset < 65536 → length (refusal number offset) ≤ 789
 unfolding refusal
 refusal-length number offset h g =
-    omega (arith, length-append (head 0) (refused_end number offset), head-length 0 (omega arith), refused-length number offset h g)
+    omega (arith, length-append {A = ℕ}, head-length 0 (omega arith), refused-length number offset h g)
 
-side_length : (chip : Bool) → length (side_name chip) ≤ 6
-side_length true = omega arith
-side_length false = omega arith
+side_length : (side : Side) → length (side_name side) ≤ 6
+side_length Source = omega arith
+side_length Chip = omega arith
 
 lead_length : (number node : ℕ) → node ≤ 64 → length (fault_lead number node) ≤ 17
 unfolding fault_lead
@@ -345,63 +335,56 @@ text-length number node h =
     by_tests false false false true = omega (arith, largest.text_4)
     by_tests false false false false = omega (arith, largest.text_5)
 
-fault-note-length : (chip : Bool) (number offset node : ℕ) → number ≤ 22 → offset < 65536 → node ≤ 64
-    → length (fault_note chip number offset node) ≤ 109
+fault-note-length : (side : Side) (number offset node : ℕ) → number ≤ 22 → offset < 65536 → node ≤ 64
+    → length (fault_note side number offset node) ≤ 109
 unfolding fault_note
-fault-note-length chip number offset node small h g =
-    let named = side_name chip ++ (fault_text number node ++ note_end) in
+fault-note-length side number offset node small h g =
     omega (
       arith,
-      length-append (note number offset) (fault_lead number node ++ named),
-      length-append (fault_lead number node) named,
-      length-append (side_name chip) (fault_text number node ++ note_end),
-      length-append (fault_text number node) note_end,
+      length-append {A = ℕ},
       note_most number offset small (omega arith),
       largest.note_is,
       lead_length number node g,
-      side_length chip,
+      side_length side,
       text-length number node g,
     )
 
 -- 730 bytes for the head, 558 for the legend, and 109 for the note
-module _ (chip : Bool) (limit : ℕ) (tree : List ℕ) (number offset : ℕ) (few : limit ≤ 64) (small : number ≤ 22) (h : offset < 65536) where
+module _ (side : Side) (limit : ℕ) (tree : List ℕ) (number offset : ℕ) (few : limit ≤ 64) (small : number ≤ 22) (h : offset < 65536) where
   part_length : length (take (suc (accepted_bytes limit tree)) tree) ≤ suc limit
   part_length = omega (arith, length-take (suc (accepted_bytes limit tree)) tree, accepted_few limit tree)
 
   fault-length : (most : ℕ)
-      → length (tree_of chip (take (suc (accepted_bytes limit tree)) tree) [] (accepted_bytes limit tree) (suc (accepted_bytes limit tree))) ≤ most
-      → length (fault_of chip limit tree number offset) ≤ 1397 + most
+      → length (tree_of side (take (suc (accepted_bytes limit tree)) tree) [] (accepted_bytes limit tree) (suc (accepted_bytes limit tree))) ≤ most
+      → length (fault_of side limit tree number offset) ≤ 1397 + most
   unfolding fault_of
   fault-length most t =
       let n = accepted_bytes limit tree in
       let part = take (suc n) tree in
-      let drawn = tree_of chip part [] n (suc n) in
       omega (
         arith,
-        length-append (head (length part)) (drawn ++ (legend (length part) ++ fault_note chip number offset n)),
-        length-append drawn (legend (length part) ++ fault_note chip number offset n),
-        length-append (legend (length part)) (fault_note chip number offset n),
+        length-append {A = ℕ},
         head-length (length part) (omega (arith, part_length)),
         t,
         legend_most (length part) (omega (arith, part_length)),
-        fault-note-length chip number offset n small h (omega (arith, accepted_few limit tree)),
+        fault-note-length side number offset n small h (omega (arith, accepted_few limit tree)),
       )
 
 fault-sheet-length : (source target : List ℕ) (number offset : ℕ) → number ≤ 22 → offset < 65536
     → length (fault_sheet source target number offset) ≤ 13218
 fault-sheet-length source target number offset small h = by_test (eqb (fault 32 source) 0)
   where
-    by_test : (b : Bool) → length (cond b (fault_of true 64 target number offset) (fault_of false 32 source number offset)) ≤ 13218
+    by_test : (b : Bool) → length (cond b (fault_of Chip 64 target number offset) (fault_of Source 32 source number offset)) ≤ 13218
     by_test true =
-        fault-length true 64 target number offset (omega arith) small h 11821
+        fault-length Chip 64 target number offset (omega arith) small h 11821
         (chip-length (take (suc (accepted_bytes 64 target)) target) [] (accepted_bytes 64 target) (suc (accepted_bytes 64 target))
-        (part_length true 64 target number offset (omega arith) small h))
+        (part_length Chip 64 target number offset (omega arith) small h))
     by_test false =
         omega (
           arith,
-          fault-length false 32 source number offset (omega arith) small h 5732
+          fault-length Source 32 source number offset (omega arith) small h 5732
               (source_length (take (suc (accepted_bytes 32 source)) source) [] (accepted_bytes 32 source) (suc (accepted_bytes 32 source))
-              (part_length false 32 source number offset (omega arith) small h)),
+              (part_length Source 32 source number offset (omega arith) small h)),
         )
 
 -- ---- a pair without a map
@@ -414,7 +397,8 @@ depth-length : (node needed there : ℕ) → node ≤ 32 → needed ≤ 32 → t
 unfolding depth_text
 depth-length node needed there a b c = three_most _ node needed there a b c
 
-leaves-length : (node needed there : ℕ) → node ≤ 32 → needed ≤ 32 → there ≤ 64 → length (leaves_text node needed there) ≤ length (leaves_text 32 32 64)
+leaves-length : (node needed there : ℕ) → node ≤ 32 → needed ≤ 32 → there ≤ 64
+    → length (leaves_text node needed there) ≤ length (leaves_text 32 32 64)
 unfolding leaves_text
 leaves-length node needed there a b c = three_most _ node needed there a b c
 
@@ -422,89 +406,72 @@ room-length : (node : ℕ) → node ≤ 32 → length (room_text node) ≤ lengt
 unfolding room_text
 room-length node a = filled_most _ (node ∷ []) (32 ∷ []) (a, tt) 0
 
-module _ (source target : List ℕ) (number offset : ℕ) (s : length source ≤ 32) (t : length target ≤ 64) (n : number ≤ 22) (h : offset < 65536) where
-  -- the two trees, and 44 bytes for the start of the note
-  marked-length : (node : ℕ) → length (marked_of source target node number offset) ≤ 18908
-  unfolding marked_of
-  marked-length node =
-      let pair = pair_of source target [] node (branch_end source node) in
-      omega (
-        arith,
-        length-append pair (note number offset),
-        pair_length source target [] (omega (arith, s)) (omega (arith, t)) (omega arith) (λ a l m. absurd (not-suc-le-zero l)) node
-            (branch_end source node),
-        note_most number offset n (omega arith),
-        largest.note_is,
-      )
+module _ (source target : List ℕ) (offset : ℕ) (s : length source ≤ 32) (t : length target ≤ 64) (h : offset < 65536) where
+  -- the two trees, 44 bytes for the start of the note, and 15 for its end
+  misfit_length : (node : ℕ) (lack : Lack) → length (lack_text node lack) ≤ 79 → length (misfit_of source target node lack offset) ≤ 19002
+  unfolding misfit_of
+  misfit_length node lack g =
+      let end = branch_end source node in
+      let pair = pair_length source target [] (omega (arith, s)) (omega (arith, t)) (omega arith) (λ a l m. absurd (not-suc-le-zero l)) node end in
+      omega (arith, length-append {A = ℕ}, pair, note_most 12 offset (omega arith) (omega arith), largest.note_is)
 
-  reason_length : (node : ℕ) (text : List ℕ) → length text ≤ 79
-      → length (marked_of source target node number offset ++ (text ++ note_end)) ≤ 19002
-  reason_length node text g =
-      omega (
-        arith,
-        length-append (marked_of source target node number offset) (text ++ note_end),
-        length-append text note_end,
-        marked-length node,
-      )
-
-  misfit-length : (d : Diagnosis) → Small (length source) (length target) d → length (misfit_sheet d source target number offset) ≤ 19002
-  misfit-length Loads small = omega (arith, refusal-length number offset n h)
-  misfit-length (TreeFault f) small = omega (arith, refusal-length number offset n h)
+  misfit-length : (d : Diagnosis) → Small (length source) (length target) d → length (misfit_sheet d source target offset) ≤ 19002
+  misfit-length Loads small = omega (arith, refusal-length 12 offset (omega arith) h)
+  misfit-length (TreeFault f) small = omega (arith, refusal-length 12 offset (omega arith) h)
   misfit-length (TooDeep node needed there) small =
       let text = depth-length node needed there (omega (arith, small, s)) (omega (arith, small, s)) (omega (arith, small, t)) in
-      reason_length node (depth_text node needed there) (omega (arith, text, largest.depth_is))
+      misfit_length node (Depth needed there) (omega (arith, text, largest.depth_is))
   misfit-length (TooManyLeaves node needed there) small =
       let text = leaves-length node needed there (omega (arith, small, s)) (omega (arith, small, s)) (omega (arith, small, t)) in
-      reason_length node (leaves_text node needed there) (omega (arith, text, largest.leaves_is))
-  misfit-length (NotTogether node) small =
-      reason_length node (room_text node) (omega (arith, room-length node (omega (arith, small, s)), largest.room_is))
+      misfit_length node (Leaves needed there) (omega (arith, text, largest.leaves_is))
+  misfit-length (NotTogether node) small = misfit_length node Room (omega (arith, room-length node (omega (arith, small, s)), largest.room_is))
 
 nothing-length : length nothing ≤ 793
 unfolding nothing
 nothing-length = rw length-append (omega (arith, head-length 0 (omega arith)))
 
 module _ (source target : List ℕ) (limit offset : ℕ) (h : offset < 65536) where
-  mapped_length : outcome source target ≡ Map
-      → length (pair_of source target (take (length source) (search_map source target)) 0 0 ++ foot) ≤ 23735
-  mapped_length q =
-      let found = mapped_found source target q in
-      let fine = faultless source target found in
-      let E = images_pass source target found in
-      let s = valid_length 32 source fine.0 in
-      let images = take (length source) (search_map source target) in
-      let few : length images ≡ length source = E.long ∙ valid_size 32 source fine.0 in
-      let nodes : (a : ℕ) → a < length images → get_or images a 0 ≢ passed_over → get_or images a 0 < length target =
-      λ a l n. let node : a < size (tree source) = omega (arith, E.long) in
-      omega (arith, E.within a node (λ w. n (E.passed a node w)), valid_size 64 target fine.1) in
-      omega (
-        arith,
-        length-append (pair_of source target images 0 0) foot,
-        pair_length source target images (omega (arith, s)) (omega (arith, valid_length 64 target fine.1)) (omega arith) nodes 0 0,
-        s,
-        few,
-      )
+  abbrev images : List ℕ
+  images = take (length source) (search_map source target)
 
-  unmapped_length : outcome source target ≡ NoMap → length (misfit_sheet (diagnosis source target) source target 12 offset) ≤ 23735
+  mapped_length : search_fault source target ≡ 0 → length (mapped_sheet source target images limit offset) ≤ 23735
+  mapped_length found = by_test (eqb (limit_fault limit) 0)
+    where
+      both : length (pair_of source target images 0 0 ++ foot) ≤ 23735
+      both =
+          let fine = faultless source target found in
+          let E = images_pass source target found in
+          let s = valid_length 32 source fine.0 in
+          let few : length images ≡ length source = E.long ∙ valid_size 32 source fine.0 in
+          let nodes : (a : ℕ) → a < length images → get_or images a 0 ≢ passed_over → get_or images a 0 < length target =
+          λ a l n. let node : a < size (tree source) = omega (arith, E.long) in
+          omega (arith, E.within a node (λ w. n (E.passed a node w)), valid_size 64 target fine.1) in
+          let pair = pair_length source target images (omega (arith, s)) (omega (arith, valid_length 64 target fine.1)) (omega arith) nodes 0 0 in
+          omega (arith, length-append {A = ℕ}, pair, s, few)
+
+      by_test : (b : Bool) → length (cond b (pair_of source target images 0 0 ++ foot) (refusal (limit_fault limit) offset)) ≤ 23735
+      by_test true = both
+      by_test false = omega (arith, refusal-length (limit_fault limit) offset (omega (arith, limit_most limit)) h)
+
+  unmapped_length : search_fault source target ≡ 12 → length (misfit_sheet (diagnosis source target) source target offset) ≤ 23735
   unmapped_length q =
-      let fine = unmapped_trees source target q in
-      let s = valid_length 32 source fine.0 in
-      let t = valid_length 64 target fine.1 in
-      omega (arith, misfit-length source target 12 offset s t (omega arith) h (diagnosis source target) (diagnosis-small source target))
+      let small = unmapped_small source target (sym q) in
+      omega (arith, misfit-length source target offset small.0 small.1 h (diagnosis source target) (diagnosis-small source target))
 
   sheet-length : length (sheet source target limit offset) ≤ 23735
   unfolding sheet
-  sheet-length = by_outcome (outcome source target) refl
+  sheet-length = by_tests (eqb (search_fault source target) 0) (eqb (search_fault source target) 12) refl refl
     where
-      by_limit : (n : ℕ) → n ≤ 17 → outcome source target ≡ Map → length (mapped_sheet n source target offset) ≤ 23735
-      by_limit zero l q = mapped_length q
-      by_limit (suc n) l q = omega (arith, refusal-length (suc n) offset (omega (arith, l)) h)
-
-      by_outcome : (o : Outcome) → outcome source target ≡ o → length (outcome_sheet o source target limit offset) ≤ 23735
-      by_outcome Map q = by_limit (limit_fault limit) (limit_most limit) q
-      by_outcome NoMap q = unmapped_length q
-      by_outcome (AtFault f) q =
-          let few : f ≤ 12 = rw (← (ap number_of q)) (rw (outcome-number source target) (search_most source target)) in
-          omega (arith, fault-sheet-length source target f offset (omega (arith, few)) h)
+      by_tests : (a b : Bool) → eqb (search_fault source target) 0 ≡ a → eqb (search_fault source target) 12 ≡ b
+          → length (
+          cond a (mapped_sheet source target images limit offset)
+          (cond b (misfit_sheet (diagnosis source target) source target offset) (fault_sheet source target (search_fault source target) offset))
+          )
+          ≤ 23735
+      by_tests true b e d = mapped_length (eqb-true (search_fault source target) 0 e)
+      by_tests false true e d = unmapped_length (eqb-true (search_fault source target) 12 d)
+      by_tests false false e d =
+          omega (arith, fault-sheet-length source target (search_fault source target) offset (omega (arith, search_most source target)) h)
 
 -- No sheet is longer than 23,735 bytes.
 pub sheet-fits : (script : List ℕ) → length script ≤ 65536 → length (script_sheet script) ≤ 23735
@@ -513,6 +480,6 @@ sheet-fits script h = by_ending (gathered script).ending (ends_inside script)
   where
     by_ending : (e : Ending) → Inside (length script) e → length (sheet_by e (gathered script)) ≤ 23735
     by_ending End i = omega (arith, nothing-length)
-    by_ending (Refused n offset) i = omega (arith, refusal-length n offset i.0 (omega (arith, i.1)))
+    by_ending (Refused r offset) i = omega (arith, refusal-length (number r) offset i.0 (omega (arith, i.1)))
     by_ending (Compile at) i =
-        sheet-length (gathered script).source (gathered script).target (limit_in (gathered script).limit) at (omega (arith, i))
+        sheet-length (gathered script).source (gathered script).target (unwrap_or (gathered script).limit 0) at (omega (arith, i))

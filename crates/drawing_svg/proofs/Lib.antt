@@ -1,4 +1,3 @@
-pub mod Each
-pub mod FaultCases
+pub mod Kept
 pub mod Sheet
 pub mod Lengths

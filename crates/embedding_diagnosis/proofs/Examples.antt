@@ -7,7 +7,7 @@ use Rattle.topology.specs.Branch.{branch_end, is_above, branch_fault, branch_par
 use Rattle.topology_places.specs.Places.{depth}
 use Rattle.embedding_model.specs.Check.{are_nodes, rule1, rule2, rule3, rule4}
 use Rattle.embedding_model.specs.Least.{meets_rules, least_map, least_of, search_fault}
-use Rattle.embedding_outcome.specs.Outcomes.{outcome}
+use Rattle.refusal.specs.declared.Refusal.TheVariants.{Incomplete}
 use Rattle.embedding_diagnosis.specs.Misfit.{is_kept, kept_above, may_go, fits_at, fits_nowhere, misfit}
 use Rattle.embedding_diagnosis.specs.Diagnosis.{deepest, leaves, most_leaves, lack_at, diagnosis}
 use Rattle.embedding_diagnosis.specs.declared.Diagnosis.TheVariants.{Loads, Refused, TooDeep, TooManyLeaves, NotTogether}
@@ -32,8 +32,8 @@ pub record Diagnosed : Type 0 where
   pub apart : diagnosis binary comb ≡ NotTogether 0
   -- the same below a node that is passed over, which is not named
   pub passed : diagnosis (1 ∷ binary) comb ≡ NotTogether 1
-  pub fault : diagnosis (2 ∷ 0 ∷ []) comb ≡ Refused 1
+  pub fault : diagnosis (2 ∷ 0 ∷ []) comb ≡ Refused Incomplete
 
 pub diagnosed : Diagnosed
-unfolding diagnosis lack_at most_leaves leaves deepest misfit fits_nowhere fits_at may_go kept_above is_kept depth outcome search_fault least_of least_map meets_rules are_nodes rule1 rule2 rule3 rule4 fault branch_part branch_fault is_above branch_end
+unfolding diagnosis lack_at most_leaves leaves deepest misfit fits_nowhere fits_at may_go kept_above is_kept depth search_fault least_of least_map meets_rules are_nodes rule1 rule2 rule3 rule4 fault branch_part branch_fault is_above branch_end
 diagnosed = record { loads = refl; deep = refl; many = refl; apart = refl; passed = refl; fault = refl }

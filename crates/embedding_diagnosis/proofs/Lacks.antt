@@ -11,7 +11,10 @@ use mathlib.Core.Bool.{Bool, true, false, ◌&&◌, cond}
 use lib.ListN.{length, get_or, take, drop, length-take, length-drop}
 use lib.Dec.{eqb, ltb}
 use borrow.Author.Tests.{eq-eqb, eqb-true, eqb-false, ltb-true, ltb-false}
-use Rattle.base.specs.Refusals.{unless_refused}
+use Rattle.base.specs.Refusals.{or_else, unless_refused}
+use Rattle.refusal.specs.Numbers.{number, refusal_of}
+use Rattle.topology.proofs.FaultMost.{fault_most}
+use Rattle.embedding_trees.specs.Trees.{trees_fault}
 use Rattle.topology.specs.Tree.{Topo, leaf, width, size, code}
 use Rattle.topology.specs.Address.{subtree}
 use Rattle.topology.specs.Reader.{fault, tree}
@@ -25,17 +28,12 @@ use Rattle.topology_places.specs.Places.{depth}
 use Rattle.topology_places.proofs.Counted.{counted_most, last_most, depth_most}
 use Rattle.topology_places.proofs.Passes.{counted_into}
 use Rattle.embedding_model.specs.Rules.{image, Passes}
-use Rattle.embedding_model.specs.Least.{least_of, search_fault}
+use Rattle.embedding_model.specs.Least.{least_of, none_fault, search_fault}
 use Rattle.embedding_model.proofs.Search.{search-map}
 use Rattle.embedding_model.specs.FirstLeaf.{first_leaf}
 use Rattle.embedding_model.proofs.Least.{least_embedding}
 use Rattle.embedding_model.proofs.LoneLeaf.{lone_least}
 use Rattle.embedding_model.proofs.Passes.{embeds_passes}
-use Rattle.embedding_outcome.specs.declared.Outcome.{Outcome}
-use Rattle.embedding_outcome.specs.declared.Outcome.TheVariants.{Map, NoMap, Refused as AtFault}
-use Rattle.embedding_outcome.specs.Outcomes.{outcome_by, outcome}
-use Rattle.embedding_outcome.specs.Outcomes.{number_of as outcomes_number_of}
-use Rattle.embedding_outcome.proofs.OutcomeNumber.{outcome-number}
 use Rattle.embedding_diagnosis.specs.Misfit.{is_kept, kept_above, may_go, fits_nowhere, misfit, FitsNowhere, Misfit}
 use Rattle.embedding_diagnosis.specs.Diagnosis.{greatest, deepest, leaves, leaves_under, most_leaves}
 use Rattle.embedding_diagnosis.specs.Diagnosis.{lack_at, diagnosis_by, diagnosis, number_of, Says}
@@ -204,15 +202,15 @@ module _ (source target : List ℕ) (hs : fault 32 source ≡ 0) (ht : fault 64 
 
   -- What the diagnosis says is so.
   pub diagnosis_says : Says source target (diagnosis source target)
-  unfolding diagnosis outcome
+  unfolding diagnosis search_fault
   diagnosis_says = rw (hs, ht) (by_least (least_of source target) refl)
     where
-      number : (o : Outcome) → outcome_by 0 (least_of source target) ≡ o → search_fault source target ≡ outcomes_number_of o
-      number o e = sym (outcome-number source target) ∙ rw (hs, ht) (ap outcomes_number_of e)
+      none_number : (f : Option (List ℕ)) → least_of source target ≡ f → search_fault source target ≡ none_fault f
+      none_number f e = rw (hs, ht, e) refl
 
-      by_least : (f : Option (List ℕ)) → least_of source target ≡ f → Says source target (diagnosis_by (outcome_by 0 f) source target)
-      by_least none e = lack_says (misfit source target) (misfit_is source target hs ht (number NoMap (ap (outcome_by 0) e)))
-      by_least (some m) e = let k = search-map source target hs ht (number Map (ap (outcome_by 0) e)) in (k.0, k.1.passes)
+      by_least : (f : Option (List ℕ)) → least_of source target ≡ f → Says source target (diagnosis_by 0 f source target)
+      by_least none e = lack_says (misfit source target) (misfit_is source target hs ht (none_number none e))
+      by_least (some m) e = let k = search-map source target hs ht (none_number (some m) e) in (k.0, k.1.passes)
 
 -- ---- for any bytes
 
@@ -226,19 +224,33 @@ lack_number source target s = by_tests (eqb (get_or source s 0) 0) (ltb (most_le
     by_tests false true = refl
     by_tests false false = refl
 
-pub diagnosis-number : (source target : List ℕ) → number_of (diagnosis source target) ≡ search_fault source target
-unfolding diagnosis
-diagnosis-number source target = by_outcome (outcome source target) ∙ outcome-number source target
+-- a fault of a tree is the number of a refusal
+tree_number : (limit : ℕ) (bytes : List ℕ) (f : ℕ) → fault limit bytes ≡ suc f → number (refusal_of (suc f)) ≡ suc f
+tree_number limit bytes f e = by_number f (omega (arith, fault_most limit bytes))
   where
-    by_outcome : (o : Outcome) → number_of (diagnosis_by o source target) ≡ outcomes_number_of o
-    by_outcome Map = refl
-    by_outcome NoMap = lack_number source target (misfit source target)
-    by_outcome (AtFault n) = refl
+    by_number : (f : ℕ) → f ≤ 4 → number (refusal_of (suc f)) ≡ suc f
+    by_number zero h = refl
+    by_number (suc zero) h = refl
+    by_number (suc (suc zero)) h = refl
+    by_number (suc (suc (suc zero))) h = refl
+    by_number (suc (suc (suc (suc zero)))) h = refl
+    by_number (suc (suc (suc (suc (suc f))))) h = absurd (omega arith)
+
+pub diagnosis-number : (source target : List ℕ) → number_of (diagnosis source target) ≡ search_fault source target
+unfolding diagnosis search_fault
+diagnosis-number source target = by_fault (fault 32 source) (fault 64 target) (least_of source target) refl refl
+  where
+    by_fault : (f g : ℕ) (a : Option (List ℕ)) → fault 32 source ≡ f → fault 64 target ≡ g
+        → number_of (diagnosis_by (or_else f g) a source target) ≡ or_else f (or_else g (none_fault a))
+    by_fault zero zero none e d = lack_number source target (misfit source target)
+    by_fault zero zero (some m) e d = refl
+    by_fault zero (suc g) a e d = tree_number 64 target g d
+    by_fault (suc f) g a e d = tree_number 32 source f e
 
 -- The numbers of an answer are small.
 abbrev pub Small : ℕ → ℕ → Diagnosis → Type 0
 Small source_nodes target_nodes Loads = Unit
-Small source_nodes target_nodes (Refused n) = Unit
+Small source_nodes target_nodes (Refused r) = Unit
 Small source_nodes target_nodes (TooDeep node needed there) = (node ≤ source_nodes) × (needed ≤ source_nodes) × (there ≤ target_nodes)
 Small source_nodes target_nodes (TooManyLeaves node needed there) = (node ≤ source_nodes) × (needed ≤ source_nodes) × (there ≤ target_nodes)
 Small source_nodes target_nodes (NotTogether node) = node ≤ source_nodes
@@ -282,9 +294,9 @@ lack_small source target s h =
 
 pub diagnosis-small : (source target : List ℕ) → Small (length source) (length target) (diagnosis source target)
 unfolding diagnosis
-diagnosis-small source target = by_outcome (outcome source target)
+diagnosis-small source target = by_fault (trees_fault source target) (least_of source target)
   where
-    by_outcome : (o : Outcome) → Small (length source) (length target) (diagnosis_by o source target)
-    by_outcome Map = tt
-    by_outcome NoMap = lack_small source target (misfit source target) (misfit_most source target)
-    by_outcome (AtFault n) = tt
+    by_fault : (f : ℕ) (a : Option (List ℕ)) → Small (length source) (length target) (diagnosis_by f a source target)
+    by_fault zero none = lack_small source target (misfit source target) (misfit_most source target)
+    by_fault zero (some m) = tt
+    by_fault (suc f) a = tt

@@ -1,12 +1,13 @@
 -- Why a drawing has no map: the branch that fits nowhere, and what it lacks.
 use Rattle.std.specs.Prelude.{◌≡◌, ◌≢◌, ℕ, zero, suc, max, ◌≤◌, ◌<◌, List, Bool, true, cond, length, get_or, eqb, ltb}
+use Rattle.std.proofs.Math.Option.{Option, none, some}
 use Rattle.topology.specs.Branch.{branch_part}
 use Rattle.topology.specs.Reader.{tree}
 use Rattle.topology_places.specs.Places.{counted, depth}
-use Rattle.embedding_outcome.specs.declared.Outcome.{Outcome}
-use Rattle.embedding_outcome.specs.declared.Outcome.TheVariants.{Map, NoMap, Refused as AtFault}
-use Rattle.embedding_outcome.specs.Outcomes.{outcome}
+use Rattle.refusal.specs.Numbers.{number, refusal_of}
 use Rattle.embedding_model.specs.Rules.{Passes}
+use Rattle.embedding_model.specs.Least.{least_of}
+use Rattle.embedding_trees.specs.Trees.{trees_fault}
 use Rattle.embedding_diagnosis.specs.Misfit.{kept_above, may_go, misfit, Misfit}
 use Rattle.embedding_diagnosis.specs.declared.Diagnosis.{Diagnosis}
 use Rattle.embedding_diagnosis.specs.declared.Diagnosis.TheVariants.{Loads, Refused, TooDeep, TooManyLeaves, NotTogether}
@@ -42,19 +43,19 @@ lack_at source target s =
     let inner = cond (ltb most needed) (TooManyLeaves s needed most) (NotTogether s) in
     cond (eqb (get_or source s 0) 0) (TooDeep s above (deepest target)) inner
 
--- by the outcome of the search: why there is no map
-abbrev pub diagnosis_by : Outcome → List ℕ → List ℕ → Diagnosis
-diagnosis_by Map source target = Loads
-diagnosis_by NoMap source target = lack_at source target (misfit source target)
-diagnosis_by (AtFault n) source target = Refused n
+-- the refusal of a tree, the source first; else why there is no least map
+abbrev pub diagnosis_by : ℕ → Option (List ℕ) → List ℕ → List ℕ → Diagnosis
+diagnosis_by zero none source target = lack_at source target (misfit source target)
+diagnosis_by zero (some m) source target = Loads
+diagnosis_by (suc f) answer source target = Refused (refusal_of (suc f))
 
 unfoldable pub diagnosis : List ℕ → List ℕ → Diagnosis
-diagnosis source target = diagnosis_by (outcome source target) source target
+diagnosis source target = diagnosis_by (trees_fault source target) (least_of source target) source target
 
 -- paper 01's number for each case, which is `search_fault` (`diagnosis-number` in proofs/Lacks)
 abbrev pub number_of : Diagnosis → ℕ
 number_of Loads = 0
-number_of (Refused n) = n
+number_of (Refused r) = number r
 number_of (TooDeep node needed there) = 12
 number_of (TooManyLeaves node needed there) = 12
 number_of (NotTogether node) = 12
@@ -82,7 +83,7 @@ pub record LacksRoom (source target : List ℕ) (node : ℕ) : Type 0 where
 
 abbrev pub Says : List ℕ → List ℕ → Diagnosis → Type 0
 Says source target Loads = (m : List ℕ) × Passes (tree source) (tree target) m
-Says source target (Refused n) = ⊥
+Says source target (Refused r) = ⊥
 Says source target (TooDeep node needed there) = LacksDepth source target node needed there
 Says source target (TooManyLeaves node needed there) = LacksLeaves source target node needed there
 Says source target (NotTogether node) = LacksRoom source target node

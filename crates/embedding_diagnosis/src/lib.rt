@@ -1,27 +1,29 @@
 // Why a drawing has no map: the branch of it that fits nowhere on the chip, and what the branch lacks.
 //
 // Each kept node, from the last to the first that fits nowhere, is tried at each target node where it may go, by a search of the one branch in the
-// other: at most 32 * 64 searches, each of smaller trees than the whole. The slowest pair that was found takes 5.5 ms (docs/PERFORMANCE.md).
+// other: at most 32 * 64 searches, each of smaller trees than the whole. docs/PERFORMANCE.md has the slowest pair that was found.
+//
+// The source and the target are two parameters, as `why` has them and `least_map` takes them, and most functions use one of the two.
 #![tactic(auto)]
 
-ghost use Rattle.std.specs.Prelude.{◌≡◌, max, ◌&&◌, cond, get_or};
-ghost use Rattle.topology.specs.Branch.{is_above};
+ghost use Rattle.std.specs.Prelude.{◌≡◌, get_or};
+ghost use Rattle.topology.specs.Branch.{branch_part};
 ghost use Rattle.embedding_diagnosis.specs.Misfit.{is_kept, kept_above, may_go, fits_at, fits_nowhere};
 ghost use Rattle.embedding_diagnosis.specs.Misfit.{misfit as misfit_misfit};
-ghost use Rattle.embedding_diagnosis.specs.Diagnosis.{leaves_under, most_leaves, lack_at, diagnosis};
+ghost use Rattle.embedding_diagnosis.specs.Diagnosis.{leaves, leaves_under, most_leaves, lack_at, diagnosis};
 ghost use Rattle.embedding_diagnosis.specs.Diagnosis.{deepest as diagnosis_deepest};
 
 use embedding_least::least_map;
-use embedding_outcome::{Outcome, number_of};
+use refusal::Refusal;
 use topology_branches::{branch, is_above};
-use topology_places::{depth, one_if};
+use topology_places::depth;
 
-// There is a map; or a tree is at fault, by its number; or the branch under a node fits nowhere. Then the node stands first. Two numbers after it are
+// There is a map; or a tree is at fault; or the branch under a node fits nowhere. Then the node stands first. Two numbers after it are
 // what is needed and what there is.
 #[derive(Clone, Copy)]
 pub enum Diagnosis {
     Loads,
-    Refused(u8),
+    Refused(Refusal),
     // The node is a leaf. It has the first number of kept nodes above it, and no chip node has more than the second number of nodes above it.
     TooDeep(usize, usize, usize),
     // The branch has the first number of leaves, and a branch of the chip where the node may go has at most the second.
@@ -30,37 +32,25 @@ pub enum Diagnosis {
     NotTogether(usize),
 }
 
-// How many children a node has; 0 for a number past the last node.
-fn children_of(bytes: &[u8], node: usize) -> u8
-    ensures { result ≡ get_or bytes.now node 0 }
+// Whether a node is kept: no inner node with one child.
+#[tactic(auto, unfolding(crate::specs::Misfit::is_kept))]
+fn is_kept(bytes: &[u8], node: usize) -> bool
+    ensures { result ≡ is_kept bytes.now node }
 {
-    if node < bytes.len() { bytes[node] } else { 0 }
-}
-
-// Whether node `a` is kept and is `node` or lies above it.
-fn is_kept_above(source: &[u8], a: usize, node: usize) -> bool
-    ensures { result ≡ is_kept source.now a && is_above source.now a node }
-{
-    if children_of(source, a) == 1 {
-        return false;
-    }
-    is_above(source, a, node)
+    bytes.get(node).is_none_or(|&children| children != 1)
 }
 
 // How many kept nodes lie above `node`.
 fn kept_above(source: &[u8], node: usize) -> usize
     ensures { result ≡ kept_above source.now node }
 {
-    let mut count = 0;
-    let mut a = 0;
-    while a < node {
-        count += one_if(is_kept_above(source, a, node));
-        a += 1;
-    }
-    count
+    (0..node)
+        .filter(|&a| is_kept(source, a) && is_above(source, a, node))
+        .count()
 }
 
 // Whether a source node with `above` kept nodes above it may go to target node `t`.
+#[tactic(auto, unfolding(crate::specs::Misfit::may_go))]
 fn may_go(above: usize, target: &[u8], t: usize) -> bool
     ensures { result ≡ may_go above target.now t }
 {
@@ -70,27 +60,18 @@ fn may_go(above: usize, target: &[u8], t: usize) -> bool
     above <= depth(target, t)
 }
 
+// The branch under a node, as a tree by itself; no bytes if there is none.
+fn part(bytes: &[u8], node: usize) -> &[u8]
+    ensures { result.now ≡ branch_part bytes.now node }
+{
+    branch(bytes, node).unwrap_or(&[])
+}
+
 // Whether the branch under source node `s`, as a drawing by itself, has a map into the branch under target node `t`.
 fn fits_at(source: &[u8], target: &[u8], s: usize, t: usize) -> bool
     ensures { result ≡ fits_at source.now target.now s t }
 {
-    let mut source_refusal = 0u8;
-    let mut target_refusal = 0u8;
-    let drawing = branch(source, s, &mut source_refusal);
-    let chip = branch(target, t, &mut target_refusal);
-    let found = least_map(drawing, chip);
-    let outcome = found.outcome;
-    number_of(outcome) == 0
-}
-
-// Whether source node `s`, with `above` kept nodes above it, may go to target node `t` and its branch fits there.
-fn goes_to(source: &[u8], target: &[u8], s: usize, above: usize, t: usize) -> bool
-    ensures { result ≡ may_go above target.now t && fits_at source.now target.now s t }
-{
-    if may_go(above, target, t) {
-        return fits_at(source, target, s, t);
-    }
-    false
+    least_map(part(source, s), part(target, t)).is_ok()
 }
 
 // Whether the branch under source node `s` fits nowhere.
@@ -98,110 +79,60 @@ fn fits_nowhere(source: &[u8], target: &[u8], s: usize) -> bool
     ensures { result ≡ fits_nowhere source.now target.now s }
 {
     let above = kept_above(source, s);
-    let mut t = 0;
-    while t < target.len() {
-        if goes_to(source, target, s, above, t) {
-            return false;
-        }
-        t += 1;
-    }
-    true
-}
-
-// Whether source node `s` is kept and its branch fits nowhere.
-fn is_misfit(source: &[u8], target: &[u8], s: usize) -> bool
-    ensures { result ≡ is_kept source.now s && fits_nowhere source.now target.now s }
-{
-    if children_of(source, s) == 1 {
-        return false;
-    }
-    fits_nowhere(source, target, s)
+    (0..target.len()).all(|t| !(may_go(above, target, t) && fits_at(source, target, s, t)))
 }
 
 // The last kept node in preorder whose branch fits nowhere; 0 if there is none.
 fn misfit(source: &[u8], target: &[u8]) -> usize
     ensures { result ≡ misfit_misfit source.now target.now }
 {
-    let mut s = source.len();
-    while 0 < s {
-        s -= 1;
-        if is_misfit(source, target, s) {
-            return s;
-        }
-    }
-    0
-}
-
-// The larger of two numbers.
-fn larger(a: usize, b: usize) -> usize
-    ensures { result ≡ max a b }
-{
-    if a < b { b } else { a }
+    (0..source.len())
+        .rfind(|&s| is_kept(source, s) && fits_nowhere(source, target, s))
+        .unwrap_or(0)
 }
 
 // The depth of the deepest node.
 fn deepest(target: &[u8]) -> usize
     ensures { result ≡ diagnosis_deepest target.now }
 {
-    let mut most = 0;
-    let mut t = 0;
-    while t < target.len() {
-        most = larger(most, depth(target, t));
-        t += 1;
-    }
-    most
+    (0..target.len())
+        .map(|t| depth(target, t))
+        .max()
+        .unwrap_or(0)
 }
 
-// How many leaves the branch under `node` has.
-fn leaves_under(bytes: &[u8], node: usize) -> usize
-    ensures { result ≡ leaves_under bytes.now node }
+// How many leaves a tree has.
+fn leaves(bytes: &[u8]) -> usize
+    ensures { result ≡ leaves bytes.now }
 {
-    let mut refusal = 0u8;
-    let part = branch(bytes, node, &mut refusal);
-    let mut count = 0;
-    let mut k = 0;
-    while k < part.len() {
-        count += one_if(part[k] == 0);
-        k += 1;
-    }
-    count
-}
-
-// How many leaves the branch under target node `t` has for a source node with `above` kept nodes above it; 0 if that may not go there.
-fn leaves_at(above: usize, target: &[u8], t: usize) -> usize
-    ensures { result ≡ cond (may_go above target.now t) (leaves_under target.now t) 0 }
-{
-    if may_go(above, target, t) {
-        return leaves_under(target, t);
-    }
-    0
+    bytes.iter().filter(|&&children| children == 0).count()
 }
 
 // The most leaves of a branch of the target where a source node with `above` kept nodes above it may go.
 fn most_leaves(above: usize, target: &[u8]) -> usize
     ensures { result ≡ most_leaves above target.now }
 {
-    let mut most = 0;
-    let mut t = 0;
-    while t < target.len() {
-        most = larger(most, leaves_at(above, target, t));
-        t += 1;
-    }
-    most
+    (0..target.len())
+        .filter(|&t| may_go(above, target, t))
+        .map(|t| leaves(part(target, t)))
+        .max()
+        .unwrap_or(0)
 }
 
 // What the branch under source node `s` lacks if it fits nowhere.
+#[tactic(auto, unfolding(crate::specs::Diagnosis::lack_at))]
 fn lack_at(source: &[u8], target: &[u8], s: usize) -> Diagnosis
     ensures { result ≡ lack_at source.now target.now s }
 {
     let above = kept_above(source, s);
-    if children_of(source, s) == 0 {
+    let is_leaf = source.get(s).is_none_or(|&children| children == 0);
+    if is_leaf {
         return Diagnosis::TooDeep(s, above, deepest(target));
     }
-    let leaves = leaves_under(source, s);
+    let needed = leaves(part(source, s));
     let most = most_leaves(above, target);
-    if most < leaves {
-        return Diagnosis::TooManyLeaves(s, leaves, most);
+    if most < needed {
+        return Diagnosis::TooManyLeaves(s, needed, most);
     }
     Diagnosis::NotTogether(s)
 }
@@ -210,11 +141,11 @@ fn lack_at(source: &[u8], target: &[u8], s: usize) -> Diagnosis
 pub fn why(source: &[u8], target: &[u8]) -> Diagnosis
     ensures { result ≡ diagnosis source.now target.now }
 {
-    let found = least_map(source, target);
-    let outcome = found.outcome;
-    match outcome {
-        Outcome::Map => Diagnosis::Loads,
-        Outcome::NoMap => lack_at(source, target, misfit(source, target)),
-        Outcome::Refused(number) => Diagnosis::Refused(number),
+    let Err(refusal) = least_map(source, target) else {
+        return Diagnosis::Loads;
+    };
+    match refusal {
+        Refusal::NoMap => lack_at(source, target, misfit(source, target)),
+        _ => Diagnosis::Refused(refusal),
     }
 }

@@ -1,2 +1,2 @@
-pub mod TryAt
+pub mod NumberKept
 pub mod Searches

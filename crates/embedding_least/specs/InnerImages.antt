@@ -1,14 +1,10 @@
--- For private functions: the least list of images.
-use Rattle.std.specs.Prelude.{◌≡◌, ℕ, List, Bool, true, false}
-use Rattle.std.proofs.Math.Option.{Option, none, some}
-use Rattle.embedding_model.specs.Least.{least_map, padded}
-use Rattle.embedding_least.specs.declared.LeastImages.{LeastImages}
+-- For private functions: the least list of images, as the code has it.
+use Rattle.std.specs.Prelude.{ℕ, List, Option, Some, None}
+use Rattle.std.proofs.Math.Option.{none, some}
+use Rattle.std.proofs.Math.Option as Math
+use Rattle.topology_reduction.specs.Reduced.{in32}
 
-abbrev pub is_found : Option (List ℕ) → Bool
-is_found none = false
-is_found (some m) = true
-
--- r has the least list of images between a drawing without passed nodes and a target, or says that there is none
-pub record FindsLeast (source target : List ℕ) (r : LeastImages) : Type 0 where
-  pub found : r.is_found ≡ is_found (least_map source target)
-  pub images : r.images ≡ padded (least_map source target)
+-- a list of images in 32 places, if there is one
+abbrev pub in_places : Math.Option (List ℕ) → Option (List ℕ)
+in_places none = None
+in_places (some m) = Some (in32 m)

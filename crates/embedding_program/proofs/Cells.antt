@@ -2,8 +2,9 @@
 -- of which an earlier scan that began at the same end may have filled the first. For each loop there is a record, its invariant, with laws for the
 -- loop's start, step and end.
 use mathlib.Core.Path.{◌≡◌, refl, sym, ap, ◌∙◌, subst}
-use Prim.Native.Nat.{ℕ, zero, suc, ◌+◌, ◌*◌, ◌-◌, ◌/◌, ◌%◌, ◌≤◌, ◌<◌, min}
-use native.Mathlib.Nat.{not-suc-le-zero, mul_comm, mod-lt}
+use Prim.Native.Nat.{ℕ, zero, suc, ◌+◌, ◌*◌, ◌-◌, ◌/◌, ◌%◌, ◌^◌, ◌≤◌, ◌<◌, min}
+use native.Mathlib.Nat.{not-suc-le-zero, le_of_lt, mul_comm, mul-le-mul_right}
+use Rattle.std.proofs.Math.Nat.{pow-succ'}
 use native.Mathlib.Decide.{dec_lt, ℕ_discrete}
 use native.Mathlib.Omega.{arith}
 use mathlib.Core.List.{List}
@@ -12,13 +13,16 @@ use lib.ListN.{length, get_or, set, drop, replicate, length-set, length-replicat
 use lib.Seq.{get_or-set_same, get_or-set_other}
 use lib.Dec.{eqb}
 use borrow.Author.Tests.{eqb-true, eqb-false, eq-eqb, ne_eqb}
-use Rattle.base.proofs.Replicate.{get_or_everywhere}
 use Rattle.base.proofs.Tests.{clash}
 use Rattle.embedding_program.specs.InnerSets.{number, holding, power, weight, no_images}
 use Rattle.embedding_program.specs.InnerPlacing.{Member, Partial, Offer}
-use Rattle.embedding_program.specs.InnerTables.{best_by, can_by, end_by, cell, LeastBy, Row, Ready, TableFrame, tried_by, Alternation, RowTried, ChildTried, RowCopied, RowFilled, LastRow, Scanned, Started, BranchOf, PlacedBelow, Room}
+use Rattle.embedding_program.specs.InnerTables.{best_by, can_by, end_by, cell, LeastBy, Row, Ready, tried_by, Alternation, RowTried, RowCopied, RowFilled, LastRow, Scanned, Started, BranchOf, PlacedBelow}
 use Rattle.embedding_program.proofs.Sets.{power_le, weight_le, holding_member, holding_less, before_first, between, holding-fits, number_bound, number-drop, number_odd, number_even, number_clear, number-full}
-use Rattle.embedding_program.proofs.Placing.{placed-map, end_empty, end_some, begin, try, finish, offer_absent, offer_closed, offer_open}
+use Rattle.embedding_program.proofs.Placing.{end_empty, end_some, begin, try, finish, offer_absent, offer_closed, offer_open}
+
+pub power-is : (k : ℕ) → 2 ^ k ≡ power k
+power-is zero = refl
+power-is (suc k) = pow-succ' 2 k ∙ ap (λ (n : ℕ). 2 * n) (power-is k)
 
 pub power_some : (k : ℕ) → 1 ≤ power k
 power_some k = power_le 0 k (omega arith)
@@ -26,11 +30,15 @@ power_some k = power_le 0 k (omega arith)
 pub power_256 : (k : ℕ) → k ≤ 8 → power k ≤ 256
 power_256 k h = power_le k 8 h
 
-pub power_128 : (k : ℕ) → k < 8 → power k ≤ 128
-power_128 k h = power_le k 7 (omega arith)
-
 pub weight-small : (i : ℕ) → i < 8 → weight i ≤ 4398046511104
 weight-small i h = weight_le i 7 (omega arith)
+
+-- a child's part of the number fits
+pub part_fits : (p end i k w : ℕ) → p < end → end ≤ 64 → i < k → k ≤ 8 → w ≡ weight i → p * w ≤ no_images
+part_fits p end i k w inside limit l few e =
+    let small = weight-small i (omega arith) in
+    let h : p < 64 = omega arith in
+    omega (arith, mul-le-mul_right w (le_of_lt h))
 
 pub power_next : (i : ℕ) → power i * 2 ≡ power (i + 1)
 power_next i =
@@ -65,50 +73,20 @@ holding_in sets pow h u l =
     let even = u.even in
     omega (arith, holding-fits pow u.some u.rounds h (omega arith))
 
--- rows of zeros have room
-pub room-zeros : Room (replicate 16640 0)
-room-zeros =
-    record {
-      places = length-replicate {A = ℕ} 16640 0;
-      bound = λ i. omega (arith, get_or_everywhere {A = ℕ} 16640 i 0);
-    }
-
-row_kept : (best kids ends : List ℕ) (k : ℕ) (before go : List ℕ) (p q hi : ℕ) → ((i : ℕ) → (p + 1) * 256 ≤ i → get_or go i 0 ≡ get_or before i 0)
-    → p < q → Row best kids ends k before q hi → Row best kids ends k go q hi
-row_kept best kids ends k before go p q hi kept l row bs e =
+row_kept : (best kids ends before go : List ℕ) (p q hi : ℕ) → ((i : ℕ) → (p + 1) * 256 ≤ i → get_or go i 0 ≡ get_or before i 0)
+    → p < q → Row best kids ends before q hi → Row best kids ends go q hi
+row_kept best kids ends before go p q hi kept l row bs e =
     subst (LeastBy best kids ends hi bs q) (sym (kept (q * 256 + number bs) (omega arith))) (row bs e)
 
-ready_kept : (best kids ends : List ℕ) (k : ℕ) (before go : List ℕ) (p hi : ℕ) → ((i : ℕ) → (p + 1) * 256 ≤ i → get_or go i 0 ≡ get_or before i 0)
-    → Ready best kids ends k before p hi → Ready best kids ends k go p hi
-ready_kept best kids ends k before go p hi kept r =
+ready_kept : (best kids ends before go : List ℕ) (p hi : ℕ) → ((i : ℕ) → (p + 1) * 256 ≤ i → get_or go i 0 ≡ get_or before i 0)
+    → Ready best kids ends before p hi → Ready best kids ends go p hi
+ready_kept best kids ends before go p hi kept r =
     record {
       inside = r.inside;
       grows = r.grows;
-      next = row_kept best kids ends k before go p (p + 1) hi kept (omega arith) r.next;
-      past = row_kept best kids ends k before go p (end_by ends p) hi kept (r.grows p r.inside) r.past;
+      next = row_kept best kids ends before go p (p + 1) hi kept (omega arith) r.next;
+      past = row_kept best kids ends before go p (end_by ends p) hi kept (r.grows p r.inside) r.past;
     }
-
--- rows depend on the table only at the children
-pub scanned_same : (best other kids ends : List ℕ) (k : ℕ) (go : List ℕ) (low hi : ℕ)
-    → ((j x : ℕ) → j < k → best_by best (get_or kids j 0) x ≡ best_by other (get_or kids j 0) x)
-    → Scanned best kids ends k go low hi → Scanned other kids ends k go low hi
-scanned_same best other kids ends k go low hi same w =
-    record { some = w.some; rows = λ q a b bs e. moved q bs e (w.rows q a b bs e) }
-  where
-    moved : (q : ℕ) (bs : List Bool) → length bs ≡ k → LeastBy best kids ends hi bs q (cell go q (number bs)) → LeastBy other kids ends hi bs q (cell go q (number bs))
-    moved q bs e l =
-        record {
-          lower = λ ys o. l.lower ys (placed-map (can_by other kids) (can_by best kids) (end_by ends) (end_by ends) hi bs q ys (λ j x g h c. rw (same j x (omega arith)) c) (λ x g. refl) o);
-          attained = λ v. ((l.attained v).0, placed-map (can_by best kids) (can_by other kids) (end_by ends) (end_by ends) hi bs q (l.attained v).0 (λ j x g h c. rw (← same j x (omega arith)) c) (λ x g. refl) (l.attained v).1, (l.attained v).2);
-        }
-
-bounded_set : (go : List ℕ) (i v : ℕ) → ((j : ℕ) → get_or go j 0 ≤ no_images) → v ≤ no_images → (j : ℕ) → get_or (set go i v) j 0 ≤ no_images
-bounded_set go i v b h j = by_place (dec_lt i (length go)) (ℕ_discrete j i)
-  where
-    by_place : Dec (i < length go) → Dec (j ≡ i) → get_or (set go i v) j 0 ≤ no_images
-    by_place (yes l) (yes e) = rw e (omega (arith, get_or-set_same go i v 0 l))
-    by_place (yes l) (no d) = omega (arith, get_or-set_other go i j v 0 d, b j)
-    by_place (no l) d = omega (arith, ap (λ (g : List ℕ). get_or g j 0) (lib.Seq.set_out go i v (omega arith)), b j)
 
 -- row p with the child tried in the sets before n, and its other entries as they were
 pub record Trial (before : List ℕ) (p end pow here n : ℕ) (go : List ℕ) : Type 0 where
@@ -117,29 +95,6 @@ pub record Trial (before : List ℕ) (p end pow here n : ℕ) (go : List ℕ) : 
 
 -- Writing entries of row p keeps the rows behind it.
 module _ (before : List ℕ) (p : ℕ) (l : p < 64) where
-  pub copy_start : Room before → RowCopied before p 0 before
-  copy_start r = record { places = r.places; bound = r.bound; unchanged = λ i h. refl; cells = λ j h. absurd (not-suc-le-zero h) }
-
-  pub copy_next : (n : ℕ) (go : List ℕ) → RowCopied before p n go → n < 256
-      → RowCopied before p (n + 1) (set go (p * 256 + n) (get_or go ((p + 1) * 256 + n) 0))
-  copy_next n go w h =
-      record {
-        places = length-set go (p * 256 + n) v ∙ w.places;
-        bound = bounded_set go (p * 256 + n) v w.bound (w.bound ((p + 1) * 256 + n));
-        unchanged = λ i g. get_or-set_other go (p * 256 + n) i v 0 (omega arith) ∙ w.unchanged i g;
-        cells = λ j g. here_or_before j g (ℕ_discrete j n);
-      }
-    where
-      v : ℕ
-      v = get_or go ((p + 1) * 256 + n) 0
-
-      here_or_before : (j : ℕ) → j < n + 1 → Dec (j ≡ n) → cell (set go (p * 256 + n) v) p j ≡ cell before (p + 1) j
-      here_or_before j g (yes q) = rw q (get_or-set_same go (p * 256 + n) v 0 (omega (arith, w.places)) ∙ w.unchanged ((p + 1) * 256 + n) (omega arith))
-      here_or_before j g (no q) = get_or-set_other go (p * 256 + n) (p * 256 + j) v 0 (omega arith) ∙ w.cells j (omega arith)
-
-  pub copy_end : (sets n : ℕ) (go : List ℕ) → RowCopied before p n go → sets ≤ n → RowCopied before p sets go
-  copy_end sets n go w h = record { places = w.places; bound = w.bound; unchanged = w.unchanged; cells = λ j g. w.cells j (omega arith) }
-
   module _ (end pow here : ℕ) where
     -- an entry for a set without the child, and for one with it
     tried_absent : (n : ℕ) → n / pow % 2 ≡ 0 → tried_by before p end pow here n ≡ cell before p n
@@ -155,8 +110,6 @@ module _ (before : List ℕ) (p : ℕ) (l : p < 64) where
     tried_over n m go k w f =
         record {
           row = record {
-            places = w.row.places;
-            bound = w.row.bound;
             unchanged = w.row.unchanged;
             cells = λ j g. by_place j g (dec_lt j n) (dec_lt j 256);
           };
@@ -168,24 +121,22 @@ module _ (before : List ℕ) (p : ℕ) (l : p < 64) where
         by_place j g (no d) (yes e) = w.rest j (omega arith) e ∙ sym (tried_absent j (f j (omega arith) g))
         by_place j g (no d) (no e) = w.row.unchanged (p * 256 + j) (omega arith) ∙ sym (tried_absent j (f j (omega arith) g))
 
-    pub tried-start : 0 < pow → Room before → Trial before p end pow here (holding pow 0) before
-    tried-start some r = tried_over 0 (holding pow 0) before (omega arith) none_yet (λ j g. before_first pow some j)
+    pub tried-start : 0 < pow → Trial before p end pow here (holding pow 0) before
+    tried-start some = tried_over 0 (holding pow 0) before (omega arith) none_yet (λ j g. before_first pow some j)
       where
         none_yet : Trial before p end pow here 0 before
         none_yet =
             record {
-              row = record { places = r.places; bound = r.bound; unchanged = λ i h. refl; cells = λ j h. absurd (not-suc-le-zero h) };
+              row = record { unchanged = λ i h. refl; cells = λ j h. absurd (not-suc-le-zero h) };
               rest = λ j h g. refl;
             }
 
     -- the next set with the child is tried
-    tried_one : (n : ℕ) (go : List ℕ) → Trial before p end pow here n go → n < 256 → p < end → n / pow % 2 ≡ 1 → (v : ℕ)
+    tried_one : (n : ℕ) (go : List ℕ) → length go ≡ 16640 → Trial before p end pow here n go → n < 256 → p < end → n / pow % 2 ≡ 1 → (v : ℕ)
         → v ≡ min (cell go p n) (here + cell go end (n - pow)) → Trial before p end pow here (n + 1) (set go (p * 256 + n) v)
-    tried_one n go w h d m v e =
+    tried_one n go places w h d m v e =
         record {
           row = record {
-            places = length-set go (p * 256 + n) v ∙ w.row.places;
-            bound = bounded_set go (p * 256 + n) v w.row.bound (omega (arith, w.row.bound (p * 256 + n)));
             unchanged = λ i g. get_or-set_other go (p * 256 + n) i v 0 (omega arith) ∙ w.row.unchanged i g;
             cells = λ j g. here_or_before j g (ℕ_discrete j n);
           };
@@ -199,59 +150,62 @@ module _ (before : List ℕ) (p : ℕ) (l : p < 64) where
             ∙ ap (λ (x : ℕ). min (cell before p n) (here + x)) (w.row.unchanged (end * 256 + (n - pow)) (omega arith)) ∙ sym (tried_member n m)
 
         here_or_before : (j : ℕ) → j < n + 1 → Dec (j ≡ n) → cell (set go (p * 256 + n) v) p j ≡ tried_by before p end pow here j
-        here_or_before j g (yes q) = rw q (get_or-set_same go (p * 256 + n) v 0 (omega (arith, w.row.places)) ∙ is_tried)
+        here_or_before j g (yes q) = rw q (get_or-set_same go (p * 256 + n) v 0 (omega arith) ∙ is_tried)
         here_or_before j g (no q) = get_or-set_other go (p * 256 + n) (p * 256 + j) v 0 (omega arith) ∙ w.row.cells j (omega arith)
 
-    pub tried_next : (h : ℕ) (go : List ℕ) → 0 < pow → Trial before p end pow here (holding pow h) go → holding pow h < 256 → p < end → (v : ℕ)
-        → v ≡ min (cell go p (holding pow h)) (here + cell go end (holding pow h - pow))
+    pub tried_next : (h : ℕ) (go : List ℕ) → length go ≡ 16640 → 0 < pow → Trial before p end pow here (holding pow h) go
+        → holding pow h < 256 → p < end → (v : ℕ) → v ≡ min (cell go p (holding pow h)) (here + cell go end (holding pow h - pow))
         → Trial before p end pow here (holding pow (h + 1)) (set go (p * 256 + holding pow h) v)
-    tried_next h go some w k d v e =
+    tried_next h go places some w k d v e =
         tried_over (holding pow h + 1) (holding pow (h + 1)) (set go (p * 256 + holding pow h) v) (omega (arith, holding_less pow some h))
-        (tried_one (holding pow h) go w k d (holding_member pow some h) v e) (λ j g. between pow some h j (omega arith))
+        (tried_one (holding pow h) go places w k d (holding_member pow some h) v e) (λ j g. between pow some h j (omega arith))
 
-    pub tried_end : (sets h : ℕ) (go : List ℕ) → Alternation sets pow → Trial before p end pow here (holding pow h) go → sets / 2 ≤ h
-        → RowTried before p end pow here sets go
-    tried_end sets h go u w g =
-        let small = mod-lt h u.some in
-        let even = u.even in
-        record { places = w.row.places; bound = w.row.bound; unchanged = w.row.unchanged; cells = λ j l. w.row.cells j (omega arith) }
+-- row p with the child tried in the sets before n, if `entry` lets it go to p; else row p is unchanged
+pub record ChildTried (entry : ℕ) (before : List ℕ) (p end pow here n : ℕ) (go : List ℕ) : Type 0 where
+  pub unchanged : (i : ℕ) → (p + 1) * 256 ≤ i → get_or go i 0 ≡ get_or before i 0
+  pub shut : no_images ≤ entry → (j : ℕ) → j < n → cell go p j ≡ cell before p j
+  pub cells : entry < no_images → (j : ℕ) → j < n → cell go p j ≡ tried_by before p end pow here j
+
+module _ (before : List ℕ) (entry p end pow here n : ℕ) where
+  pub child_shut : no_images ≤ entry → ChildTried entry before p end pow here n before
+  child_shut h = record { unchanged = λ i l. refl; shut = λ s j l. refl; cells = λ o. absurd (omega arith) }
+
+  pub child_tried : (go : List ℕ) → entry < no_images → RowTried before p end pow here n go → ChildTried entry before p end pow here n go
+  child_tried go h t = record { unchanged = t.unchanged; shut = λ s. absurd (omega arith); cells = λ o. t.cells }
 
 -- row p with the children at the places before i tried in every set
-pub record Trying (best kids ends : List ℕ) (k : ℕ) (before : List ℕ) (p i pow wei : ℕ) (go : List ℕ) : Type 0 where
-  pub upto : i ≤ k
+pub record Trying (best kids ends before : List ℕ) (p i pow wei : ℕ) (go : List ℕ) : Type 0 where
+  pub upto : i ≤ length kids
   pub pow_is : pow ≡ power i
   pub wei_is : wei ≡ weight i
-  pub places : length go ≡ 16640
-  pub bound : (j : ℕ) → get_or go j 0 ≤ no_images
   pub unchanged : (j : ℕ) → (p + 1) * 256 ≤ j → get_or go j 0 ≡ get_or before j 0
-  pub part : (hi : ℕ) → Ready best kids ends k before p hi → (bs : List Bool) → length bs ≡ k
+  pub part : (hi : ℕ) → Ready best kids ends before p hi → (bs : List Bool) → length bs ≡ length kids
       → Partial (can_by best kids) (end_by ends) hi bs p i (cell go p (number bs))
 
-module _ (best kids ends : List ℕ) (k : ℕ) (before : List ℕ) (p : ℕ) (sets : ℕ) (all : sets ≡ power k) where
-  in_sets : (bs : List Bool) → length bs ≡ k → number bs < sets
+module _ (best kids ends before : List ℕ) (p : ℕ) (sets : ℕ) (all : sets ≡ power (length kids)) where
+  in_sets : (bs : List Bool) → length bs ≡ length kids → number bs < sets
   in_sets bs e = omega (arith, subst (λ (x : ℕ). number bs < power x) e (number_bound bs))
 
   -- no child is tried yet: the row is a copy of the row behind it
-  pub try_start : (first : List ℕ) → RowCopied first p sets before → Trying best kids ends k before p 0 1 1 before
+  pub try_start : (first : List ℕ) → RowCopied first p sets before → Trying best kids ends before p 0 1 1 before
   try_start first w =
       record {
         upto = omega arith;
         pow_is = refl;
         wei_is = refl;
-        places = w.places;
-        bound = w.bound;
         unchanged = λ j h. refl;
         part = λ hi r bs e. begin (can_by best kids) (end_by ends) hi r.grows bs p (cell before p (number bs))
             (subst (LeastBy best kids ends hi bs (p + 1)) (same bs e) (r.next bs e));
       }
     where
-      same : (bs : List Bool) → length bs ≡ k → cell before (p + 1) (number bs) ≡ cell before p (number bs)
+      same : (bs : List Bool) → length bs ≡ length kids → cell before (p + 1) (number bs) ≡ cell before p (number bs)
       same bs e = w.unchanged ((p + 1) * 256 + number bs) (omega arith) ∙ sym (w.cells (number bs) (in_sets bs e))
 
   -- one more child
-  module _ (i pow wei : ℕ) (go : List ℕ) (w : Trying best kids ends k before p i pow wei go) (more : i < k) (after : List ℕ)
+  module _ (i pow wei : ℕ) (go : List ℕ) (bound : (j : ℕ) → get_or go j 0 ≤ no_images)
+      (w : Trying best kids ends before p i pow wei go) (more : i < length kids) (after : List ℕ)
       (c : ChildTried (best_by best (get_or kids i 0) p) go p (end_by ends p) pow (p * wei) sets after) where
-    module _ (hi : ℕ) (r : Ready best kids ends k before p hi) (bs : List Bool) (e : length bs ≡ k) where
+    module _ (hi : ℕ) (r : Ready best kids ends before p hi) (bs : List Bool) (e : length bs ≡ length kids) where
       so_far : Partial (can_by best kids) (end_by ends) hi bs p i (cell go p (number bs))
       so_far = w.part hi r bs e
 
@@ -264,7 +218,7 @@ module _ (best kids ends : List ℕ) (k : ℕ) (before : List ℕ) (p : ℕ) (se
       -- nothing is offered: the entry stays as it is
       stays : Offer (can_by best kids) (end_by ends) hi bs p i no_images → cell after p (number bs) ≡ cell go p (number bs)
           → Partial (can_by best kids) (end_by ends) hi bs p (i + 1) (cell after p (number bs))
-      stays q s = next_by no_images (cell after p (number bs)) q (s ∙ omega (arith, w.bound (p * 256 + number bs)))
+      stays q s = next_by no_images (cell after p (number bs)) q (s ∙ omega (arith, bound (p * 256 + number bs)))
 
       taken : Member bs i → can_by best kids i p
           → Offer (can_by best kids) (end_by ends) hi bs p i (p * wei + cell go (end_by ends p) (number bs - pow))
@@ -302,90 +256,46 @@ module _ (best kids ends : List ℕ) (k : ℕ) (before : List ℕ) (p : ℕ) (se
               stays (offer_closed (can_by best kids) (end_by ends) hi r.grows bs p i (shut (omega arith)))
               (c.shut (omega arith) (number bs) (in_sets bs e))
 
-    pub try_next : Trying best kids ends k before p (i + 1) (pow * 2) (wei * 64) after
+    pub try_next : Trying best kids ends before p (i + 1) (pow * 2) (wei * 64) after
     try_next =
         record {
           upto = omega arith;
           pow_is = ap (λ (a : ℕ). a * 2) w.pow_is ∙ power_next i;
           wei_is = ap (λ (a : ℕ). a * 64) w.wei_is ∙ weight_next i;
-          places = c.places;
-          bound = c.bound;
           unchanged = λ j h. c.unchanged j h ∙ w.unchanged j h;
           part = next_part;
         }
 
-  pub try_end : (first : List ℕ) → RowCopied first p sets before → (i pow wei : ℕ) (go : List ℕ) → Trying best kids ends k before p i pow wei go → k ≤ i
-      → RowFilled best kids ends k first p go
+  pub try_end : (first : List ℕ) → RowCopied first p sets before → (i pow wei : ℕ) (go : List ℕ) → Trying best kids ends before p i pow wei go
+      → length kids ≤ i → RowFilled best kids ends first p go
   try_end first w i pow wei go t h =
       record {
-        places = t.places;
-        bound = t.bound;
         unchanged = λ j g. t.unchanged j g ∙ w.unchanged j g;
         row = λ hi r bs e. finish (can_by best kids) (end_by ends) hi r.grows bs p (cell go p (number bs))
             (subst (λ (j : ℕ). Partial (can_by best kids) (end_by ends) hi bs p j (cell go p (number bs))) (here bs e)
-            (t.part hi (ready_kept best kids ends k first before p hi w.unchanged r) bs e));
+            (t.part hi (ready_kept best kids ends first before p hi w.unchanged r) bs e));
       }
     where
-      here : (bs : List Bool) → length bs ≡ k → i ≡ length bs
+      here : (bs : List Bool) → length bs ≡ length kids → i ≡ length bs
       here bs e = omega (arith, t.upto)
 
--- the row at the end, for the sets before n
-pub record Ending (hi n : ℕ) (go : List ℕ) : Type 0 where
-  pub some : 0 < n
-  pub places : length go ≡ 16640
-  pub bound : (i : ℕ) → get_or go i 0 ≤ no_images
-  pub empty : cell go hi 0 ≡ 0
-  pub others : (j : ℕ) → 0 < j → j < n → cell go hi j ≡ no_images
-
-pub ending-start : (hi : ℕ) (go : List ℕ) → hi ≤ 64 → length go ≡ 16640 → ((i : ℕ) → get_or go i 0 ≤ no_images) → Ending hi 1 (set go (hi * 256) 0)
-ending-start hi go l e b =
-    let z : hi * 256 + 0 ≡ hi * 256 = omega arith in
-    record {
-      some = omega arith;
-      places = length-set go (hi * 256) 0 ∙ e;
-      bound = bounded_set go (hi * 256) 0 b (omega arith);
-      empty = rw z (get_or-set_same go (hi * 256) 0 0 (omega arith));
-      others = λ j h g. absurd (omega arith);
-    }
-
-pub ending_next : (hi n : ℕ) (go : List ℕ) → hi ≤ 64 → n < 256 → Ending hi n go → Ending hi (n + 1) (set go (hi * 256 + n) no_images)
-ending_next hi n go l g w =
-    record {
-      some = omega arith;
-      places = length-set go (hi * 256 + n) no_images ∙ w.places;
-      bound = bounded_set go (hi * 256 + n) no_images w.bound (omega arith);
-      empty = get_or-set_other go (hi * 256 + n) (hi * 256 + 0) no_images 0 (omega (arith, w.some)) ∙ w.empty;
-      others = λ j h k. here_or_before j h k (ℕ_discrete j n);
-    }
-  where
-    here_or_before : (j : ℕ) → 0 < j → j < n + 1 → Dec (j ≡ n) → cell (set go (hi * 256 + n) no_images) hi j ≡ no_images
-    here_or_before j h k (yes e) = rw e (get_or-set_same go (hi * 256 + n) no_images 0 (omega (arith, w.places)))
-    here_or_before j h k (no d) = get_or-set_other go (hi * 256 + n) (hi * 256 + j) no_images 0 (omega arith) ∙ w.others j h (omega arith)
-
-pub ending_end : (hi sets n : ℕ) (go : List ℕ) → Ending hi n go → sets ≤ n → LastRow hi sets go
-ending_end hi sets n go w h =
-    record { places = w.places; bound = w.bound; empty = w.empty; others = λ j g k. w.others j g (omega arith) }
-
 -- all rows below t, from p on
-pub record Filling (best kids ends : List ℕ) (k t p : ℕ) (go : List ℕ) : Type 0 where
+pub record Filling (best kids ends : List ℕ) (t p : ℕ) (go : List ℕ) : Type 0 where
   pub low : t + 1 ≤ p
   pub high : p ≤ end_by ends t
-  pub places : length go ≡ 16640
-  pub bound : (i : ℕ) → get_or go i 0 ≤ no_images
-  pub rows : (q : ℕ) → p ≤ q → q ≤ end_by ends t → Row best kids ends k go q (end_by ends t)
+  pub rows : (q : ℕ) → p ≤ q → q ≤ end_by ends t → Row best kids ends go q (end_by ends t)
 
-module _ (best kids ends : List ℕ) (k : ℕ) (before : List ℕ) (f : TableFrame best kids ends k before) (t : ℕ) (b : BranchOf ends t) where
-  filling_start : (sets : ℕ) → sets ≡ power k → (go : List ℕ) → LastRow (end_by ends t) sets go → Filling best kids ends k t (end_by ends t) go
+module _ (best kids ends : List ℕ) (t : ℕ) (b : BranchOf ends t) where
+  filling_start : (sets : ℕ) → sets ≡ power (length kids) → (go : List ℕ) → LastRow (end_by ends t) sets go
+      → Filling best kids ends t (end_by ends t) go
   filling_start sets all go w =
       record {
         low = omega (arith, b.here);
         high = omega arith;
-        places = w.places;
-        bound = w.bound;
         rows = λ q l h bs e. last q (omega arith) bs e (ℕ_discrete (number bs) 0);
       }
     where
-      last : (q : ℕ) → q ≡ end_by ends t → (bs : List Bool) → length bs ≡ k → Dec (number bs ≡ 0)
+      last : (q : ℕ) → q ≡ end_by ends t → (bs : List Bool) → length bs ≡ length kids → Dec (number bs ≡ 0)
           → LeastBy best kids ends (end_by ends t) bs q (cell go q (number bs))
       last q s bs e (yes z) =
           rw (s, z, w.empty) (end_empty (can_by best kids) (end_by ends) (end_by ends t) b.grows bs z)
@@ -394,43 +304,28 @@ module _ (best kids ends : List ℕ) (k : ℕ) (before : List ℕ) (f : TableFra
           (end_some (can_by best kids) (end_by ends) (end_by ends t) b.grows bs d)
 
   -- the scan continues the previous one, or begins with the row at the end
-  pub filling_begin : (low hi : ℕ) → Scanned best kids ends k before low hi → t < low → (sets : ℕ) → sets ≡ power k → (p : ℕ) (go : List ℕ)
-      → Started before low hi (end_by ends t) sets p go → Filling best kids ends k t p go
-  filling_begin low hi w l sets all p go s = by_end (ℕ_discrete (end_by ends t) hi)
+  pub filling_begin : (before : List ℕ) (low hi : ℕ) → Scanned best kids ends before low hi → t < low → (sets : ℕ)
+      → sets ≡ power (length kids) → (p : ℕ) (go : List ℕ) → Started before low hi (end_by ends t) sets p go → Filling best kids ends t p go
+  filling_begin before low hi w l sets all p go s = by_end (ℕ_discrete (end_by ends t) hi)
     where
-      by_end : Dec (end_by ends t ≡ hi) → Filling best kids ends k t p go
+      by_end : Dec (end_by ends t ≡ hi) → Filling best kids ends t p go
       by_end (yes e) =
           let a = s.again e in
           record {
             low = omega (arith, a.0);
             high = omega (arith, a.0, w.some (omega (arith, b.here)));
-            places = s.places;
-            bound = s.bound;
             rows = λ q g h. rw (e, a.1) (w.rows q (omega (arith, a.0)) (omega arith));
           }
       by_end (no d) =
           let a = s.anew d in
-          subst (λ (x : ℕ). Filling best kids ends k t x go) (sym a.0) (filling_start sets all go a.1)
+          subst (λ (x : ℕ). Filling best kids ends t x go) (sym a.0) (filling_start sets all go a.1)
 
-  pub filling_frame : (p : ℕ) (go : List ℕ) → Filling best kids ends k t p go → TableFrame best kids ends k go
-  filling_frame p go w =
-      record {
-        few = f.few;
-        best_places = f.best_places;
-        kids-small = f.kids-small;
-        ends_small = f.ends_small;
-        go_places = w.places;
-        go_bound = w.bound;
-      }
-
-  pub filling_next : (p : ℕ) (go : List ℕ) → Filling best kids ends k t p go → t + 1 < p → (after : List ℕ) → RowFilled best kids ends k go (p - 1) after
-      → Filling best kids ends k t (p - 1) after
+  pub filling_next : (p : ℕ) (go : List ℕ) → Filling best kids ends t p go → t + 1 < p → (after : List ℕ) → RowFilled best kids ends go (p - 1) after
+      → Filling best kids ends t (p - 1) after
   filling_next p go w h after r =
       record {
         low = omega arith;
         high = omega (arith, w.high);
-        places = r.places;
-        bound = r.bound;
         rows = λ q l g. here_or_behind q l g (dec_lt (p - 1) q);
       }
     where
@@ -440,7 +335,7 @@ module _ (best kids ends : List ℕ) (k : ℕ) (before : List ℕ) (f : TableFra
       there : p - 1 < end_by ends t
       there = omega (arith, w.high)
 
-      ready : Ready best kids ends k go (p - 1) (end_by ends t)
+      ready : Ready best kids ends go (p - 1) (end_by ends t)
       ready =
           record {
             inside = there;
@@ -449,21 +344,19 @@ module _ (best kids ends : List ℕ) (k : ℕ) (before : List ℕ) (f : TableFra
             past = w.rows (end_by ends (p - 1)) (omega (arith, b.grows (p - 1) there)) (b.nested (p - 1) (omega arith) there);
           }
 
-      here_or_behind : (q : ℕ) → p - 1 ≤ q → q ≤ end_by ends t → Dec (p - 1 < q) → Row best kids ends k after q (end_by ends t)
-      here_or_behind q l g (yes d) = row_kept best kids ends k go after (p - 1) q (end_by ends t) r.unchanged d (w.rows q (omega arith) g)
+      here_or_behind : (q : ℕ) → p - 1 ≤ q → q ≤ end_by ends t → Dec (p - 1 < q) → Row best kids ends after q (end_by ends t)
+      here_or_behind q l g (yes d) = row_kept best kids ends go after (p - 1) q (end_by ends t) r.unchanged d (w.rows q (omega arith) g)
       here_or_behind q l g (no d) =
           let e : p - 1 ≡ q = omega arith in
-          subst (λ (x : ℕ). Row best kids ends k after x (end_by ends t)) e (r.row (end_by ends t) ready)
+          subst (λ (x : ℕ). Row best kids ends after x (end_by ends t)) e (r.row (end_by ends t) ready)
 
-  pub filling_end : (p : ℕ) (go : List ℕ) → Filling best kids ends k t p go → p ≤ t + 1 → (sets : ℕ) → sets ≡ power k → (v : ℕ) → v ≡ cell go (t + 1) (sets - 1)
-      → PlacedBelow best kids ends k t go v
+  pub filling_end : (p : ℕ) (go : List ℕ) → Filling best kids ends t p go → p ≤ t + 1 → (sets : ℕ) → sets ≡ power (length kids)
+      → (v : ℕ) → v ≡ cell go (t + 1) (sets - 1) → PlacedBelow best kids ends t go v
   filling_end p go w h sets all v e =
-      let n : number (replicate k true) ≡ sets - 1 = omega (arith, number-full k) in
+      let n : number (replicate (length kids) true) ≡ sets - 1 = omega (arith, number-full (length kids)) in
       record {
-        places = w.places;
-        go_bound = w.bound;
-        bound = omega (arith, w.bound ((t + 1) * 256 + (sets - 1)));
-        least = subst (LeastBy best kids ends (end_by ends t) (replicate k true) (t + 1)) (ap (cell go (t + 1)) n ∙ sym e)
-            (w.rows (t + 1) (omega (arith, w.low)) (omega (arith, w.low, w.high)) (replicate k true) (length-replicate k true));
+        least = subst (LeastBy best kids ends (end_by ends t) (replicate (length kids) true) (t + 1)) (ap (cell go (t + 1)) n ∙ sym e)
+            (w.rows (t + 1) (omega (arith, w.low)) (omega (arith, w.low, w.high)) (replicate (length kids) true)
+            (length-replicate (length kids) true));
         scanned = record { some = λ h. omega (arith, b.here); rows = λ q a c. w.rows q (omega arith) c };
       }

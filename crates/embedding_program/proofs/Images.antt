@@ -1,9 +1,10 @@
 -- The loops around the table: a node's children by place, the images of one node's children, and all images from the root on. At the end the search's
 -- answer agrees with the definition.
-use mathlib.Core.Path.{◌≡◌, refl, sym, ap, ◌∙◌, subst}
+use mathlib.Core.Path.{◌≡◌, sym, ap, ◌∙◌, subst}
 use mathlib.Core.Logic.{◌≢◌}
-use Prim.Native.Nat.{ℕ, zero, suc, ◌+◌, ◌-◌, ◌/◌, ◌%◌, ◌≤◌, ◌<◌}
-use native.Mathlib.Nat.{not-suc-le-zero}
+use Prim.Native.Nat.{ℕ, zero, suc, ◌+◌, ◌*◌, ◌-◌, ◌/◌, ◌%◌, ◌^◌, ◌≤◌, ◌<◌}
+use native.Mathlib.Nat.{not-suc-le-zero, div-one}
+use Rattle.std.proofs.lemmas.Nat.{shr-shr}
 use native.Mathlib.Decide.{dec_lt, ℕ_discrete}
 use native.Mathlib.Omega.{arith}
 use mathlib.Core.List.{List, ◌++◌}
@@ -99,65 +100,33 @@ module _ (bytes : List ℕ) (d : TreeBytes 32 bytes) (ends : List ℕ) (e : Ends
       here_or_before i a b (yes q) = rw q (get_or-set_same kids (j - 1) next 0 (omega (arith, c.places, c.upto, few)) ∙ c.next-is p)
       here_or_before i a b (no q) = get_or-set_other kids (j - 1) i next 0 q ∙ c.at i (omega arith) b
 
-  pub listing_end : (j next : ℕ) (kids : List ℕ) → Listing (tree bytes) s j next kids → j ≤ 0 → KidsOf (tree bytes) s kids
-  listing_end j next kids c z = record { at = λ i b. c.at i (omega arith) b }
+-- the digit at place i lies 6 bits further up for each place
+digit_shifted : (i v : ℕ) → v / 2 ^ (6 * i) % 64 ≡ digit i v
+digit_shifted zero v = ap (λ (n : ℕ). n % 64) (div-one v)
+digit_shifted (suc i) v =
+    let e : 6 * suc i ≡ 6 + 6 * i = omega arith in
+    rw e (ap (λ (n : ℕ). n % 64) (sym (shr-shr v 6 (6 * i))) ∙ digit_shifted i (v / 64))
 
--- The images of one node's children, for the places before j; `rest` has the digits from j on.
-pub record Putting (kids : List ℕ) (k v : ℕ) (before : List ℕ) (j rest : ℕ) (map : List ℕ) : Type 0 where
-  pub upto : j ≤ k
-  pub places : length map ≡ 32
-  pub digits : (i : ℕ) → digit i rest ≡ digit (j + i) v
-  pub put : (i : ℕ) → i < j → get_or map (get_or kids i 0) 0 ≡ digit i v
-  pub others : (i : ℕ) → ((j' : ℕ) → j' < j → i ≢ get_or kids j' 0) → get_or map i 0 ≡ get_or before i 0
+-- one more image of a child
+pub put_next : (kids : List ℕ) (k v : ℕ) → Different kids k → (before : List ℕ) (j : ℕ) (map : List ℕ) → Put kids j v before map → j < k
+    → Put kids (j + 1) v before (set map (get_or kids j 0) (v / 2 ^ (6 * j) % 64))
+put_next kids k v d before j map c h =
+    record {
+      places = length-set map (get_or kids j 0) x ∙ c.places;
+      put = λ i g. here_or_before i g (ℕ_discrete i j);
+      others = λ i f. get_or-set_other map (get_or kids j 0) i x 0 (f j (omega arith)) ∙ c.others i (λ a b. f a (omega arith));
+    }
+  where
+    x : ℕ
+    x = v / 2 ^ (6 * j) % 64
 
-module _ (kids : List ℕ) (k v : ℕ) (d : Different kids k) (before : List ℕ) (l : length before ≡ 32) where
-  pub putting_start : Putting kids k v before 0 v before
-  putting_start =
-      record {
-        upto = omega arith;
-        places = l;
-        digits = λ i. ap (λ (n : ℕ). digit n v) (plus i);
-        put = λ i h. absurd (not-suc-le-zero h);
-        others = λ i h. refl;
-      }
-    where
-      plus : (i : ℕ) → i ≡ 0 + i
-      plus i = omega arith
+    there : get_or kids j 0 < length map
+    there = omega (arith, c.places, d.small j h)
 
-  pub putting_next : (j rest : ℕ) (map : List ℕ) → Putting kids k v before j rest map → j < k
-      → Putting kids k v before (j + 1) (rest / 64) (set map (get_or kids j 0) (rest % 64))
-  putting_next j rest map c h =
-      record {
-        upto = omega arith;
-        places = length-set map (get_or kids j 0) (rest % 64) ∙ c.places;
-        digits = λ i. c.digits (suc i) ∙ ap (λ (n : ℕ). digit n v) (plus i);
-        put = λ i g. here_or_before i g (ℕ_discrete i j);
-        others = λ i f.
-            get_or-set_other map (get_or kids j 0) i (rest % 64) 0 (f j (omega arith)) ∙ c.others i (λ a b. f a (omega arith));
-      }
-    where
-      plus : (i : ℕ) → j + suc i ≡ j + 1 + i
-      plus i = omega arith
-
-      there : get_or kids j 0 < length map
-      there = omega (arith, c.places, d.small j h)
-
-      here_or_before : (i : ℕ) → i < j + 1 → Dec (i ≡ j) → get_or (set map (get_or kids j 0) (rest % 64)) (get_or kids i 0) 0 ≡ digit i v
-      here_or_before i g (yes q) =
-          let z : j + 0 ≡ i = omega arith in
-          ap (λ (x : ℕ). get_or (set map (get_or kids j 0) (rest % 64)) (get_or kids x 0) 0) q
-          ∙ get_or-set_same map (get_or kids j 0) (rest % 64) 0 there ∙ c.digits 0 ∙ ap (λ (n : ℕ). digit n v) z
-      here_or_before i g (no q) =
-          get_or-set_other map (get_or kids j 0) (get_or kids i 0) (rest % 64) 0 (λ r. q (d.apart i j (omega arith) h r)) ∙ c.put i (omega arith)
-
-  pub putting_end : (j rest : ℕ) (map : List ℕ) → Putting kids k v before j rest map → k ≤ j → Put kids k v before map
-  putting_end j rest map c h =
-      let e : j ≡ k = omega (arith, c.upto) in
-      record {
-        places = c.places;
-        put = λ i g. c.put i (omega arith);
-        others = λ i f. c.others i (λ a b. f a (omega (arith, c.upto)));
-      }
+    here_or_before : (i : ℕ) → i < j + 1 → Dec (i ≡ j) → get_or (set map (get_or kids j 0) x) (get_or kids i 0) 0 ≡ digit i v
+    here_or_before i g (yes q) = rw q (get_or-set_same map (get_or kids j 0) x 0 there ∙ digit_shifted j v)
+    here_or_before i g (no q) =
+        get_or-set_other map (get_or kids j 0) (get_or kids i 0) x 0 (λ r. q (d.apart i j (omega arith) h r)) ∙ c.put i (omega arith)
 
 digit-small : (i v : ℕ) → digit i v < 64
 digit-small zero v = omega arith
@@ -249,11 +218,6 @@ module _ (bytes : List ℕ) (d : TreeBytes 32 bytes) (best : ℕ → ℕ → ℕ
           other i o e =
               q (parent_unique (tree bytes) a (width (subtree (tree bytes) a) - j) s (width (subtree (tree bytes) s) - i)
               (has a j (omega (arith, sized)) l) (has s i (omega (arith, sized)) (omega (arith, w))) e).0
-
-  pub read_end : (s : ℕ) (m : List ℕ) → ReadTo (tree bytes) best s m → s ≤ length bytes → length bytes ≤ s → ReadTo (tree bytes) best (length bytes) m
-  read_end s m c l g =
-      let e : s ≡ length bytes = omega arith in
-      subst (λ (n : ℕ). ReadTo (tree bytes) best n m) e c
 
   -- the images of the source nodes, without the padding
   pub read_off : (m : List ℕ) → ReadTo (tree bytes) best (length bytes) m → ReadOff (tree bytes) best (take (length bytes) m)

@@ -1,13 +1,14 @@
 -- The loops that fill the table `best`: one source node's entries, then all source nodes from the last to the first. What the code's lists contain is
 -- restated for the two trees that the bytes draw.
 use mathlib.Core.Path.{◌≡◌, refl, sym, ap, ◌∙◌, subst}
+use mathlib.Core.Logic.{◌≢◌}
 use Prim.Native.Nat.{ℕ, zero, suc, ◌+◌, ◌*◌, ◌-◌, ◌≤◌, ◌<◌}
-use native.Mathlib.Decide.{ℕ_discrete}
+use native.Mathlib.Decide.{dec_lt, ℕ_discrete}
 use native.Mathlib.Omega.{arith}
 use mathlib.Core.List.{List}
 use mathlib.Core.Bool.{true, false}
-use lib.ListN.{length, get_or, set, replicate, length-set, length-replicate, get_or-replicate}
-use lib.Seq.{get_or-set_same, get_or-set_other}
+use lib.ListN.{length, get_or, take, replicate, length-replicate, get_or-replicate, get_or-eq_default}
+use lib.Seq.{get_or-take, length-take-le}
 use Rattle.topology.specs.Tree.{Topo, width, size}
 use Rattle.topology.specs.Address.{subtree}
 use Rattle.topology.specs.Reader.{tree}
@@ -19,138 +20,29 @@ use Rattle.topology.proofs.Decoding.{length_code, byte_width}
 use Rattle.topology.proofs.Lookup.{end_code}
 use Rattle.embedding_program.specs.InnerSets.{no_images}
 use Rattle.embedding_program.specs.InnerPlacing.{Member, Placed}
-use Rattle.embedding_program.specs.InnerTables.{best_by, can_by, end_by, TableFrame, BranchOf, PlacedBelow, Scanned, Room, NodeFrame, TreeBytes}
-use Rattle.embedding_program.specs.InnerMeaning.{end, kid, full, Fits, PlacedAt, BestEntry, Truth, KidsOf, PlacedBy, BestEntryBy, reach_by, NodeTo, Different}
+use Rattle.embedding_program.specs.InnerTables.{best_by, can_by, end_by, BranchOf, TreeBytes}
+use Rattle.embedding_program.specs.InnerMeaning.{end, kid, full, Fits, PlacedAt, BestEntry, Truth, KidsOf, PlacedBy, BestEntryBy, Entries, reach_by, RowPut, Different}
 use Rattle.embedding_program.proofs.Placing.{placed-map}
-use Rattle.embedding_program.proofs.Cells.{scanned_same}
 use Rattle.embedding_program.proofs.Local.{end_after, end_within}
 use Rattle.embedding_program.proofs.Program.{has_kid, entry-map}
 
--- one entry: rule 3 forbids it, or it is the least placing of the children
-pub entry_shut : (best kids ends : List ℕ) (c w t : ℕ) → ((c ≡ 0 → w ≡ 0) → ⊥) → BestEntryBy best kids ends c w t no_images
-entry_shut best kids ends c w t n =
-    record {
-      bound = omega arith;
-      lower = λ k ys q. absurd (n k);
-      fits = λ h. absurd (omega arith);
-      attained = λ h. absurd (omega arith);
-    }
+module _ (best kids ends : List ℕ) where
+  -- one entry: rule 3 forbids it, or it is the least placing of the children
+  pub entry_shut : (w t : ℕ) → ((length kids ≡ 0 → w ≡ 0) → ⊥) → BestEntryBy best kids ends w t no_images
+  entry_shut w t n =
+      record { lower = λ k ys q. absurd (n k); fits = λ h. absurd (omega arith); attained = λ h. absurd (omega arith) }
 
-pub entry-placed : (best kids ends : List ℕ) (c w t : ℕ) → (c ≡ 0 → w ≡ 0) → (go : List ℕ) (v : ℕ) → PlacedBelow best kids ends c t go v
-    → BestEntryBy best kids ends c w t v
-entry-placed best kids ends c w t k go v p =
-    record { bound = p.bound; lower = λ h. p.least.lower; fits = λ h. k; attained = p.least.attained }
-
--- no node is below a leaf
-pub entry-leaf : (best kids ends : List ℕ) (c w t : ℕ) → (c ≡ 0 → ⊥) → end_by ends t ≡ t + 1 → BestEntryBy best kids ends c w t no_images
-entry-leaf best kids ends c w t d e =
-    record {
-      bound = omega arith;
-      lower = λ k ys q. absurd (omega (arith, q.from 0 first, q.to 0 first));
-      fits = λ h. absurd (omega arith);
-      attained = λ h. absurd (omega arith);
-    }
-  where
-    first : Member (replicate c true) 0
-    first = get_or-replicate c 0 true false (omega arith)
-
-entry_by_map : (best other kids ends : List ℕ) (c w t v : ℕ)
-    → ((j x : ℕ) → j < c → best_by best (get_or kids j 0) x ≡ best_by other (get_or kids j 0) x)
-    → BestEntryBy best kids ends c w t v → BestEntryBy other kids ends c w t v
-entry_by_map best other kids ends c w t v same e =
-    record {
-      bound = e.bound;
-      lower = λ k ys q. e.lower k ys (back ys q);
-      fits = e.fits;
-      attained = λ l. ((e.attained l).0, there (e.attained l).0 (e.attained l).1, (e.attained l).2);
-    }
-  where
-    in_full : (j : ℕ) → j < length (replicate c true) → j < c
-    in_full j l = omega (arith, length-replicate c true)
-
-    there : (ys : List ℕ) → PlacedBy best kids ends c t ys → PlacedBy other kids ends c t ys
-    there ys =
-        placed-map (can_by best kids) (can_by other kids) (end_by ends) (end_by ends) (end_by ends t) (replicate c true) (t + 1) ys
-        (λ j x l g o. rw (← same j x (in_full j l)) o) (λ x g. refl)
-
-    back : (ys : List ℕ) → PlacedBy other kids ends c t ys → PlacedBy best kids ends c t ys
-    back ys =
-        placed-map (can_by other kids) (can_by best kids) (end_by ends) (end_by ends) (end_by ends t) (replicate c true) (t + 1) ys
-        (λ j x l g o. rw (same j x (in_full j l)) o) (λ x g. refl)
-
--- One source node's entries for the target nodes from t on and before count, and the rows of the last scan.
-pub record Filled (before kids ends source target : List ℕ) (s t count : ℕ) (best go : List ℕ) (low hi : ℕ) : Type 0 where
-  pub upto : t ≤ count
-  pub node : NodeTo before kids ends source target s t count best
-  pub room : Room go
-  pub above : t ≤ low
-  pub scanned : Scanned best kids ends (get_or source s 0) go low hi
-
-module _ (source target ends kids : List ℕ) (s : ℕ) (f : NodeFrame source target ends kids s) (before : List ℕ) (places : length before ≡ 2048)
-    (count : ℕ) (all : count ≤ length target) where
-  pub node_start : (go : List ℕ) → Room go → Filled before kids ends source target s count count before go 64 0
-  node_start go r =
+  -- no node is below a leaf
+  pub entry-leaf : (w t : ℕ) → length kids ≢ 0 → end_by ends t ≡ t + 1 → BestEntryBy best kids ends w t no_images
+  entry-leaf w t d e =
       record {
-        upto = omega arith;
-        node = record { places = places; unchanged = λ i h. refl; entries = λ t h g. absurd (omega arith) };
-        room = r;
-        above = omega (arith, f.target_fits);
-        scanned = record { some = λ h. absurd (omega arith); rows = λ q a b. absurd (omega arith) };
-      }
-
-  pub node_frame : (t low hi : ℕ) (best go : List ℕ) → Filled before kids ends source target s t count best go low hi
-      → TableFrame best kids ends (get_or source s 0) go
-  node_frame t low hi best go w =
-      record {
-        few = f.few;
-        best_places = w.node.places;
-        kids-small = f.small;
-        ends_small = f.ends_small;
-        go_places = w.room.places;
-        go_bound = w.room.bound;
-      }
-
-  pub node_next : (t low hi : ℕ) (best go : List ℕ) → Filled before kids ends source target s t count best go low hi → 0 < t → (v : ℕ)
-      → BestEntryBy best kids ends (get_or source s 0) (get_or target (t - 1) 0) (t - 1) v
-      → (after : List ℕ) → Room after → (low' hi' : ℕ) → t - 1 < low' → Scanned best kids ends (get_or source s 0) after low' hi'
-      → Filled before kids ends source target s (t - 1) count (set best (s * 64 + (t - 1)) v) after low' hi'
-  node_next t low hi best go w h v e after r low' hi' a sc =
-      record {
-        upto = omega (arith, w.upto);
-        node = record {
-          places = length-set best (s * 64 + n) v ∙ w.node.places;
-          unchanged = λ i g. get_or-set_other best (s * 64 + n) i v 0 (omega (arith, inside)) ∙ w.node.unchanged i g;
-          entries = λ x g l. here_or_behind x g l (ℕ_discrete x n);
-        };
-        room = r;
-        above = omega arith;
-        scanned = scanned_same best (set best (s * 64 + n) v) kids ends (get_or source s 0) after low' hi'
-            (λ j x l. sym (get_or-set_other best (s * 64 + n) (get_or kids j 0 * 64 + x) v 0 (omega (arith, inside, f.after j l)))) sc;
+        lower = λ k ys q. absurd (omega (arith, q.from 0 first, q.to 0 first));
+        fits = λ h. absurd (omega arith);
+        attained = λ h. absurd (omega arith);
       }
     where
-      n : ℕ
-      n = t - 1
-
-      inside : n < 64
-      inside = omega (arith, w.upto, f.target_fits)
-
-      behind : (j x : ℕ) → j < get_or source s 0 → best_by best (get_or kids j 0) x ≡ best_by before (get_or kids j 0) x
-      behind j x l = w.node.unchanged (get_or kids j 0 * 64 + x) (omega (arith, f.after j l))
-
-      here_or_behind : (x : ℕ) → n ≤ x → x < count → Dec (x ≡ n) → BestEntryBy before kids ends (get_or source s 0) (get_or target x 0) x (best_by (set best (s * 64 + n) v) s x)
-      here_or_behind x g l (yes q) =
-          let there : get_or (set best (s * 64 + n) v) (s * 64 + n) 0 ≡ v =
-          get_or-set_same best (s * 64 + n) v 0 (omega (arith, w.node.places, f.there, f.source_fits, inside)) in
-          rw (q, there) (entry_by_map best before kids ends (get_or source s 0) (get_or target n 0) n v behind e)
-      here_or_behind x g l (no d) =
-          let there : get_or (set best (s * 64 + n) v) (s * 64 + x) 0 ≡ get_or best (s * 64 + x) 0 =
-          get_or-set_other best (s * 64 + n) (s * 64 + x) v 0 (omega arith) in
-          rw there (w.node.entries x (omega arith) l)
-
-  pub node_end : (t low hi : ℕ) (best go : List ℕ) → Filled before kids ends source target s t count best go low hi → t ≤ 0
-      → NodeTo before kids ends source target s 0 count best
-  node_end t low hi best go w g =
-      record { places = w.node.places; unchanged = w.node.unchanged; entries = λ x a l. w.node.entries x (omega arith) l }
+      first : Member (replicate (length kids) true) 0
+      first = get_or-replicate (length kids) 0 true false (omega arith)
 
 -- the target nodes that a source node may go to
 pub reach_other : (s n : ℕ) → (s ≡ 0 → ⊥) → n ≡ reach_by s n
@@ -202,10 +94,6 @@ module _ (bytes : List ℕ) (limit : ℕ) (d : TreeBytes limit bytes) where
     has : (j : ℕ) → j < get_or bytes s 0 → HasChild (tree bytes) s (width (subtree (tree bytes) s) - j)
     has j l = has_kid (tree bytes) s j (omega (arith, size_bytes)) (omega (arith, width_byte s h))
 
-    pub kids-after : (j : ℕ) → j < get_or bytes s 0 → s < get_or kids j 0
-    kids-after j l =
-        omega (arith, k.at j (omega (arith, width_byte s h)), child_of_after (tree bytes) s (width (subtree (tree bytes) s) - j) (has j l))
-
     pub kids-small : (j : ℕ) → j < get_or bytes s 0 → get_or kids j 0 < limit
     kids-small j l =
         omega (arith, k.at j (omega (arith, width_byte s h)), child_of_lt (tree bytes) s (width (subtree (tree bytes) s) - j) (has j l), size_bytes, d.fits)
@@ -217,10 +105,39 @@ module _ (bytes : List ℕ) (limit : ℕ) (d : TreeBytes limit bytes) where
         (sym (k.at i (omega arith)) ∙ e ∙ k.at j (omega arith)) in
         omega (arith, q.1)
 
--- a node's children are different source nodes
-pub different : (bytes : List ℕ) (d : TreeBytes 32 bytes) (s : ℕ) → s < length bytes → (kids : List ℕ) → KidsOf (tree bytes) s kids → Different kids (get_or bytes s 0)
-different bytes d s h kids k =
-    record { few = d.few s; small = kids-small bytes 32 d s h kids k; apart = kids_differ bytes 32 d s h kids k }
+-- the children of source node s, and no more
+pub record Listed (bytes : List ℕ) (s : ℕ) (kids : List ℕ) : Type 0 where
+  pub long : length kids ≡ get_or bytes s 0
+  pub few : length kids ≤ 8
+  pub small : (j : ℕ) → get_or kids j 0 < 32
+  pub are : KidsOf (tree bytes) s kids
+  pub differ : Different kids (length kids)
+
+-- the first entries of a table of children with 8 places
+pub listed : (bytes : List ℕ) → TreeBytes 32 bytes → (s : ℕ) → s < length bytes → (kids : List ℕ) → KidsOf (tree bytes) s kids → length kids ≡ 8
+    → (w : ℕ) → w ≡ get_or bytes s 0 → Listed bytes s (take w kids)
+listed bytes d s h kids k places w e =
+    record {
+      long = long;
+      few = omega (arith, d.few s, long);
+      small = λ j. by_place j (dec_lt j w);
+      are = are;
+      differ = record {
+        few = omega (arith, d.few s, long);
+        small = λ j l. by_place j (dec_lt j w);
+        apart = λ i j l g. kids_differ bytes 32 d s h (take w kids) are i j (omega (arith, long)) (omega (arith, long));
+      };
+    }
+  where
+    long : length (take w kids) ≡ get_or bytes s 0
+    long = length-take-le w kids (omega (arith, d.few s)) ∙ e
+
+    are : KidsOf (tree bytes) s (take w kids)
+    are = record { at = λ j g. get_or-take w kids j 0 (omega (arith, width_byte bytes 32 d s h)) ∙ k.at j g }
+
+    by_place : (j : ℕ) → Dec (j < w) → get_or (take w kids) j 0 < 32
+    by_place j (yes l) = kids-small bytes 32 d s h (take w kids) are j (omega arith)
+    by_place j (no l) = omega (arith, get_or-eq_default (take w kids) 0 {n = j} (omega (arith, long)))
 
 module _ (source target : List ℕ) (d : TreeBytes 32 source) (e : TreeBytes 64 target) (ends : List ℕ) (n : Ends target ends) where
   S : Topo
@@ -229,29 +146,16 @@ module _ (source target : List ℕ) (d : TreeBytes 32 source) (e : TreeBytes 64 
   T : Topo
   T = tree target
 
-  pub frame_of : (s : ℕ) → s < length source → (kids : List ℕ) → KidsOf (tree source) s kids → NodeFrame source target ends kids s
-  frame_of s h kids k =
-      record {
-        there = h;
-        source_fits = d.fits;
-        target_fits = e.fits;
-        few = d.few s;
-        small = kids-small source 32 d s h kids k;
-        after = kids-after source 32 d s h kids k;
-        ends_small = n.small;
-        branch = branch_of target 64 e ends n;
-      }
-
   -- no source node is behind the last
   pub table-start : (best : List ℕ) → Truth (tree source) (tree target) (best_by best) (length source)
   table-start best s t l h g r = absurd (omega (arith, size_bytes source 32 d))
 
   -- one more source node
-  pub table_next : (s : ℕ) → s < length source → (kids : List ℕ) → KidsOf (tree source) s kids → (before best : List ℕ)
-      → NodeTo before kids ends source target s 0 (reach_by s (length target)) best → Truth (tree source) (tree target) (best_by before) (s + 1)
-      → Truth (tree source) (tree target) (best_by best) s
+  pub table_next : (n s : ℕ) → n ≤ s + 1 → s < length source → (kids : List ℕ) → KidsOf (tree source) s kids
+      → length kids ≡ get_or source s 0 → (before best row : List ℕ) → Entries before kids ends target 0 (reach_by s (length target)) row → RowPut before s (reach_by s (length target)) row best
+      → Truth (tree source) (tree target) (best_by before) n → Truth (tree source) (tree target) (best_by best) s
   unfolding S T
-  table_next s h kids k before best w truth a t l g i root = by_node (ℕ_discrete a s)
+  table_next m s close h kids k long before best row w put truth a t l g i root = by_node (ℕ_discrete a s)
     where
       sized : size S ≡ length source
       sized = size_bytes source 32 d
@@ -260,10 +164,10 @@ module _ (source target : List ℕ) (d : TreeBytes 32 source) (e : TreeBytes 64 
       t_in = omega (arith, size_bytes target 64 e)
 
       behind : (b x : ℕ) → s < b → best_by before b x ≡ best_by best b x
-      behind b x q = sym (w.unchanged (b * 64 + x) (omega arith))
+      behind b x q = sym (put.others (b * 64 + x) (omega arith))
 
-      w_s : width (subtree S s) ≡ get_or source s 0
-      w_s = width_byte source 32 d s h
+      w_s : width (subtree S s) ≡ length kids
+      w_s = width_byte source 32 d s h ∙ sym long
 
       at-end : (x : ℕ) → x < end_by ends t → end_by ends x ≡ end T x
       at-end x q =
@@ -284,7 +188,7 @@ module _ (source target : List ℕ) (d : TreeBytes 32 source) (e : TreeBytes 64 
           (subst (λ (z : ℕ). Placed (can_by before kids) (end_by ends) (end T t) (replicate z true) (t + 1) ys) ec
           (subst (λ (z : ℕ). Placed (can_by before kids) (end_by ends) z (replicate c true) (t + 1) ys) eh q))
 
-      by_tree : (ys : List ℕ) → PlacedAt S T (best_by best) s t ys → PlacedBy before kids ends (get_or source s 0) t ys
+      by_tree : (ys : List ℕ) → PlacedAt S T (best_by best) s t ys → PlacedBy before kids ends t ys
       by_tree ys q =
           subst (λ (z : ℕ). Placed (can_by before kids) (end_by ends) (end_by ends t) (replicate z true) (t + 1) ys) w_s
           (subst (λ (z : ℕ). Placed (can_by before kids) (end_by ends) z (full S s) (t + 1) ys) (sym hi)
@@ -296,13 +200,19 @@ module _ (source target : List ℕ) (d : TreeBytes 32 source) (e : TreeBytes 64 
 
       here : (s ≡ 0 → t ≡ 0) → BestEntry S T (Fits S T) (best_by best) s t (best_by best s t)
       here r =
-          let b = w.entries t (omega arith) (in_reach s t (length target) t_in r) in
+          let b : BestEntryBy before kids ends (get_or target t 0) t (best_by best s t) =
+          let near = in_reach s t (length target) t_in r in
+          rw (put.here t near) (w.entries t (omega arith) near) in
           let w_t : width (subtree T t) ≡ get_or target t 0 = width_byte target 64 e t t_in in
           let hi : end_by ends t ≡ end T t = end_byte target 64 e ends n t t_in in
           record {
             lower = λ f ys q. b.lower (λ z. sym w_t ∙ f (w_s ∙ z)) ys (by_tree ys q);
             allowed = λ v z. w_t ∙ b.fits v (sym w_s ∙ z);
-            attained = λ v. ((b.attained v).0, by_list (get_or source s 0) (sym w_s) (end_by ends t) hi refl (b.attained v).0 (b.attained v).1, (b.attained v).2);
+            attained = λ v. (
+              (b.attained v).0,
+              by_list (length kids) (sym w_s) (end_by ends t) hi refl (b.attained v).0 (b.attained v).1,
+              (b.attained v).2,
+            );
           }
 
       by_node : Dec (a ≡ s) → BestEntry S T (Fits S T) (best_by best) a t (best_by best a t)
@@ -316,16 +226,3 @@ module _ (source target : List ℕ) (d : TreeBytes 32 source) (e : TreeBytes 64 
         where
           deeper : (j : ℕ) → j < width (subtree S a) → s < a → s < kid S a j
           deeper j r later = omega (arith, child_of_after S a (width (subtree S a) - j) (has_kid S a j g r))
-
-  -- the same from the node before s on
-  pub table_back : (s : ℕ) → 0 < s → s ≤ length source → (kids : List ℕ) → KidsOf (tree source) (s - 1) kids
-      → (count : ℕ) → count ≡ reach_by (s - 1) (length target) → (before best : List ℕ) → NodeTo before kids ends source target (s - 1) 0 count best
-      → Truth (tree source) (tree target) (best_by before) s → Truth (tree source) (tree target) (best_by best) (s - 1)
-  table_back s p h kids k count c before best w truth =
-      let e : s ≡ s - 1 + 1 = omega arith in
-      table_next (s - 1) (omega arith) kids k before best
-      (subst (λ (n : ℕ). NodeTo before kids ends source target (s - 1) 0 n best) c w)
-      (subst (Truth (tree source) (tree target) (best_by before)) e truth)
-
-pub table_end : (S T : Topo) (best : ℕ → ℕ → ℕ) (n : ℕ) → n ≤ 0 → Truth S T best n → Truth S T best 0
-table_end S T best n h truth = λ s t l. truth s t (omega arith)

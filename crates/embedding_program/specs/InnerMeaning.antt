@@ -57,26 +57,28 @@ pub record ReadTo (S : Topo) (best : ℕ → ℕ → ℕ) (n : ℕ) (m : List �
 pub record KidsOf (S : Topo) (s : ℕ) (kids : List ℕ) : Type 0 where
   pub at : (j : ℕ) → j < width (subtree S s) → get_or kids j 0 ≡ kid S s j
 
--- The same by the code's tables, for a source node with c children and a target node t with w children.
-abbrev pub PlacedBy : List ℕ → List ℕ → List ℕ → ℕ → ℕ → List ℕ → Type 0
-PlacedBy best kids ends c t ys = Placed (can_by best kids) (end_by ends) (end_by ends t) (replicate c true) (t + 1) ys
+-- The same by the code's tables, for a source node with the given children and a target node t with w children.
+abbrev pub PlacedBy : List ℕ → List ℕ → List ℕ → ℕ → List ℕ → Type 0
+PlacedBy best kids ends t ys = Placed (can_by best kids) (end_by ends) (end_by ends t) (replicate (length kids) true) (t + 1) ys
 
-pub record BestEntryBy (best kids ends : List ℕ) (c w t v : ℕ) : Type 0 where
-  pub bound : v ≤ no_images
-  pub lower : (c ≡ 0 → w ≡ 0) → (ys : List ℕ) → PlacedBy best kids ends c t ys → v ≤ pack ys
-  pub fits : v < no_images → c ≡ 0 → w ≡ 0
-  pub attained : v < no_images → (ys : List ℕ) × PlacedBy best kids ends c t ys × (pack ys ≡ v)
+pub record BestEntryBy (best kids ends : List ℕ) (w t v : ℕ) : Type 0 where
+  pub lower : (length kids ≡ 0 → w ≡ 0) → (ys : List ℕ) → PlacedBy best kids ends t ys → v ≤ pack ys
+  pub fits : v < no_images → length kids ≡ 0 → w ≡ 0
+  pub attained : v < no_images → (ys : List ℕ) × PlacedBy best kids ends t ys × (pack ys ≡ v)
 
 -- how many of the n target nodes are tried as the image of a source node: for the root only the root
 abbrev pub reach_by : ℕ → ℕ → ℕ
 reach_by zero n = 1
 reach_by (suc s) n = n
 
--- source node s has its entries for the target nodes from n to count - 1, and the entries of later source nodes are unchanged
-pub record NodeTo (before kids ends source target : List ℕ) (s n count : ℕ) (best : List ℕ) : Type 0 where
-  pub places : length best ≡ 2048
-  pub unchanged : (i : ℕ) → (s + 1) * 64 ≤ i → get_or best i 0 ≡ get_or before i 0
-  pub entries : (t : ℕ) → n ≤ t → t < count → BestEntryBy before kids ends (get_or source s 0) (get_or target t 0) t (best_by best s t)
+-- a source node's entries, by its children, for the target nodes from n to count - 1
+pub record Entries (best kids ends target : List ℕ) (n count : ℕ) (row : List ℕ) : Type 0 where
+  pub entries : (t : ℕ) → n ≤ t → t < count → BestEntryBy best kids ends (get_or target t 0) t (get_or row t 0)
+
+-- the table `after` is `before` with the first `count` entries of a row for source node s
+pub record RowPut (before : List ℕ) (s count : ℕ) (row after : List ℕ) : Type 0 where
+  pub here : (t : ℕ) → t < count → best_by after s t ≡ get_or row t 0
+  pub others : (i : ℕ) → (s + 1) * 64 ≤ i → get_or after i 0 ≡ get_or before i 0
 
 -- `after` is `before` with the digits of v as the images of the k kids
 pub record Put (kids : List ℕ) (k v : ℕ) (before after : List ℕ) : Type 0 where

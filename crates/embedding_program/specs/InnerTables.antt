@@ -27,24 +27,15 @@ abbrev pub LeastBy : List ℕ → List ℕ → List ℕ → ℕ → List Bool �
 LeastBy best kids ends hi bs q v = Least (can_by best kids) (end_by ends) hi bs q v
 
 -- row q holds the least placings on the nodes from q to hi - 1
-abbrev pub Row : List ℕ → List ℕ → List ℕ → ℕ → List ℕ → ℕ → ℕ → Type 0
-Row best kids ends k go q hi = (bs : List Bool) → length bs ≡ k → LeastBy best kids ends hi bs q (cell go q (number bs))
+abbrev pub Row : List ℕ → List ℕ → List ℕ → List ℕ → ℕ → ℕ → Type 0
+Row best kids ends go q hi = (bs : List Bool) → length bs ≡ length kids → LeastBy best kids ends hi bs q (cell go q (number bs))
 
 -- the rows from which row p is computed are right
-pub record Ready (best kids ends : List ℕ) (k : ℕ) (go : List ℕ) (p hi : ℕ) : Type 0 where
+pub record Ready (best kids ends go : List ℕ) (p hi : ℕ) : Type 0 where
   pub inside : p < hi
   pub grows : (x : ℕ) → x < hi → x < end_by ends x
-  pub next : Row best kids ends k go (p + 1) hi
-  pub past : Row best kids ends k go (end_by ends p) hi
-
--- sizes and bounds of the tables, for a source node with k children
-pub record TableFrame (best kids ends : List ℕ) (k : ℕ) (go : List ℕ) : Type 0 where
-  pub few : k ≤ 8
-  pub best_places : length best ≡ 2048
-  pub kids-small : (j : ℕ) → j < k → get_or kids j 0 < 32
-  pub ends_small : (x : ℕ) → get_or ends x 0 ≤ 64
-  pub go_places : length go ≡ 16640
-  pub go_bound : (i : ℕ) → get_or go i 0 ≤ no_images
+  pub next : Row best kids ends go (p + 1) hi
+  pub past : Row best kids ends go (end_by ends p) hi
 
 -- the entry of row p for set n after the child of the given power is tried at p: `here` is the child's part of the number, and the other children
 -- are placed from the end of p's branch on
@@ -64,49 +55,31 @@ pub record Alternation (sets pow : ℕ) : Type 0 where
 
 -- row p with the child tried in the sets before n, and the rows after p unchanged
 pub record RowTried (before : List ℕ) (p end pow here n : ℕ) (go : List ℕ) : Type 0 where
-  pub places : length go ≡ 16640
-  pub bound : (i : ℕ) → get_or go i 0 ≤ no_images
   pub unchanged : (i : ℕ) → (p + 1) * 256 ≤ i → get_or go i 0 ≡ get_or before i 0
   pub cells : (j : ℕ) → j < n → cell go p j ≡ tried_by before p end pow here j
 
--- the same if `entry` lets the child go to p; else row p is unchanged
-pub record ChildTried (entry : ℕ) (before : List ℕ) (p end pow here n : ℕ) (go : List ℕ) : Type 0 where
-  pub places : length go ≡ 16640
-  pub bound : (i : ℕ) → get_or go i 0 ≤ no_images
-  pub unchanged : (i : ℕ) → (p + 1) * 256 ≤ i → get_or go i 0 ≡ get_or before i 0
-  pub shut : no_images ≤ entry → (j : ℕ) → j < n → cell go p j ≡ cell before p j
-  pub cells : entry < no_images → (j : ℕ) → j < n → cell go p j ≡ tried_by before p end pow here j
-
 -- row p is a copy of the next row, in the sets before n
 pub record RowCopied (before : List ℕ) (p n : ℕ) (go : List ℕ) : Type 0 where
-  pub places : length go ≡ 16640
-  pub bound : (i : ℕ) → get_or go i 0 ≤ no_images
   pub unchanged : (i : ℕ) → (p + 1) * 256 ≤ i → get_or go i 0 ≡ get_or before i 0
   pub cells : (j : ℕ) → j < n → cell go p j ≡ cell before (p + 1) j
 
 -- row p is filled in, and the rows after it are unchanged
-pub record RowFilled (best kids ends : List ℕ) (k : ℕ) (before : List ℕ) (p : ℕ) (go : List ℕ) : Type 0 where
-  pub places : length go ≡ 16640
-  pub bound : (i : ℕ) → get_or go i 0 ≤ no_images
+pub record RowFilled (best kids ends before : List ℕ) (p : ℕ) (go : List ℕ) : Type 0 where
   pub unchanged : (i : ℕ) → (p + 1) * 256 ≤ i → get_or go i 0 ≡ get_or before i 0
-  pub row : (hi : ℕ) → Ready best kids ends k before p hi → Row best kids ends k go p hi
+  pub row : (hi : ℕ) → Ready best kids ends before p hi → Row best kids ends go p hi
 
 -- the row at the end: only the empty set is placed there
 pub record LastRow (hi sets : ℕ) (go : List ℕ) : Type 0 where
-  pub places : length go ≡ 16640
-  pub bound : (i : ℕ) → get_or go i 0 ≤ no_images
   pub empty : cell go hi 0 ≡ 0
   pub others : (n : ℕ) → 0 < n → n < sets → cell go hi n ≡ no_images
 
 -- the rows from low to hi hold the least placings before hi; if hi is 0 there are none
-pub record Scanned (best kids ends : List ℕ) (k : ℕ) (go : List ℕ) (low hi : ℕ) : Type 0 where
+pub record Scanned (best kids ends go : List ℕ) (low hi : ℕ) : Type 0 where
   pub some : 0 < hi → low ≤ hi
-  pub rows : (q : ℕ) → low ≤ q → q ≤ hi → Row best kids ends k go q hi
+  pub rows : (q : ℕ) → low ≤ q → q ≤ hi → Row best kids ends go q hi
 
 -- The row from which a scan goes down: the lowest row of the previous scan if that began at the same end, else the row at the end.
 pub record Started (before : List ℕ) (low hi end sets p : ℕ) (go : List ℕ) : Type 0 where
-  pub places : length go ≡ 16640
-  pub bound : (i : ℕ) → get_or go i 0 ≤ no_images
   pub again : end ≡ hi → (p ≡ low) × (go ≡ before)
   pub anew : (end ≡ hi → ⊥) → (p ≡ end) × LastRow end sets go
 
@@ -116,29 +89,14 @@ pub record BranchOf (ends : List ℕ) (t : ℕ) : Type 0 where
   pub grows : (x : ℕ) → x < end_by ends t → x < end_by ends x
   pub nested : (x : ℕ) → t < x → x < end_by ends t → end_by ends x ≤ end_by ends t
 
--- the least placing of all k children below t
-pub record PlacedBelow (best kids ends : List ℕ) (k t : ℕ) (go : List ℕ) (v : ℕ) : Type 0 where
-  pub places : length go ≡ 16640
-  pub go_bound : (i : ℕ) → get_or go i 0 ≤ no_images
-  pub bound : v ≤ no_images
-  pub least : LeastBy best kids ends (end_by ends t) (replicate k true) (t + 1) v
-  pub scanned : Scanned best kids ends k go (t + 1) (end_by ends t)
+-- the same under each target node
+abbrev pub Branches : List ℕ → List ℕ → Type 0
+Branches ends target = (t : ℕ) → t < length target → BranchOf ends t
 
--- the size and the bound of the table of rows
-pub record Room (go : List ℕ) : Type 0 where
-  pub places : length go ≡ 16640
-  pub bound : (i : ℕ) → get_or go i 0 ≤ no_images
-
--- sizes and bounds for source node s of two trees
-pub record NodeFrame (source target ends kids : List ℕ) (s : ℕ) : Type 0 where
-  pub there : s < length source
-  pub source_fits : length source ≤ 32
-  pub target_fits : length target ≤ 64
-  pub few : get_or source s 0 ≤ 8
-  pub small : (j : ℕ) → j < get_or source s 0 → get_or kids j 0 < 32
-  pub after : (j : ℕ) → j < get_or source s 0 → s < get_or kids j 0
-  pub ends_small : (x : ℕ) → get_or ends x 0 ≤ 64
-  pub branch : (t : ℕ) → t < length target → BranchOf ends t
+-- the least placing of all children below t
+pub record PlacedBelow (best kids ends : List ℕ) (t : ℕ) (go : List ℕ) (v : ℕ) : Type 0 where
+  pub least : LeastBy best kids ends (end_by ends t) (replicate (length kids) true) (t + 1) v
+  pub scanned : Scanned best kids ends go (t + 1) (end_by ends t)
 
 -- the bytes draw a tree of at most `limit` nodes, with at most 8 children each
 pub record TreeBytes (limit : ℕ) (bytes : List ℕ) : Type 0 where

@@ -4,10 +4,11 @@
 
 ghost use Rattle.embedding_search.specs.Search.{Finds};
 
-use embedding_least::{Searched, least_map};
+use embedding_least::least_map;
+use refusal::Refusal;
 
 // Searches for the least map of a source into a target. Tested in this order: 1 to 5 of the source, 1 to 5 of the target, 12.
-pub fn search(source: &[u8], target: &[u8]) -> Searched
+pub fn search(source: &[u8], target: &[u8]) -> Result<[u8; 32], Refusal>
     ensures { Finds source.now target.now result }
 {
     least_map(source, target)

@@ -2,24 +2,21 @@
 #![tactic(auto)]
 
 ghost use Rattle.std.specs.Prelude.{◌≡◌, suc};
+ghost use Rattle.refusal.specs.Numbers.{number_of};
 ghost use Rattle.topology.specs.Branch.{branch_end};
 ghost use Rattle.embedding_trees.specs.Trees.{trees_fault, branch_ends};
 ghost use Rattle.embedding_trees.specs.InnerFilling.{FilledFrom};
 
-use topology::{Reading, SOURCE_NODES, TARGET_NODES, read, wide};
+use refusal::Refusal;
+use topology::{SOURCE_NODES, TARGET_NODES, read};
 use topology_branches::branch_end;
 
-// The reader's refusal of the source or, if that is a tree, of the target; or 0.
-pub fn trees_fault(source: &[u8], target: &[u8]) -> u8
-    ensures { result ≡ trees_fault source.now target.now }
+// Reads the source and, if that is a tree, the target.
+pub fn read_both(source: &[u8], target: &[u8]) -> Result<(), Refusal>
+    ensures { number_of result ≡ trees_fault source.now target.now }
 {
-    match read(source, SOURCE_NODES) {
-        Reading::Refused(number) => number,
-        Reading::Tree => match read(target, TARGET_NODES) {
-            Reading::Refused(number) => number,
-            Reading::Tree => 0,
-        },
-    }
+    read(source, SOURCE_NODES)?;
+    read(target, TARGET_NODES)
 }
 
 // One past the last node of the branch under `node`, by the table for a node that is in it.
@@ -27,10 +24,9 @@ fn known_end(bytes: &[u8], ends: &[usize; 64], node: usize) -> usize
     requires { FilledFrom bytes.now ends.now node }
     ensures { result ≡ branch_end bytes.now node }
 {
-    if node < 64 {
-        ends[node]
-    } else {
-        branch_end(bytes, node)
+    match ends.get(node) {
+        Some(&end) => end,
+        None => branch_end(bytes, node),
     }
 }
 
@@ -40,15 +36,12 @@ fn end_of(bytes: &[u8], ends: &[usize; 64], node: usize) -> usize
     requires { FilledFrom bytes.now ends.now (suc node) }
     ensures { result ≡ branch_end bytes.now node }
 {
-    if bytes.len() <= node {
+    let Some(&children) = bytes.get(node) else {
         return node;
-    }
-    let children = wide(bytes[node]);
+    };
     let mut end = node + 1;
-    let mut i = 0;
-    while i < children {
+    for _ in 0..children {
         end = known_end(bytes, ends, end);
-        i += 1;
     }
     end
 }
@@ -59,9 +52,7 @@ pub fn branch_ends(bytes: &[u8]) -> [usize; 64]
     ensures { result ≡ branch_ends bytes.now }
 {
     let mut ends = [0usize; 64];
-    let mut node = 64;
-    while 0 < node {
-        node -= 1;
+    for node in (0..64).rev() {
         ends[node] = end_of(bytes, &ends, node);
     }
     ends

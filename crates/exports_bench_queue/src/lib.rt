@@ -8,10 +8,7 @@ use queue_state::State;
 
 // The path of a round: the first in even rounds, the second in odd ones.
 fn path_in(even: Path, odd: Path, number: u32) -> Path {
-    if number % 2 == 0 {
-        return even;
-    }
-    odd
+    if number % 2 == 0 { even } else { odd }
 }
 
 // One round of many: a pop, then a push of a packet with the round's number.
@@ -29,12 +26,10 @@ pub extern "C" fn linduvar_rounds(
     second: Path,
     rounds: u32,
 ) -> PlainState {
-    let mut current = exports_plain_state::state_of(state);
-    let mut i = 0;
-    while i < rounds {
+    let mut current: State = state.into();
+    for i in 0..rounds {
         let path = path_in(first, second, i);
         current = round(current, path, i);
-        i += 1;
     }
-    exports_plain_state::plain(current)
+    current.into()
 }

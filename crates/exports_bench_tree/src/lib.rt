@@ -23,13 +23,11 @@ pub extern "C" fn linduvar_tree_rounds(
     length: u16,
     rounds: u32,
 ) -> PlainTree {
-    let mut current = exports_plain_tree::tree_of(tree);
-    let mut i = 0;
-    while i < rounds {
+    let mut current: Tree = tree.into();
+    for i in 0..rounds {
         current = round_to_leaf(current, leaf, class, length, i);
-        i += 1;
     }
-    exports_plain_tree::plain(current)
+    current.into()
 }
 
 // One round of many: a pop, then a push along a path of a packet with the round's number.
@@ -42,11 +40,9 @@ fn round_by_path(tree: Tree, path: Path, number: u32) -> Tree {
 // A pop and a push along a path in each round.
 #[unsafe(no_mangle)]
 pub extern "C" fn linduvar_tree_path_rounds(tree: PlainTree, path: Path, rounds: u32) -> PlainTree {
-    let mut current = exports_plain_tree::tree_of(tree);
-    let mut i = 0;
-    while i < rounds {
+    let mut current: Tree = tree.into();
+    for i in 0..rounds {
         current = round_by_path(current, path, i);
-        i += 1;
     }
-    exports_plain_tree::plain(current)
+    current.into()
 }

@@ -7,7 +7,7 @@ ghost use Rattle.queue_push.specs.Calls.{steps_of};
 ghost use Rattle.discipline_model.specs.Scheduler.{calling, pushing_to};
 ghost use Rattle.exports_chip_calls.specs.Answers.{ChipServesPlain};
 
-use exports_plain_tree::{PlainTree, PlainTreeAnswer, answered, tree_of};
+use exports_plain_tree::{PlainTree, PlainTreeAnswer};
 use queue_push::Path;
 use queue_state::Packet;
 
@@ -22,7 +22,7 @@ pub extern "C" fn linduvar_chip_push(
 ) -> PlainTreeAnswer
     ensures { ChipServesPlain source.now map.now tree (calling (pushing (steps_of path) path.leaf_rank packet)) result }
 {
-    answered(chip_calls::push(source, map, tree_of(tree), path, packet))
+    chip_calls::push(source, map, tree.into(), path, packet).into()
 }
 
 // Pushes a packet to a leaf of the drawing, with its class and its length.
@@ -38,7 +38,7 @@ pub extern "C" fn linduvar_chip_push_to_leaf(
 ) -> PlainTreeAnswer
     ensures { ChipServesPlain source.now map.now tree (pushing_to leaf class length packet) result }
 {
-    answered(chip_calls::push_to_leaf(source, map, tree_of(tree), leaf, class, length, packet))
+    chip_calls::push_to_leaf(source, map, tree.into(), leaf, class, length, packet).into()
 }
 
 // Pops the packet at the head.
@@ -46,5 +46,5 @@ pub extern "C" fn linduvar_chip_push_to_leaf(
 pub extern "C" fn linduvar_chip_pop(source: &[u8], map: &[u8], tree: PlainTree) -> PlainTreeAnswer
     ensures { ChipServesPlain source.now map.now tree (calling popping) result }
 {
-    answered(chip_calls::pop(source, map, tree_of(tree)))
+    chip_calls::pop(source, map, tree.into()).into()
 }

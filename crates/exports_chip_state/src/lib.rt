@@ -5,16 +5,19 @@
 ghost use Rattle.std.specs.Prelude.{◌≡◌};
 ghost use Rattle.pifo_model.specs.Tree.{held};
 ghost use Rattle.queue_state.specs.State.{tree_of};
-ghost use Rattle.chip_state.specs.Opening.{opened_chip};
-ghost use Rattle.chip_open.specs.Opening.{opened_both};
-ghost use Rattle.chip_counts.specs.Amounts.{chip_amount};
-ghost use Rattle.exports_plain_answers.specs.Answers.{plain_amount};
+ghost use Rattle.tree_state.specs.Opening.{opened_tree};
+ghost use Rattle.chip_state.specs.Opening.{chip_fault};
+ghost use Rattle.chip_open.specs.Opening.{both_trees_fault, opened_both};
+ghost use Rattle.chip_counts.specs.Amounts.{count_fault};
+ghost use Rattle.exports_plain_answers.specs.Answers.{plain_counted};
 ghost use Rattle.exports_plain_tree.specs.Trees.{tree_from};
 ghost use Rattle.exports_plain_tree.specs.Answers.{plain_opened};
-ghost use Rattle.exports_chip_state.specs.Answers.{plain_both};
+ghost use Rattle.exports_chip_state.specs.Answers.{plain_pair, plain_both};
 
-use exports_plain_answers::{PlainAmount, amount_of};
-use exports_plain_tree::{PlainRules, PlainTree, PlainTreeOpened, tree_of};
+use chip_open::Both;
+use exports_plain_answers::PlainAmount;
+use exports_plain_tree::{PlainRules, PlainTree, PlainTreeOpened, no_tree};
+use refusal::Refusal;
 
 // The answer to an opening of both trees: the trees, empty, the least map and 0; or zeros throughout and the refusal's number.
 #[repr(C)]
@@ -26,6 +29,32 @@ pub struct PlainPairOpened {
     pub refusal: u8,
 }
 
+// C gets zeros in place of both trees and the map.
+impl From<Result<Both, Refusal>> for PlainPairOpened {
+    ghost from_gives = { λ opening plain. plain ≡ plain_pair opening };
+
+    fn from(opening: Result<Both, Refusal>) -> PlainPairOpened {
+        match opening {
+            Ok(both) => {
+                // A variable: the borrow checker does not cover a field that is an array and is made part of a literal straight.
+                let map = both.map;
+                PlainPairOpened {
+                    source: both.source.into(),
+                    chip: both.chip.into(),
+                    map,
+                    refusal: 0,
+                }
+            }
+            Err(refusal) => PlainPairOpened {
+                source: no_tree().into(),
+                chip: no_tree().into(),
+                map: [0; 32],
+                refusal: refusal.into(),
+            },
+        }
+    }
+}
+
 // Opens both trees with one packet limit, a rule for each node of the drawing, and the least map.
 #[unsafe(no_mangle)]
 pub extern "C" fn linduvar_pair_open(
@@ -34,17 +63,10 @@ pub extern "C" fn linduvar_pair_open(
     limit: usize,
     rules: PlainRules,
 ) -> PlainPairOpened
-    ensures { result ≡ plain_both (opened_both source.now target.now limit rules.rules) }
+    ensures { result
+        ≡ plain_both (both_trees_fault source.now target.now limit rules.rules) (opened_both source.now target.now limit rules.rules) }
 {
-    let rules = rules.rules;
-    let both = chip_open::open_both(source, target, limit, rules);
-    let map = both.map;
-    PlainPairOpened {
-        source: exports_plain_tree::plain(both.source),
-        chip: exports_plain_tree::plain(both.chip),
-        map,
-        refusal: both.refusal,
-    }
+    chip_open::open_both(source, target, limit, rules.rules).into()
 }
 
 // Opens a chip's tree for a drawing, with a packet limit and a rule for each node of the drawing.
@@ -55,24 +77,23 @@ pub extern "C" fn linduvar_chip_open(
     limit: usize,
     rules: PlainRules,
 ) -> PlainTreeOpened
-    ensures { result ≡ plain_opened (opened_chip source.now target.now limit rules.rules) }
+    ensures { result ≡ plain_opened (chip_fault source.now target.now limit rules.rules) (opened_tree target.now limit rules.rules) }
 {
-    let rules = rules.rules;
-    exports_plain_tree::opened(chip_open::open(source, target, limit, rules))
+    chip_open::open(source, target, limit, rules.rules).into()
 }
 
 // How many packets a chip's tree holds.
 #[unsafe(no_mangle)]
 pub extern "C" fn linduvar_chip_held(source: &[u8], tree: PlainTree) -> PlainAmount
-    ensures { result ≡ plain_amount (chip_amount source.now (tree_from tree) (held (tree_of (tree_from tree).state))) }
+    ensures { result ≡ plain_counted (count_fault source.now (tree_from tree)) (held (tree_of (tree_from tree).state)) }
 {
-    amount_of(chip_counts::held(source, tree_of(tree)))
+    chip_counts::held(source, tree.into()).into()
 }
 
 // How many pushes a chip's tree has refused because it was full.
 #[unsafe(no_mangle)]
 pub extern "C" fn linduvar_chip_refusals(source: &[u8], tree: PlainTree) -> PlainAmount
-    ensures { result ≡ plain_amount (chip_amount source.now (tree_from tree) (tree_from tree).state.refused) }
+    ensures { result ≡ plain_counted (count_fault source.now (tree_from tree)) (tree_from tree).state.refused }
 {
-    amount_of(chip_counts::refusals(source, tree_of(tree)))
+    chip_counts::refusals(source, tree.into()).into()
 }

@@ -22,27 +22,24 @@ pub struct PlainDiagnosis {
     pub there: usize,
 }
 
-fn refused(refusal: u8) -> PlainDiagnosis
-    ensures { result ≡ record { refusal = refusal; lack = 0; node = 0; needed = 0; there = 0 } }
-{
-    PlainDiagnosis {
-        refusal,
-        lack: 0,
-        node: 0,
-        needed: 0,
-        there: 0,
-    }
-}
+impl From<Diagnosis> for PlainDiagnosis {
+    ghost from_gives = { λ diagnosis plain. plain ≡ plain_of diagnosis };
 
-fn lacking(lack: u8, node: usize, needed: usize, there: usize) -> PlainDiagnosis
-    ensures { result ≡ record { refusal = 12; lack = lack; node = node; needed = needed; there = there } }
-{
-    PlainDiagnosis {
-        refusal: 12,
-        lack,
-        node,
-        needed,
-        there,
+    fn from(diagnosis: Diagnosis) -> PlainDiagnosis {
+        let (refusal, lack, node, needed, there) = match diagnosis {
+            Diagnosis::Loads => (0, 0, 0, 0, 0),
+            Diagnosis::Refused(refusal) => (refusal.into(), 0, 0, 0, 0),
+            Diagnosis::TooDeep(node, needed, there) => (12, 1, node, needed, there),
+            Diagnosis::TooManyLeaves(node, needed, there) => (12, 2, node, needed, there),
+            Diagnosis::NotTogether(node) => (12, 3, node, 0, 0),
+        };
+        PlainDiagnosis {
+            refusal,
+            lack,
+            node,
+            needed,
+            there,
+        }
     }
 }
 
@@ -51,11 +48,5 @@ fn lacking(lack: u8, node: usize, needed: usize, there: usize) -> PlainDiagnosis
 pub extern "C" fn linduvar_why(source: &[u8], target: &[u8]) -> PlainDiagnosis
     ensures { result ≡ plain_of (diagnosis source.now target.now) }
 {
-    match embedding_diagnosis::why(source, target) {
-        Diagnosis::Loads => refused(0),
-        Diagnosis::Refused(number) => refused(number),
-        Diagnosis::TooDeep(node, needed, there) => lacking(1, node, needed, there),
-        Diagnosis::TooManyLeaves(node, needed, there) => lacking(2, node, needed, there),
-        Diagnosis::NotTogether(node) => lacking(3, node, 0, 0),
-    }
+    embedding_diagnosis::why(source, target).into()
 }

@@ -1,2 +1,3 @@
-pub mod Search
+pub mod Carry
 pub mod LeastDepth
+pub mod Search

@@ -6,8 +6,8 @@ ghost use Rattle.pifo_model.specs.Machine.{number_of};
 ghost use Rattle.queue_state.specs.Calls.{answer_of};
 ghost use Rattle.exports_plain_answers.specs.Answers.{value_of, plain_amount};
 
-use queue_counts::Amount;
 use queue_state::Answer;
+use refusal::Refusal;
 
 // The answer to a question for a count: 0 and the count, or a refusal's number and 0.
 #[repr(C)]
@@ -17,12 +17,17 @@ pub struct PlainAmount {
     pub value: u32,
 }
 
-pub fn amount_of(amount: Amount) -> PlainAmount
-    ensures { result ≡ plain_amount amount }
-{
-    match amount {
-        Amount::Count(value) => PlainAmount { refusal: 0, value },
-        Amount::Refused(refusal) => PlainAmount { refusal, value: 0 },
+impl From<Result<u32, Refusal>> for PlainAmount {
+    ghost from_gives = { λ amount plain. plain ≡ plain_amount amount };
+
+    fn from(amount: Result<u32, Refusal>) -> PlainAmount {
+        match amount {
+            Ok(value) => PlainAmount { refusal: 0, value },
+            Err(refusal) => PlainAmount {
+                refusal: refusal.into(),
+                value: 0,
+            },
+        }
     }
 }
 
@@ -31,10 +36,8 @@ pub fn answer_refusal(answer: Answer) -> u8
     ensures { result ≡ number_of (answer_of answer) }
 {
     match answer {
-        Answer::Accepted(_) => 0,
-        Answer::Departed(_) => 0,
-        Answer::Refused(number) => number,
-        Answer::Full(number, _) => number,
+        Answer::Accepted(_) | Answer::Departed(_) => 0,
+        Answer::Refused(refusal) | Answer::Full(refusal, _) => refusal.into(),
     }
 }
 
@@ -43,9 +46,7 @@ pub fn answer_value(answer: Answer) -> u32
     ensures { result ≡ value_of (answer_of answer) }
 {
     match answer {
-        Answer::Accepted(held) => held,
-        Answer::Departed(packet) => packet,
+        Answer::Accepted(value) | Answer::Departed(value) | Answer::Full(_, value) => value,
         Answer::Refused(_) => 0,
-        Answer::Full(_, count) => count,
     }
 }

@@ -1,41 +1,10 @@
--- Loops that fill an array from its front with f of each element of a list: the places before i are filled, and at the end all are.
-use mathlib.Core.Path.{◌≡◌, refl, sym, ◌∙◌}
-use Prim.Native.Nat.{ℕ, zero, suc, ◌+◌, ◌≤◌, ◌<◌}
-use native.Mathlib.Nat.{not-suc-le-zero, le_of_suc-le-suc}
-use native.Mathlib.Omega.{arith}
-use mathlib.Core.List.{List, [], ◌∷◌, map}
-use lib.ListN.{length, get_or, take, set, length-set}
-use lib.Seq.{take_all}
-use Rattle.base.proofs.Map.{length-map}
+-- An array that is filled with f of each element of another.
+use Rattle.std.proofs.Common.{◌≡◌, ℕ, ◌<◌, List, length, get_or, map, sym, ◌∙◌, arith}
+use Rattle.std.proofs.lemmas.List.{get_or-map, length-map}
+use lib.Seq.{ext_get_or}
 
-module _ {A B : Type 0} (f : A → B) where
-  pub record Filled (l : List A) (out : List B) (n i : ℕ) : Type 0 where
-    pub long : length out ≡ n
-    pub front : take i out ≡ take i (map f l)
-
-  one_more : (l : List A) (out : List B) (i : ℕ) (d : A) → i < length l → i < length out → take i out ≡ take i (map f l)
-      → take (suc i) (set out i (f (get_or l i d))) ≡ take (suc i) (map f l)
-  one_more [] out i d h g e = absurd (not-suc-le-zero h)
-  one_more (x ∷ l) [] i d h g e = absurd (not-suc-le-zero g)
-  one_more (x ∷ l) (o ∷ os) zero d h g e = refl
-  one_more (x ∷ l) (o ∷ os) (suc i) d h g e =
-      let r = one_more l os i d (le_of_suc-le-suc h) (le_of_suc-le-suc g) (cc) in
-      cc
-
-  module _ (l : List A) (n : ℕ) (long : length l ≡ n) where
-    pub fill_none : (out : List B) → length out ≡ n → Filled l out n 0
-    fill_none out e = record { long = e; front = refl }
-
-    pub fill_more : (out : List B) (i : ℕ) (d : A) (x : B) → Filled l out n i → i < n → x ≡ f (get_or l i d)
-        → Filled l (set out i x) n (i + 1)
-    fill_more out i d x h b e =
-        let s : i + 1 ≡ suc i = omega arith in
-        record {
-          long = length-set out i x ∙ h.long;
-          front = rw (s, e) (one_more l out i d (omega (arith, b, long)) (omega (arith, b, h.long)) h.front);
-        }
-
-    pub fill_all : (out : List B) (i : ℕ) → Filled l out n i → n ≤ i → out ≡ map f l
-    fill_all out i h b =
-        let m = length-map f l in
-        sym (take_all i out (omega (arith, h.long, b))) ∙ h.front ∙ take_all i (map f l) (omega (arith, m, long, b))
+pub mapped_by : {A B : Type 0} (f : A → B) (a : A) (b : B) (xs : List A) (ys : List B) → length ys ≡ length xs
+    → ((i : ℕ) → i < length xs → get_or ys i b ≡ f (get_or xs i a)) → ys ≡ map f xs
+mapped_by f a b xs ys l at =
+    ext_get_or b ys (map f xs) (l ∙ sym (length-map xs f))
+    (λ i h. let k : i < length xs = omega (arith, l) in at i k ∙ sym (get_or-map f xs i a b k))

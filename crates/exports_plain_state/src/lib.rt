@@ -2,9 +2,6 @@
 // passed to or from a program in C or Rust.
 #![tactic(auto)]
 
-ghost use Rattle.std.specs.Prelude.{◌≡◌, map};
-ghost use Rattle.exports_plain_state.specs.Plain.{entry_of, state_of, plain_entry, plain_of};
-
 use queue_state::{Entry, Frame, Item, Packet, Rank, State};
 
 // An entry: the child `child` if `tag` is 0, else the packet `packet`.
@@ -27,102 +24,84 @@ pub struct PlainState {
     pub refused: u32,
 }
 
-fn entry_of(plain: PlainEntry) -> Entry
-    ensures { result ≡ entry_of plain }
-{
-    if plain.tag == 0 {
-        return Entry {
+impl From<PlainEntry> for Entry {
+    ghost use Rattle.std.specs.Prelude.{◌≡◌};
+    ghost use Rattle.exports_plain_state.specs.Plain.{entry_of};
+
+    ghost from_gives = { λ plain entry. entry ≡ entry_of plain };
+
+    fn from(plain: PlainEntry) -> Entry {
+        Entry {
             rank: plain.rank,
-            item: Item::Child(plain.child),
-        };
-    }
-    Entry {
-        rank: plain.rank,
-        item: Item::Packet(plain.packet),
+            item: if plain.tag == 0 {
+                Item::Child(plain.child)
+            } else {
+                Item::Packet(plain.packet)
+            },
+        }
     }
 }
 
-fn entries_of(plain: [PlainEntry; 2304]) -> [Entry; 2304]
-    ensures { result ≡ map entry_of plain }
-{
-    let mut entries = [Entry {
-        rank: 0,
-        item: Item::Child(0),
-    }; 2304];
-    let mut i = 0;
-    while i < 2304 {
-        entries[i] = entry_of(plain[i]);
-        i += 1;
+impl From<Entry> for PlainEntry {
+    ghost use Rattle.std.specs.Prelude.{◌≡◌};
+    ghost use Rattle.exports_plain_state.specs.Plain.{plain_entry};
+
+    ghost from_gives = { λ entry plain. plain ≡ plain_entry entry };
+
+    fn from(entry: Entry) -> PlainEntry {
+        match entry.item {
+            Item::Child(child) => PlainEntry {
+                rank: entry.rank,
+                tag: 0,
+                child,
+                packet: 0,
+            },
+            Item::Packet(packet) => PlainEntry {
+                rank: entry.rank,
+                tag: 1,
+                child: 0,
+                packet,
+            },
+        }
     }
-    entries
 }
 
 // The state that plain numbers stand for.
-pub fn state_of(plain: PlainState) -> State
-    ensures { result ≡ state_of plain }
-{
-    let frame = plain.frame;
-    let lengths = plain.lengths;
-    let given = plain.entries;
-    let entries = entries_of(given);
-    State {
-        frame,
-        lengths,
-        entries,
-        refused: plain.refused,
-    }
-}
+impl From<PlainState> for State {
+    ghost use Rattle.std.specs.Prelude.{◌≡◌};
+    ghost use Rattle.exports_plain_state.specs.Plain.{state_of};
 
-fn plain_entry(entry: Entry) -> PlainEntry
-    ensures { result ≡ plain_entry entry }
-{
-    let rank = entry.rank;
-    let item = entry.item;
-    match item {
-        Item::Child(child) => PlainEntry {
-            rank,
-            tag: 0,
-            child,
-            packet: 0,
-        },
-        Item::Packet(packet) => PlainEntry {
-            rank,
-            tag: 1,
-            child: 0,
-            packet,
-        },
-    }
-}
+    ghost from_gives = { λ plain state. state ≡ state_of plain };
 
-fn plain_entries(entries: [Entry; 2304]) -> [PlainEntry; 2304]
-    ensures { result ≡ map plain_entry entries }
-{
-    let mut plain = [PlainEntry {
-        rank: 0,
-        tag: 0,
-        child: 0,
-        packet: 0,
-    }; 2304];
-    let mut i = 0;
-    while i < 2304 {
-        plain[i] = plain_entry(entries[i]);
-        i += 1;
+    fn from(plain: PlainState) -> State {
+        // A variable: the borrow checker does not cover a field that is an array and is made part of a literal straight.
+        let lengths = plain.lengths;
+        let entries = plain.entries.map(Entry::from);
+        State {
+            frame: plain.frame,
+            lengths,
+            entries,
+            refused: plain.refused,
+        }
     }
-    plain
 }
 
 // A state as plain numbers.
-pub fn plain(state: State) -> PlainState
-    ensures { result ≡ plain_of state }
-{
-    let frame = state.frame;
-    let lengths = state.lengths;
-    let given = state.entries;
-    let entries = plain_entries(given);
-    PlainState {
-        frame,
-        lengths,
-        entries,
-        refused: state.refused,
+impl From<State> for PlainState {
+    ghost use Rattle.std.specs.Prelude.{◌≡◌};
+    ghost use Rattle.exports_plain_state.specs.Plain.{plain_of};
+
+    ghost from_gives = { λ state plain. plain ≡ plain_of state };
+
+    fn from(state: State) -> PlainState {
+        // A variable: the borrow checker does not cover a field that is an array and is made part of a literal straight.
+        let lengths = state.lengths;
+        let entries = state.entries.map(PlainEntry::from);
+        PlainState {
+            frame: state.frame,
+            lengths,
+            entries,
+            refused: state.refused,
+        }
     }
 }

@@ -3,13 +3,15 @@
 #![tactic(auto)]
 
 ghost use Rattle.std.specs.Prelude.{◌≡◌};
+ghost use Rattle.tree_state.specs.Opening.{no_tree};
 ghost use Rattle.exports_plain_tree.specs.Trees.{tree_from, plain_tree};
-ghost use Rattle.exports_plain_tree.specs.Answers.{plain_opened, plain_served};
+ghost use Rattle.exports_plain_tree.specs.Answers.{plain_opening, plain_served};
 
 use discipline_model::{Disciplines, Rule};
 use exports_plain_answers::{answer_refusal, answer_value};
 use exports_plain_state::PlainState;
-use tree_state::{Tree, TreeOpened, TreeServed};
+use refusal::Refusal;
+use tree_state::{Tree, TreeServed};
 
 // The fields are those of a tree.
 #[repr(C)]
@@ -45,43 +47,65 @@ pub struct PlainTreeAnswer {
 }
 
 // The tree that plain numbers stand for.
-pub fn tree_of(plain: PlainTree) -> Tree
-    ensures { result ≡ tree_from plain }
-{
-    let disciplines = plain.disciplines;
-    let state = exports_plain_state::state_of(plain.state);
-    Tree { state, disciplines }
-}
+impl From<PlainTree> for Tree {
+    ghost from_gives = { λ plain tree. tree ≡ tree_from plain };
 
-// A tree as plain numbers.
-pub fn plain(tree: Tree) -> PlainTree
-    ensures { result ≡ plain_tree tree }
-{
-    let disciplines = tree.disciplines;
-    let state = exports_plain_state::plain(tree.state);
-    PlainTree { state, disciplines }
-}
-
-// The tree after a call and the answer to it, as plain numbers.
-pub fn answered(served: TreeServed) -> PlainTreeAnswer
-    ensures { result ≡ plain_served served }
-{
-    let answer = served.answer;
-    let tree = plain(served.tree);
-    PlainTreeAnswer {
-        tree,
-        refusal: answer_refusal(answer),
-        value: answer_value(answer),
+    fn from(plain: PlainTree) -> Tree {
+        Tree {
+            state: plain.state.into(),
+            disciplines: plain.disciplines,
+        }
     }
 }
 
-// The answer to an opening, as plain numbers.
-pub fn opened(opening: TreeOpened) -> PlainTreeOpened
-    ensures { result ≡ plain_opened opening }
+// A tree as plain numbers.
+impl From<Tree> for PlainTree {
+    ghost from_gives = { λ tree plain. plain ≡ plain_tree tree };
+
+    fn from(tree: Tree) -> PlainTree {
+        PlainTree {
+            state: tree.state.into(),
+            disciplines: tree.disciplines,
+        }
+    }
+}
+
+impl From<TreeServed> for PlainTreeAnswer {
+    ghost from_gives = { λ served plain. plain ≡ plain_served served };
+
+    fn from(served: TreeServed) -> PlainTreeAnswer {
+        PlainTreeAnswer {
+            tree: served.tree.into(),
+            refusal: answer_refusal(served.answer),
+            value: answer_value(served.answer),
+        }
+    }
+}
+
+// What C gets in place of a tree if an opening is refused: zeros throughout.
+pub fn no_tree() -> Tree
+    ensures { result ≡ no_tree }
 {
-    let tree = plain(opening.tree);
-    PlainTreeOpened {
-        tree,
-        refusal: opening.refusal,
+    let rule = Rule {
+        discipline: 0,
+        weight: 0,
+    };
+    Tree::new(queue_state::no_tree(), [rule; 64])
+}
+
+impl From<Result<Tree, Refusal>> for PlainTreeOpened {
+    ghost from_gives = { λ opening plain. plain ≡ plain_opening opening };
+
+    fn from(opening: Result<Tree, Refusal>) -> PlainTreeOpened {
+        match opening {
+            Ok(tree) => PlainTreeOpened {
+                tree: tree.into(),
+                refusal: 0,
+            },
+            Err(refusal) => PlainTreeOpened {
+                tree: no_tree().into(),
+                refusal: refusal.into(),
+            },
+        }
     }
 }

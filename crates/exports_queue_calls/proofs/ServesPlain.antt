@@ -3,11 +3,12 @@ use mathlib.Core.Path.{◌≡◌, refl, sym, ap, ◌∙◌, subst}
 use mathlib.Core.Bool.{Bool, true, false, cond}
 use Rattle.pifo_model.specs.Machine.{Call, Answer, refused, serve, number_of}
 use Rattle.queue_state.specs.State.{Packet, machine, well_formed}
-use Rattle.queue_state.specs.Calls.{Serves}
+use Rattle.queue_state.specs.Calls.{Serves, answer_of}
+use Rattle.queue_state.specs.declared.Served.{Served}
 use Rattle.queue_state.specs.declared.State.{State}
-use Rattle.exports_plain_state.specs.Plain.{state_of, plain_of}
+use Rattle.exports_plain_state.specs.Plain.{state_of}
 use Rattle.exports_plain_answers.specs.Answers.{value_of}
-use Rattle.exports_queue_calls.specs.Answers.{answered, ServesPlain}
+use Rattle.exports_queue_calls.specs.Answers.{answered, plain_served, ServesPlain}
 use Rattle.exports_plain_state.specs.declared.PlainState.{PlainState}
 use Rattle.exports_queue_calls.specs.declared.PlainAnswer.{PlainAnswer}
 use Rattle.exports_plain_state.proofs.PlainBack.{state_back, is_written}
@@ -20,15 +21,17 @@ is_answered s r call a h = by_test (well_formed s) refl
     by_test true e = h.answer e
     by_test false e = h.ill e
 
-pub served-plain : (s : PlainState) (call : Call Packet) (t r : State) (a : Answer Packet) (q : PlainAnswer) → t ≡ state_of s → Serves t call a r
-    → q.state ≡ plain_of r → q.refusal ≡ number_of a → q.value ≡ value_of a → ServesPlain s call q
-served-plain s call t r a q is h e n v =
-    let g = subst (λ (u : State). Serves u call a r) is h in
-    let f = subst (Serves (state_of s) call a) (sym (state_back q.state r e)) g in
-    let x = is_answered (state_of s) r call a g in
+pub served-plain : (p : PlainState) (call : Call Packet) (t : State) (s : Served) (r : PlainAnswer) → t ≡ state_of p
+    → Serves t call (answer_of s.answer) s.state → r ≡ plain_served s → ServesPlain p call r
+served-plain p call t s r is h e =
+    let a = answer_of s.answer in
+    let written = ap (λ (x : PlainAnswer). x.state) e in
+    let g = subst (λ (u : State). Serves u call a s.state) is h in
+    let f = subst (Serves (state_of p) call a) (sym (state_back r.state s.state written)) g in
+    let x = is_answered (state_of p) s.state call a g in
     record {
-      refusal = n ∙ ap number_of x;
-      value = v ∙ ap value_of x;
-      serves = subst (λ (z : Answer Packet). Serves (state_of s) call z (state_of q.state)) x f;
-      written = is_written q.state r e;
+      refusal = ap (λ (x : PlainAnswer). x.refusal) e ∙ ap number_of x;
+      value = ap (λ (x : PlainAnswer). x.value) e ∙ ap value_of x;
+      serves = subst (λ (z : Answer Packet). Serves (state_of p) call z (state_of r.state)) x f;
+      written = is_written r.state s.state written;
     }

@@ -6,13 +6,13 @@ ghost use Rattle.pifo_model.specs.Machine.{pushing, popping};
 ghost use Rattle.queue_push.specs.Calls.{steps_of};
 ghost use Rattle.queue_pop.specs.Way.{way_of};
 ghost use Rattle.exports_plain_state.specs.Plain.{state_of};
-ghost use Rattle.exports_queue_calls.specs.Answers.{ServesPlain};
+ghost use Rattle.exports_queue_calls.specs.Answers.{plain_served, ServesPlain};
 
 use exports_plain_answers::{answer_refusal, answer_value};
 use exports_plain_state::PlainState;
 use queue_pop::Way;
 use queue_push::Path;
-use queue_state::Packet;
+use queue_state::{Packet, Served};
 
 // The answer to a call: the state after it; a refusal's number or 0; and a value: the packets held after a push, the packet that departs, or the new
 // count of refusals for a push without room; else 0.
@@ -32,18 +32,24 @@ pub struct PlainPopped {
     pub way: Way,
 }
 
+impl From<Served> for PlainAnswer {
+    ghost from_gives = { λ served plain. plain ≡ plain_served served };
+
+    fn from(served: Served) -> PlainAnswer {
+        PlainAnswer {
+            state: served.state.into(),
+            refusal: answer_refusal(served.answer),
+            value: answer_value(served.answer),
+        }
+    }
+}
+
 // Pushes a packet along a path.
 #[unsafe(no_mangle)]
 pub extern "C" fn linduvar_push(state: PlainState, path: Path, packet: Packet) -> PlainAnswer
     ensures { ServesPlain state (pushing (steps_of path) path.leaf_rank packet) result }
 {
-    let served = queue_push::push(exports_plain_state::state_of(state), path, packet);
-    let answer = served.answer;
-    PlainAnswer {
-        state: exports_plain_state::plain(served.state),
-        refusal: answer_refusal(answer),
-        value: answer_value(answer),
-    }
+    queue_push::push(state.into(), path, packet).into()
 }
 
 // Pops the packet at the head.
@@ -51,16 +57,9 @@ pub extern "C" fn linduvar_push(state: PlainState, path: Path, packet: Packet) -
 pub extern "C" fn linduvar_pop(state: PlainState) -> PlainPopped
     ensures { ServesPlain state popping result.answer × (result.way ≡ way_of (state_of state)) }
 {
-    let popped = queue_pop::pop(exports_plain_state::state_of(state));
-    let served = popped.served;
-    let answer = served.answer;
-    let way = popped.way;
+    let popped = queue_pop::pop(state.into());
     PlainPopped {
-        answer: PlainAnswer {
-            state: exports_plain_state::plain(served.state),
-            refusal: answer_refusal(answer),
-            value: answer_value(answer),
-        },
-        way,
+        answer: popped.served.into(),
+        way: popped.way,
     }
 }

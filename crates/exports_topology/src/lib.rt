@@ -5,17 +5,15 @@ ghost use Rattle.std.specs.Prelude.{◌≡◌, length, get_or};
 ghost use Rattle.topology.specs.Reader.{fault};
 ghost use Rattle.topology.specs.Branch.{branch_fault, branch_part};
 
-use topology::Reading;
+use refusal::number_of;
+use topology_branches::branch;
 
 // The refusal of a topology of at most `limit` nodes, or 0.
 #[unsafe(no_mangle)]
 pub extern "C" fn linduvar_read(bytes: &[u8], limit: usize) -> u8
     ensures { result ≡ fault limit bytes.now }
 {
-    match topology::read(bytes, limit) {
-        Reading::Tree => 0,
-        Reading::Refused(number) => number,
-    }
+    number_of(topology::read(bytes, limit))
 }
 
 // The length of the branch under `node`; its refusal, or 0, is written to `refusal`.
@@ -23,8 +21,12 @@ pub extern "C" fn linduvar_read(bytes: &[u8], limit: usize) -> u8
 pub extern "C" fn linduvar_branch(bytes: &[u8], node: usize, refusal: &mut u8) -> usize
     ensures { (refusal.new ≡ branch_fault bytes.now node) × (result ≡ length (branch_part bytes.now node)) }
 {
-    let part = topology_branches::branch(bytes, node, refusal);
-    part.len()
+    let (fault, length) = match branch(bytes, node) {
+        Ok(part) => (0, part.len()),
+        Err(refusal) => (refusal.into(), 0),
+    };
+    *refusal = fault;
+    length
 }
 
 // Byte `at` of the branch under `node`; past its end 255, which is no number of children.
@@ -32,7 +34,8 @@ pub extern "C" fn linduvar_branch(bytes: &[u8], node: usize, refusal: &mut u8) -
 pub extern "C" fn linduvar_branch_byte(bytes: &[u8], node: usize, at: usize) -> u8
     ensures { result ≡ get_or (branch_part bytes.now node) at 255 }
 {
-    let mut refusal = 0;
-    let part = topology_branches::branch(bytes, node, &mut refusal);
-    if at < part.len() { part[at] } else { 255 }
+    match branch(bytes, node) {
+        Ok(part) => part.get(at).copied().unwrap_or(255),
+        Err(_) => 255,
+    }
 }

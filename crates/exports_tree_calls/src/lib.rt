@@ -7,7 +7,7 @@ ghost use Rattle.queue_push.specs.Calls.{steps_of};
 ghost use Rattle.discipline_model.specs.Scheduler.{calling, pushing_to};
 ghost use Rattle.exports_tree_calls.specs.Answers.{OwnServesPlain};
 
-use exports_plain_tree::{PlainTree, PlainTreeAnswer, answered, tree_of};
+use exports_plain_tree::{PlainTree, PlainTreeAnswer};
 use queue_push::Path;
 use queue_state::Packet;
 
@@ -16,7 +16,7 @@ use queue_state::Packet;
 pub extern "C" fn linduvar_tree_push(tree: PlainTree, path: Path, packet: Packet) -> PlainTreeAnswer
     ensures { OwnServesPlain tree (calling (pushing (steps_of path) path.leaf_rank packet)) result }
 {
-    answered(tree_calls::push(tree_of(tree), path, packet))
+    tree_calls::push(tree.into(), path, packet).into()
 }
 
 // Pushes a packet to a leaf, with its class and its length.
@@ -30,7 +30,7 @@ pub extern "C" fn linduvar_tree_push_to_leaf(
 ) -> PlainTreeAnswer
     ensures { OwnServesPlain tree (pushing_to leaf class length packet) result }
 {
-    answered(tree_calls::push_to_leaf(tree_of(tree), leaf, class, length, packet))
+    tree_calls::push_to_leaf(tree.into(), leaf, class, length, packet).into()
 }
 
 // Pops the packet at the head.
@@ -38,5 +38,5 @@ pub extern "C" fn linduvar_tree_push_to_leaf(
 pub extern "C" fn linduvar_tree_pop(tree: PlainTree) -> PlainTreeAnswer
     ensures { OwnServesPlain tree (calling popping) result }
 {
-    answered(tree_calls::pop(tree_of(tree)))
+    tree_calls::pop(tree.into()).into()
 }

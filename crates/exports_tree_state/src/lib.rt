@@ -6,14 +6,14 @@ ghost use Rattle.std.specs.Prelude.{◌≡◌};
 ghost use Rattle.pifo_model.specs.Tree.{held};
 ghost use Rattle.queue_state.specs.State.{tree_of};
 ghost use Rattle.queue_counts.specs.Amounts.{amount};
-ghost use Rattle.tree_state.specs.Opening.{opened_tree};
+ghost use Rattle.tree_state.specs.Opening.{tree_fault, opened_tree};
 ghost use Rattle.tree_state.specs.Calls.{drawing, well_formed_by};
 ghost use Rattle.exports_plain_answers.specs.Answers.{plain_amount};
 ghost use Rattle.exports_plain_tree.specs.Trees.{tree_from};
 ghost use Rattle.exports_plain_tree.specs.Answers.{plain_opened};
 
-use exports_plain_answers::{PlainAmount, amount_of};
-use exports_plain_tree::{PlainRules, PlainTree, PlainTreeOpened, tree_of};
+use exports_plain_answers::PlainAmount;
+use exports_plain_tree::{PlainRules, PlainTree, PlainTreeOpened};
 
 // Opens an empty tree with a packet limit and a rule for each of its nodes.
 #[unsafe(no_mangle)]
@@ -22,10 +22,9 @@ pub extern "C" fn linduvar_tree_open(
     limit: usize,
     rules: PlainRules,
 ) -> PlainTreeOpened
-    ensures { result ≡ plain_opened (opened_tree bytes.now limit rules.rules) }
+    ensures { result ≡ plain_opened (tree_fault bytes.now limit rules.rules) (opened_tree bytes.now limit rules.rules) }
 {
-    let rules = rules.rules;
-    exports_plain_tree::opened(tree_open::open(bytes, limit, rules))
+    tree_open::open(bytes, limit, rules.rules).into()
 }
 
 // How many packets a tree holds.
@@ -33,7 +32,7 @@ pub extern "C" fn linduvar_tree_open(
 pub extern "C" fn linduvar_tree_held(tree: PlainTree) -> PlainAmount
     ensures { result ≡ plain_amount (amount (well_formed_by (drawing (tree_from tree)) (tree_from tree)) (held (tree_of (tree_from tree).state))) }
 {
-    amount_of(tree_counts::held(tree_of(tree)))
+    tree_counts::held(tree.into()).into()
 }
 
 // How many pushes a tree has refused because it was full.
@@ -41,5 +40,5 @@ pub extern "C" fn linduvar_tree_held(tree: PlainTree) -> PlainAmount
 pub extern "C" fn linduvar_tree_refusals(tree: PlainTree) -> PlainAmount
     ensures { result ≡ plain_amount (amount (well_formed_by (drawing (tree_from tree)) (tree_from tree)) (tree_from tree).state.refused) }
 {
-    amount_of(tree_counts::refusals(tree_of(tree)))
+    tree_counts::refusals(tree.into()).into()
 }

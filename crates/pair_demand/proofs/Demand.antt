@@ -5,13 +5,17 @@
 -- and `chip_state`).
 use mathlib.Core.Path.{◌≡◌, refl, sym, ap, ◌∙◌, subst}
 use mathlib.Core.Logic.{◌↔◌, ⊎_elim}
-use Prim.Native.Nat.{ℕ, ◌+◌, ◌≤◌, min}
+use Prim.Native.Nat.{ℕ, zero, suc, ◌+◌, ◌≤◌, min}
 use native.Mathlib.Omega.{arith}
 use mathlib.Core.List.{List, [], ◌∷◌, map}
 use mathlib.Core.Bool.{true}
 use lib.ListN.{length, length-append}
 use borrow.Author.Tests.{le-leb}
 use Rattle.base.proofs.Permutation.{length_perm}
+use Rattle.std.specs.Prelude.{Result, Ok, Err}
+use Rattle.refusal.specs.Numbers.{number_of}
+use Rattle.refusal.specs.declared.Refusal.{Refusal}
+use Rattle.refusal.proofs.Numbers.{numbered}
 use Rattle.topology.specs.Tree.{Topo, code}
 use Rattle.topology.specs.Reader.{fault, tree}
 use Rattle.topology.proofs.Reader.{fault_wider}
@@ -24,25 +28,21 @@ use Rattle.pifo_model.proofs.Well.{packets_empty, is_other}
 use Rattle.topology_reduction.specs.Reduced.{kept_bytes}
 use Rattle.topology_reduction.proofs.Limits.{kept-fault, kept-tree}
 use Rattle.embedding_model.specs.Rules.{Passes}
-use Rattle.embedding_model.specs.Least.{search_map}
+use Rattle.embedding_model.specs.Least.{search_fault, search_map}
 use Rattle.embedding_model.proofs.Passes.{maps_reduced}
-use Rattle.embedding_model.proofs.Search.{search-twelve}
+use Rattle.embedding_model.proofs.Search.{search-twelve, search_most}
 use Rattle.pair_model.specs.Simulation.{serve_carried}
 use Rattle.pair_model.proofs.ReducedAlike.{places_pass}
 use Rattle.regular_model.specs.Regular.{complete}
 use Rattle.regular_model.proofs.SearchRegular.{search_regular}
 use Rattle.regular_depth.proofs.Answers.{depth-drawn, answers_some}
-use Rattle.embedding_outcome.specs.Outcomes.{outcome, number_of}
 use Rattle.embedding_least.specs.Answers.{Searches}
-use Rattle.embedding_least.specs.declared.Searched.{Searched}
-use Rattle.embedding_least.proofs.Searches.{searched_number}
 use Rattle.embedding_search.proofs.FoundSimulated.{found_passes}
 use Rattle.queue_state.specs.State.{Packet, machine}
 use Rattle.queue_limit.specs.Limit.{limit_fault}
 use Rattle.queue_state.specs.Demand.{History, Execution}
 use Rattle.queue_state.proofs.Satisfiable.{execution_some}
 use Rattle.queue_state.proofs.Execution.{execution_as}
-use Rattle.queue_counts.specs.declared.Amount.TheVariants.{Count}
 use Rattle.discipline_model.specs.Figure.{rule_fault, fresh}
 use Rattle.discipline_model.specs.Scheduler.{Scheduler, Request, rank_at, with, serve_own, observation_of, observed_over}
 use Rattle.discipline_model.specs.declared.Rule.{Rule}
@@ -53,12 +53,11 @@ use Rattle.tree_state.specs.declared.Tree.{Tree}
 use Rattle.tree_state.proofs.Satisfiable.{own_well, own_some}
 use Rattle.pair_schedule.specs.Chip.{image_rank, serve_chip}
 use Rattle.pair_schedule.proofs.SchedulersAlike.{schedulers_alike}
-use Rattle.chip_state.specs.Opening.{opened_chip}
 use Rattle.chip_state.specs.Calls.{chip_refusal, serve_mapped, ChipServes}
 use Rattle.chip_state.proofs.ChipServes.{known_chip, carried_topology}
 use Rattle.chip_state.proofs.Satisfiable.{chip_some}
 use Rattle.pair_demand.specs.Demand.{CodeRequest, request_of, SourceCall, ChipCall, Observation, observe, observe_own, as_observation, observed, Tallied, as_observations, Alike, Demand3}
-use Rattle.pair_demand.proofs.Openings.{own_opens, own_passes, chip-opens, chip_passes}
+use Rattle.pair_demand.proofs.Openings.{opened-scheduler, wide, own_opens, own_passes, chip-opens, chip_passes}
 
 -- ---- what is observed of a tree is what is observed of its scheduler
 
@@ -149,7 +148,7 @@ tallied (q ∷ qs) s i o f h =
     let n = (serve_own s q).1 in
     let z = counted_request s i o f q h in
     let count = z.refusals in (
-      (held n.core.tree, z.holds, (λ k. (Count (held n.core.tree), Count (count k)))),
+      (held n.core.tree, z.holds, (λ k. (Ok (held n.core.tree), Ok (count k)))),
       tallied qs n (i + accepted_by a) (o + length (departed_by a)) (f + times 15 (answer_number a ∷ [])) z,
     )
 
@@ -158,10 +157,10 @@ tallied (q ∷ qs) s i o f h =
 module _ (source target m : List ℕ) (limit : ℕ) (rules : List Rule) (f : fault 32 source ≡ 0) (g : fault 64 target ≡ 0)
     (E : Passes (tree source) (tree target) m) (fits : limit_fault limit ≡ 0) (e : rule_fault (tree source) rules ≡ 0) where
   abbrev x : Tree
-  x = (opened_tree source limit rules).tree
+  x = opened_tree source limit rules
 
   abbrev y : Tree
-  y = (opened_chip source target limit rules).tree
+  y = opened_tree target limit rules
 
   alike : (calls : List CodeRequest) (vs ws : History Tree) → Execution SourceCall x calls vs → Execution (ChipCall source m) y calls ws
       → Alike (tree source) (tree target) m limit rules calls x y vs ws
@@ -170,8 +169,8 @@ module _ (source target m : List ℕ) (limit : ℕ) (rules : List Rule) (f : fau
       let T = tree target in
       let requests = map request_of calls in
       let both = schedulers_alike Packet S T m E limit rules requests in
-      let o = own_opens source f limit fits rules e in
-      let u = chip-opens source f limit fits rules e target g in
+      let o = opened-scheduler source (wide source f limit fits rules e) limit fits rules in
+      let u = opened-scheduler target g limit fits rules in
       let x_passes = own_passes source f limit fits rules e in
       let y_passes = chip_passes source f limit fits rules e target g m E in
       let start : Scheduler Packet = with (opened S limit) (fresh rules) in
@@ -179,20 +178,20 @@ module _ (source target m : List ℕ) (limit : ℕ) (rules : List Rule) (f : fau
       let drawn : observed observe_own vs ≡ as_observations (observed_over serve_own start requests) =
       observed_over_lem own_refusal serve_own observe_own observe_own_lem requests x vs x_passes
       (execution_as request_of SourceCall OwnServes (λ t q a r call. call) calls x vs v)
-      ∙ ap (λ (s : Scheduler Packet). as_observations (observed_over serve_own s requests)) o.scheduler in
+      ∙ ap (λ (s : Scheduler Packet). as_observations (observed_over serve_own s requests)) o in
       let chip : observed (observe S) ws ≡ as_observations (observed_over (serve_chip S T m) chip-start requests) =
       observed_over_lem (chip_refusal source m) (serve_mapped source m) (observe S) (observe-chip source m) requests y ws y_passes
       (execution_as request_of (ChipCall source m) (ChipServes source m) (λ t q a r call. call) calls y ws w)
-      ∙ ap (λ (s : Scheduler Packet). as_observations (observed_over (serve_mapped source m) s requests)) u.scheduler
+      ∙ ap (λ (s : Scheduler Packet). as_observations (observed_over (serve_mapped source m) s requests)) u
       ∙ ap as_observations (mapped_over source m T requests chip-start refl) in
-      let first : observe_own x ≡ as_observation (observation_of start) = observe_own_lem x x_passes ∙ ap (λ (s : Scheduler Packet). as_observation (observation_of s)) o.scheduler in
+      let first : observe_own x ≡ as_observation (observation_of start) = observe_own_lem x x_passes ∙ ap (λ (s : Scheduler Packet). as_observation (observation_of s)) o in
       let chip_first : observe S y ≡ as_observation (observation_of chip-start) =
-      observe-chip source m y y_passes ∙ ap (λ (s : Scheduler Packet). as_observation (observation_of s)) u.scheduler in
+      observe-chip source m y y_passes ∙ ap (λ (s : Scheduler Packet). as_observation (observation_of s)) u in
       let none : held (opened {P = Packet} S limit).tree ≡ 0 = ap length (packets_empty Packet S) in
       record {
         before = first ∙ ap as_observation both.before ∙ sym chip_first;
         every = drawn ∙ ap as_observations both.every ∙ sym chip;
-        empty = (0, refl, ap (λ (l : Observation). l.0) first ∙ (λ k. (Count (none k), Count 0)));
+        empty = (0, refl, ap (λ (l : Observation). l.0) first ∙ (λ k. (Ok (none k), Ok 0)));
         tallied =
             subst (Tallied 0 0 0) (sym drawn)
             (tallied requests start 0 0 0 record { sound = opened-sound Packet S limit; holds = omega (arith, none); refusals = refl });
@@ -205,12 +204,19 @@ module _ (source target m : List ℕ) (limit : ℕ) (rules : List Rule) (f : fau
 limit_fits : (limit : ℕ) → 1 ≤ limit → limit ≤ 256 → limit_fault limit ≡ 0
 limit_fits limit low high = rw (le-leb 1 limit low, le-leb limit 256 high)
 
-twelve : (source target : List ℕ) → fault 32 source ≡ 0 → fault 64 target ≡ 0 → (r : Searched) → Searches source target r
-    → (number_of r.outcome ≡ 12) ↔ ((l : List ℕ) → Passes (tree source) (tree target) l → ⊥)
+twelve : (source target : List ℕ) → fault 32 source ≡ 0 → fault 64 target ≡ 0 → (r : Result (List ℕ) Refusal) → Searches source target r
+    → (number_of r ≡ 12) ↔ ((l : List ℕ) → Passes (tree source) (tree target) l → ⊥)
 twelve source target f g r s =
-    let number = searched_number source target r s in
     let exact = search-twelve source target f g in
-    (λ e. exact.0 (sym number ∙ e), λ none. number ∙ exact.1 none)
+    (λ e. exact.0 (sym s.number ∙ e), λ none. s.number ∙ exact.1 none)
+
+-- the search has an answer for all arguments
+searches : (source target : List ℕ) → (r : Result (List ℕ) Refusal) × Searches source target r
+searches source target = by_fault (search_fault source target) refl (search_most source target)
+  where
+    by_fault : (f : ℕ) → search_fault source target ≡ f → f ≤ 12 → (r : Result (List ℕ) Refusal) × Searches source target r
+    by_fault zero e most = (Ok (search_map source target), record { number = sym e; map = refl })
+    by_fault (suc f) e most = let n = numbered f (omega arith) in (Err n.0, record { number = n.1 ∙ sym e; map = tt })
 
 pub demand_3 : Demand3
 demand_3 =
@@ -218,13 +224,10 @@ demand_3 =
       alike = λ source target m limit rules f g E low high. alike source target m limit rules f g E (limit_fits limit low high);
       opens = λ source target limit rules f g low high e.
           let fits = limit_fits limit low high in
-          ((own_opens source f limit fits rules e).number, (chip-opens source f limit fits rules e target g).number);
+          (own_opens source f limit fits rules e, chip-opens source f limit fits rules e target g);
       source_executes = execution_some SourceCall (λ t q. own_some t (request_of q));
       chip_executes = λ source m. execution_some (ChipCall source m) (λ t q. chip_some source m t (request_of q));
-      searches = λ source target. (
-        record { outcome = outcome source target; map = search_map source target },
-        record { outcome = refl; map = refl },
-      );
+      searches = searches;
       depths = answers_some;
       twelve = twelve;
       twelve_reduced = λ source target f g r s.
@@ -238,7 +241,7 @@ demand_3 =
         places_pass (tree source),
       );
       zero_regular = λ source d k a w r s.
-          searched_number source (code (complete d k)) r s ∙ (search_regular source d k (depth-drawn source d a.0) a.1 w).0;
+          s.number ∙ (search_regular source d k (depth-drawn source d (sym a.0)) a.1 w).0;
       twelve_regular = λ source d k a w j l r s.
-          searched_number source (code (complete d j)) r s ∙ (search_regular source d k (depth-drawn source d a.0) a.1 w).1 j l;
+          s.number ∙ (search_regular source d k (depth-drawn source d (sym a.0)) a.1 w).1 j l;
     }

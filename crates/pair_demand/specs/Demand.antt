@@ -5,7 +5,9 @@
 -- The statement refers to the code only by its contracts: an execution is any sequence of answers and trees that the contracts of the calls on a tree
 -- by itself and on a chip's tree (`OwnServes`, `ChipServes`) allow, and an answer of the search is any that its contract allows. So it holds of any
 -- code that meets the contracts.
-use Rattle.std.specs.Prelude.{◌≡◌, ◌↔◌, ℕ, ◌+◌, ◌≤◌, ◌<◌, min, List, [], ◌∷◌, map, length}
+use Rattle.std.specs.Prelude.{◌≡◌, ◌↔◌, ℕ, ◌+◌, ◌≤◌, ◌<◌, min, List, [], ◌∷◌, map, length, Result, Ok}
+use Rattle.refusal.specs.Numbers.{number_of}
+use Rattle.refusal.specs.declared.Refusal.{Refusal}
 use Rattle.topology.specs.Tree.{Topo, code}
 use Rattle.topology.specs.Reader.{Within, fault, tree}
 use Rattle.pifo_model.specs.Tree.{held}
@@ -16,27 +18,21 @@ use Rattle.embedding_model.specs.Rules.{Passes}
 use Rattle.pair_model.specs.Reduced.{places_of}
 use Rattle.regular_model.specs.Regular.{complete}
 use Rattle.regular_depth.specs.Answers.{Answers}
-use Rattle.regular_depth.specs.declared.Depth.{Depth}
-use Rattle.regular_depth.specs.declared.Depth.TheVariants.{Least}
-use Rattle.embedding_outcome.specs.Outcomes.{number_of}
 use Rattle.embedding_least.specs.Answers.{Searches}
 use Rattle.embedding_search.specs.Search.{images}
-use Rattle.embedding_least.specs.declared.Searched.{Searched}
 use Rattle.queue_state.specs.State.{Packet, tree_of}
 use Rattle.queue_state.specs.Demand.{Transition, History, Execution}
 use Rattle.queue_push.specs.declared.Path.{Path}
 use Rattle.queue_counts.specs.Amounts.{amount}
-use Rattle.queue_counts.specs.declared.Amount.{Amount}
-use Rattle.queue_counts.specs.declared.Amount.TheVariants.{Count}
 use Rattle.discipline_model.specs.Figure.{rule_fault, fresh}
 use Rattle.discipline_model.specs.Scheduler.{Request, calling, pushing_to, with, serve_own, observed_over}
 use Rattle.discipline_model.specs.declared.Rule.{Rule}
 use Rattle.discipline_model.specs.declared.Disciplines.{Disciplines}
-use Rattle.tree_state.specs.Opening.{opened_tree}
+use Rattle.tree_state.specs.Opening.{tree_fault, opened_tree}
 use Rattle.tree_state.specs.Calls.{well_formed_by, drawing, OwnServes}
 use Rattle.tree_state.specs.declared.Tree.{Tree}
 use Rattle.pair_schedule.specs.Chip.{serve_chip}
-use Rattle.chip_state.specs.Opening.{opened_chip}
+use Rattle.chip_state.specs.Opening.{chip_fault}
 use Rattle.chip_state.specs.Calls.{ChipServes}
 use Rattle.translator.specs.PushesLand.{push_along}
 
@@ -63,7 +59,7 @@ ChipCall source m t q a r = ChipServes source m t (request_of q) a r
 -- What is observed of a tree: packets held and refusals counted, as `held` and `refusals` answer; and what it keeps for disciplines, which is the
 -- rules, the virtual times and the finishes.
 abbrev pub Observation : Type 0
-Observation = (Amount × Amount) × Disciplines
+Observation = (Result ℕ Refusal × Result ℕ Refusal) × Disciplines
 
 -- what is observed of a tree that is to be well formed by the drawing S: for a chip's tree S is the source
 abbrev pub observe : Topo → Tree → Observation
@@ -80,7 +76,7 @@ observed by vs = map (λ (v : Answer Packet × Tree). (v.0, by v.1)) vs
 -- What an observation says after i packets were accepted, o departed and f pushes were refused by 15: the packets held are those accepted less those
 -- that departed, and the refusals counted are the pushes refused by 15, up to the largest count.
 abbrev pub Tally : ℕ → ℕ → ℕ → Observation → Type 0
-Tally i o f v = (h : ℕ) × (h + o ≡ i) × (v.0 ≡ (Count h, Count (min f most)))
+Tally i o f v = (h : ℕ) × (h + o ≡ i) × (v.0 ≡ (Ok h, Ok (min f most)))
 
 abbrev pub Tallied : ℕ → ℕ → ℕ → List (Answer Packet × Observation) → Type 0
 Tallied i o f [] = Unit
@@ -92,7 +88,7 @@ Tallied i o f ((a, v) ∷ ls) =
 
 -- what is observed of a scheduler, in the form in which it is observed of a tree
 abbrev pub as_observation : (ℕ × ℕ) × Disciplines → Observation
-as_observation (n, d) = ((Count n.0, Count n.1), d)
+as_observation (n, d) = ((Ok n.0, Ok n.1), d)
 
 abbrev pub as_observations : List (Answer Packet × ((ℕ × ℕ) × Disciplines)) → List (Answer Packet × Observation)
 as_observations ls = map (λ (l : Answer Packet × ((ℕ × ℕ) × Disciplines)). (l.0, as_observation l.1)) ls
@@ -115,29 +111,28 @@ pub record Demand3 : Type 0 where
   -- of calls: the two trees are alike.
   pub alike : (source target m : List ℕ) (limit : ℕ) (rules : List Rule) → fault 32 source ≡ 0 → fault 64 target ≡ 0
       → Passes (tree source) (tree target) m → 1 ≤ limit → limit ≤ 256 → rule_fault (tree source) rules ≡ 0
-      → let x = (opened_tree source limit rules).tree in
-      let y = (opened_chip source target limit rules).tree in
+      → let x = opened_tree source limit rules in
+      let y = opened_tree target limit rules in
       (calls : List CodeRequest) (vs ws : History Tree) → Execution SourceCall x calls vs → Execution (ChipCall source m) y calls ws
       → Alike (tree source) (tree target) m limit rules calls x y vs ws
   -- Under the same conditions neither opening is refused.
   pub opens : (source target : List ℕ) (limit : ℕ) (rules : List Rule) → fault 32 source ≡ 0 → fault 64 target ≡ 0
       → 1 ≤ limit → limit ≤ 256 → rule_fault (tree source) rules ≡ 0
-      → ((opened_tree source limit rules).refusal ≡ 0) × ((opened_chip source target limit rules).refusal ≡ 0)
+      → (tree_fault source limit rules ≡ 0) × (chip_fault source target limit rules ≡ 0)
   -- Every list of calls has an execution from every tree on, and the search and the question for the least depth have an answer for all arguments.
   pub source_executes : (t : Tree) (calls : List CodeRequest) → (vs : History Tree) × Execution SourceCall t calls vs
   pub chip_executes : (source m : List ℕ) (t : Tree) (calls : List CodeRequest) → (ws : History Tree) × Execution (ChipCall source m) t calls ws
-  pub searches : (source target : List ℕ) → (r : Searched) × Searches source target r
-  pub depths : (source : List ℕ) (d : ℕ) → (a : Depth) × Answers source d a
+  pub searches : (source target : List ℕ) → (r : Result (List ℕ) Refusal) × Searches source target r
+  pub depths : (source : List ℕ) (d : ℕ) → (a : Result ℕ Refusal) × Answers source d a
   -- Whatever the search answers, it is 12 exactly when every list of numbers fails as the map of the pair. A list fails unless it gives one target
   -- node for each kept node and 255 for each passed one, and breaks none of the rules (`Passes`).
-  pub twelve : (source target : List ℕ) → fault 32 source ≡ 0 → fault 64 target ≡ 0 → (r : Searched) → Searches source target r
-      → (number_of r.outcome ≡ 12) ↔ ((l : List ℕ) → Passes (tree source) (tree target) l → ⊥)
+  pub twelve : (source target : List ℕ) → fault 32 source ≡ 0 → fault 64 target ≡ 0 → (r : Result (List ℕ) Refusal) → Searches source target r
+      → (number_of r ≡ 12) ↔ ((l : List ℕ) → Passes (tree source) (tree target) l → ⊥)
   -- So 12 means that the reduced drawing has no map.
-  pub twelve_reduced : (source target : List ℕ) → fault 32 source ≡ 0 → fault 64 target ≡ 0 → (r : Searched) → Searches source target r
-      → (number_of r.outcome ≡ 12) ↔ ((l : List ℕ) → Passes (reduced (tree source)) (tree target) l → ⊥)
-  -- If the search answers 0, the images that its map gives meet the rules, so that `alike` holds with them.
-  pub zero_passes : (source target : List ℕ) (r : Searched) → Searches source target r → number_of r.outcome ≡ 0
-      → Passes (tree source) (tree target) (images source r)
+  pub twelve_reduced : (source target : List ℕ) → fault 32 source ≡ 0 → fault 64 target ≡ 0 → (r : Result (List ℕ) Refusal) → Searches source target r
+      → (number_of r ≡ 12) ↔ ((l : List ℕ) → Passes (reduced (tree source)) (tree target) l → ⊥)
+  -- If the search answers a map, the images that it gives meet the rules, so that `alike` holds with them.
+  pub zero_passes : (source target m : List ℕ) → Searches source target (Ok m) → Passes (tree source) (tree target) (images source m)
   -- Every drawing has a map into its reduced drawing, which gives each kept node its number there. So `alike` holds of these two: a drawing and its
   -- reduced drawing answer every list of calls alike.
   pub loads_reduced : (source : List ℕ) → fault 32 source ≡ 0
@@ -145,7 +140,7 @@ pub record Demand3 : Type 0 where
       × Passes (tree source) (reduced (tree source)) (places_of (tree source))
   -- For a regular chip of the depth that `least_depth` answers (paper 02, 2.3), if it is within the limits, the search answers 0, so that `alike`
   -- holds with its map; and at each smaller depth it answers 12.
-  pub zero_regular : (source : List ℕ) (d k : ℕ) → Answers source d (Least k) → Within 64 (complete d k)
-      → (r : Searched) → Searches source (code (complete d k)) r → number_of r.outcome ≡ 0
-  pub twelve_regular : (source : List ℕ) (d k : ℕ) → Answers source d (Least k) → Within 64 (complete d k)
-      → (j : ℕ) → j < k → (r : Searched) → Searches source (code (complete d j)) r → number_of r.outcome ≡ 12
+  pub zero_regular : (source : List ℕ) (d k : ℕ) → Answers source d (Ok k) → Within 64 (complete d k)
+      → (r : Result (List ℕ) Refusal) → Searches source (code (complete d k)) r → number_of r ≡ 0
+  pub twelve_regular : (source : List ℕ) (d k : ℕ) → Answers source d (Ok k) → Within 64 (complete d k)
+      → (j : ℕ) → j < k → (r : Result (List ℕ) Refusal) → Searches source (code (complete d j)) r → number_of r ≡ 12

@@ -11,7 +11,7 @@ use Rattle.topology.proofs.Lookup.{valid_length}
 use Rattle.topology.proofs.PrefixFault.{prefix_whole}
 use Rattle.embedding_model.specs.Least.{search_fault}
 use Rattle.embedding_model.proofs.Search.{faultless}
-use Rattle.embedding_outcome.proofs.OutcomeNumber.{number-kept}
+use Rattle.embedding_least.proofs.NumberKept.{number-kept}
 use Rattle.queue_limit.specs.Limit.{limit_fault}
 use Rattle.pair_state.specs.Opening.{both_fault}
 

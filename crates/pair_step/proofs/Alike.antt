@@ -19,6 +19,7 @@ use Rattle.queue_state.specs.Opening.{open_fault, opened_state}
 use Rattle.queue_state.specs.Calls.{Serves}
 use Rattle.queue_state.specs.Demand.{Transition, History, Execution}
 use Rattle.queue_state.specs.declared.State.{State}
+use Rattle.std.specs.Prelude.{Ok}
 use Rattle.queue_state.proofs.OpenedState.{opens}
 use Rattle.queue_state.proofs.Execution.{AllFollow, serves_follows}
 use Rattle.pair_step.specs.InStep.{ServesCarried}
@@ -43,39 +44,37 @@ module _ (server : Server Packet) (step : Transition State (Call Packet)) (follo
       λ k. (answer k, seen k) ∷ others k
 
 -- the number by which the opening of a tree with no fault is refused
-open-number : (bytes : List ℕ) (limit : ℕ) → fault 64 bytes ≡ 0 → (opened_state bytes limit).refusal ≡ limit_fault limit
+open-number : (bytes : List ℕ) (limit : ℕ) → fault 64 bytes ≡ 0 → open_fault bytes limit ≡ limit_fault limit
 unfolding open_fault
-open-number bytes limit e = (opens bytes limit).refusal ∙ ap (λ (f : ℕ). or_else f (limit_fault limit)) e
+open-number bytes limit e = ap (λ (f : ℕ). or_else f (limit_fault limit)) e
 
 -- Both trees opened with one limit, for a map that meets the rules, and a list of calls on each.
 module _ (source target : List ℕ) (f : fault 32 source ≡ 0) (g : fault 64 target ≡ 0) (limit : ℕ) where
   -- only the limit can be a reason for refusal
-  pub both-numbers : ((opened_state source limit).refusal ≡ limit_fault limit) × ((opened_state target limit).refusal ≡ limit_fault limit)
+  pub both-numbers : (open_fault source limit ≡ limit_fault limit) × (open_fault target limit ≡ limit_fault limit)
   both-numbers = (open-number source limit (fault_wider 32 64 source (omega arith) f), open-number target limit g)
 
   pub both-alike : (m : List ℕ) → Passes (tree source) (tree target) m → limit_fault limit ≡ 0
-      → let x = (opened_state source limit).state in
-      let y = (opened_state target limit).state in
+      → let x = opened_state source limit in
+      let y = opened_state target limit in
       (calls : List (Call Packet)) (vs ws : History State) → Execution Serves x calls vs → Execution (ServesCarried (tree source) (tree target) m) y calls ws
       → ObservedAlike (tree source) (tree target) m limit calls x y vs ws
   both-alike m E fits calls vs ws v w =
       let S : Topo = tree source in
       let T : Topo = tree target in
-      let x = (opened_state source limit).state in
-      let y = (opened_state target limit).state in
-      let o = opens source limit in
-      let u = opens target limit in
-      let z = both-numbers.0 ∙ fits in
-      let n = both-numbers.1 ∙ fits in
+      let x = opened_state source limit in
+      let y = opened_state target limit in
+      let o = opens source limit (Ok x) (sym (both-numbers.0 ∙ fits)) refl in
+      let u = opens target limit (Ok y) (sym (both-numbers.1 ∙ fits)) refl in
       let both = machines_alike Packet S T m E limit calls in
       let drawn : observed_in vs ≡ observed_by serve (opened S limit) calls =
-      observed_follow serve Serves serves_follows calls x vs (o.formed z) v
-      ∙ ap (λ (q : Machine Packet). observed_by serve q calls) (o.machine z) in
+      observed_follow serve Serves serves_follows calls x vs (o.formed) v
+      ∙ ap (λ (q : Machine Packet). observed_by serve q calls) (o.machine) in
       let chip : observed_in ws ≡ observed_by (serve_carried S T m) (opened T limit) calls =
-      observed_follow (serve_carried S T m) (ServesCarried S T m) (carried_follows S T m) calls y ws (u.formed n) w
-      ∙ ap (λ (q : Machine Packet). observed_by (serve_carried S T m) q calls) (u.machine n) in
+      observed_follow (serve_carried S T m) (ServesCarried S T m) (carried_follows S T m) calls y ws (u.formed) w
+      ∙ ap (λ (q : Machine Packet). observed_by (serve_carried S T m) q calls) (u.machine) in
       record {
-        before = counts_machine x ∙ ap counts (o.machine z) ∙ both.before ∙ sym (counts_machine y ∙ ap counts (u.machine n));
+        before = counts_machine x ∙ ap counts (o.machine) ∙ both.before ∙ sym (counts_machine y ∙ ap counts (u.machine));
         every = drawn ∙ both.every ∙ sym chip;
         source = drawn;
         chip = chip;

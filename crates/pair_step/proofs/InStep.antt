@@ -1,6 +1,6 @@
 -- One call on each of two trees in step. The chip's state follows the chip's machine, which gets the carried paths (`carried_follows`). So by the
 -- simulation the two answer alike and stay in step (`next`). Two trees that are opened together are in step (`opened_in_step`).
-use mathlib.Core.Path.{◌≡◌, sym, ap, ◌∙◌}
+use mathlib.Core.Path.{◌≡◌, refl, sym, ap, ◌∙◌}
 use Prim.Native.Nat.{ℕ, zero, suc}
 use mathlib.Core.List.{List}
 use mathlib.Core.Bool.{true}
@@ -14,9 +14,10 @@ use Rattle.pair_model.specs.Carrying.{carry}
 use Rattle.pair_model.specs.Simulation.{push_carried, serve_carried}
 use Rattle.pair_model.proofs.MachinesAlike.{paired_opened, paired_next, answers_alike}
 use Rattle.queue_state.specs.State.{Packet, machine, well_formed}
-use Rattle.queue_state.specs.Opening.{opened_state}
+use Rattle.queue_state.specs.Opening.{open_fault, opened_state}
 use Rattle.queue_state.specs.Calls.{Serves}
 use Rattle.queue_state.specs.declared.State.{State}
+use Rattle.std.specs.Prelude.{Ok}
 use Rattle.queue_state.proofs.OpenedState.{opens}
 use Rattle.queue_state.proofs.Execution.{AllFollow, serves_follows}
 use Rattle.pair_step.specs.InStep.{PushesCarried, ServesCarried, InStep}
@@ -54,14 +55,14 @@ module _ (source target m : List ℕ) where
 
   -- two trees that are opened are in step for a map that meets the rules
   pub opened_in_step : fault 32 source ≡ 0 → fault 64 target ≡ 0 → Passes (tree source) (tree target) m → (limit : ℕ)
-      → (opened_state source limit).refusal ≡ 0 → (opened_state target limit).refusal ≡ 0
-      → InStep source target m (opened_state source limit).state (opened_state target limit).state
+      → open_fault source limit ≡ 0 → open_fault target limit ≡ 0
+      → InStep source target m (opened_state source limit) (opened_state target limit)
   opened_in_step f g E limit z n =
-      let o = opens source limit in
-      let u = opens target limit in
+      let o = opens source limit (Ok (opened_state source limit)) (sym z) refl in
+      let u = opens target limit (Ok (opened_state target limit)) (sym n) refl in
       record {
         mapped = (map_fault_none source target m).1 (f, g, E);
-        source_formed = o.formed z;
-        chip-formed = u.formed n;
-        paired = rw (o.machine z, u.machine n) (paired_opened (tree source) (tree target) m E limit);
+        source_formed = o.formed;
+        chip-formed = u.formed;
+        paired = rw (o.machine, u.machine) (paired_opened (tree source) (tree target) m E limit);
       }

@@ -6,34 +6,21 @@ mod soundness;
 ghost use Rattle.queue_check.specs.Tests.{Tests};
 
 use queue_state::{Entry, State};
-use topology::TARGET_NODES;
 
-// The test of a state: whether it is well formed; and if so, how many packets (`held`) and entries (`used`) it holds, and the head of each queue that
-// is not empty.
+// What the test of a well-formed state finds: how many packets (`held`) and entries (`used`) it holds, and the head of each queue.
 #[derive(Clone, Copy)]
 pub struct Test {
-    pub sound: bool,
     pub held: usize,
     pub used: usize,
-    pub heads: [Entry; 64],
+    pub heads: [Option<Entry>; 64],
 }
 
-// Tests a state, topology and limit included.
-pub fn examine(state: State) -> Test
+// Tests a state, topology and limit included; `None` if it is not well formed.
+pub fn examine(state: State) -> Option<Test>
     ensures { Tests state result }
 {
-    let frame = state.frame;
-    let nodes = frame.nodes;
-    let limit = frame.limit;
-    if TARGET_NODES < nodes {
-        return soundness::unsound();
-    }
-    let topology = frame.topology;
-    let bytes = &topology[..nodes];
-    if queue_state::refusal(bytes, limit) != 0 {
-        return soundness::unsound();
-    }
-    let lengths = state.lengths;
-    let entries = state.entries;
-    soundness::tally(bytes, lengths, entries, limit)
+    let frame = &state.frame;
+    let bytes = frame.topology.get(..frame.nodes)?;
+    queue_state::check_opening(bytes, frame.limit).ok()?;
+    soundness::tally(bytes, &state.lengths, &state.entries, frame.limit)
 }

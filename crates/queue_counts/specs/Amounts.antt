@@ -1,9 +1,9 @@
 -- The answer to a question for a count.
-use Rattle.std.specs.Prelude.{ℕ, Bool, true, false}
-use Rattle.queue_counts.specs.declared.Amount.{Amount}
-use Rattle.queue_counts.specs.declared.Amount.TheVariants.{Count, Refused}
+use Rattle.std.specs.Prelude.{ℕ, Bool, true, false, Result, Ok, Err}
+use Rattle.refusal.specs.declared.Refusal.{Refusal}
+use Rattle.refusal.specs.declared.Refusal.TheVariants as r
 
--- a count if the state is well formed, else 18
-abbrev pub amount : Bool → ℕ → Amount
-amount true n = Count n
-amount false n = Refused 18
+-- a count if the state is well formed, else the refusal 18
+abbrev pub amount : Bool → ℕ → Result ℕ Refusal
+amount true n = Ok n
+amount false n = Err r.State

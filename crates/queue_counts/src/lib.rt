@@ -2,51 +2,39 @@
 #![tactic(auto)]
 
 ghost use Rattle.std.specs.Prelude.{◌≡◌, cond};
+ghost use Rattle.refusal.specs.declared.Refusal.TheVariants as r;
 ghost use Rattle.pifo_model.specs.Tree.{held};
 ghost use Rattle.queue_state.specs.State.{well_formed, tree_of};
-ghost use Rattle.queue_state.specs.declared.Answer.TheVariants.{Refused};
 ghost use Rattle.queue_counts.specs.Amounts.{amount};
 
 use queue_check::examine;
-use queue_state::{Answer, State};
-
-// The answer to a question about a state: a count, or a refusal's number.
-#[derive(Clone, Copy)]
-pub enum Amount {
-    Count(u32),
-    Refused(u8),
-}
+use queue_state::State;
+use refusal::Refusal;
 
 // How many packets a tree holds.
-pub fn held(state: State) -> Amount
+pub fn held(state: State) -> Result<u32, Refusal>
     ensures { result ≡ amount (well_formed state) (held (tree_of state)) }
 {
-    let test = examine(state);
-    if test.sound {
-        Amount::Count(test.held as u32)
-    } else {
-        Amount::Refused(18)
-    }
+    let test = examine(state).ok_or(Refusal::State)?;
+    // The cast loses nothing, and a `try_from` would give a Result that is never an error.
+    Ok(test.held as u32)
 }
 
 // How many pushes a tree has refused because it was full.
-pub fn refusals(state: State) -> Amount
+pub fn refusals(state: State) -> Result<u32, Refusal>
     ensures { result ≡ amount (well_formed state) state.refused }
 {
-    let test = examine(state);
-    if !test.sound {
-        return Amount::Refused(18);
-    }
-    Amount::Count(state.refused)
+    examine(state).ok_or(Refusal::State)?;
+    Ok(state.refused)
 }
 
-// A refusal that is tested after 18: the given number, or 18 if the state is not well formed.
-pub fn refused(state: State, number: u8) -> Answer
-    ensures { result ≡ Refused (cond (well_formed state) number 18) }
+// A refusal that is tested after 18: the given one, or 18 if the state is not well formed.
+pub fn refused(state: State, refusal: Refusal) -> Refusal
+    ensures { result ≡ cond (well_formed state) refusal r.State }
 {
-    let test = examine(state);
-    if test.sound {
-        return Answer::Refused(number);
+    if examine(state).is_some() {
+        refusal
+    } else {
+        Refusal::State
     }
-    Answer::Refused(18)
 }

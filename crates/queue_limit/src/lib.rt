@@ -2,17 +2,18 @@
 #![tactic(auto)]
 
 ghost use Rattle.std.specs.Prelude.{◌≡◌};
+ghost use Rattle.refusal.specs.Numbers.{number_of};
 ghost use Rattle.queue_limit.specs.Limit.{limit_fault};
 
-// The number by which a packet limit is refused, or 0.
-pub fn limit_fault(limit: usize) -> u8
-    ensures { result ≡ limit_fault limit }
+use refusal::Refusal;
+
+// Tests a packet limit.
+pub fn check_limit(limit: usize) -> Result<(), Refusal>
+    ensures { number_of result ≡ limit_fault limit }
 {
-    if limit == 0 {
-        return 17;
+    if (1..=256).contains(&limit) {
+        Ok(())
+    } else {
+        Err(Refusal::Limit)
     }
-    if 256 < limit {
-        return 17;
-    }
-    0
 }

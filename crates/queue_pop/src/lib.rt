@@ -10,7 +10,8 @@ ghost use Rattle.queue_state.specs.Calls.{answer_of, Serves};
 ghost use Rattle.queue_pop.specs.Way.{way_of};
 
 use queue_check::examine;
-use queue_state::{Answer, Rank, Served, State, wide16};
+use queue_state::{Answer, Rank, Served, State};
+use refusal::Refusal;
 
 // What a pop takes at a node: the head of its queue. `child` is the child that the head names, 0 at a leaf.
 #[repr(C)]
@@ -21,7 +22,7 @@ pub struct Taken {
     pub rank: Rank,
 }
 
-// The way of a pop: its first `count` places, from the root down; the others are 0.
+// The way of a pop: its first `count` places, from the root down; the others are 0. C programs get it, so it is an array beside a count.
 #[repr(C)]
 #[derive(Clone, Copy)]
 pub struct Way {
@@ -37,62 +38,47 @@ pub struct Popped {
 
 // Pops the packet at the head: 18 and 16 are tested in this order.
 //
-// Each function that takes a state copies it. So the loops are in this function, and one copy is tested and then changed in place. Old values are
-// read from the argument, so that the compiler makes no second copy.
+// Each function that takes a state copies it. So the loop is in this function, and one copy is tested and then changed in place. The number of nodes
+// is read from the argument, so that the compiler makes no second copy.
 //
-// The loops close the gaps: of each queue the last entries, as many as its new length, move down to follow the entries before them.
+// The loop closes the gaps: of each queue the last entries, as many as its new length, move down to follow the entries before them.
 pub fn pop(state: State) -> Popped
     ensures { Serves state popping (answer_of result.served.answer) result.served.state × (result.way ≡ way_of state) }
 {
     let mut after = state;
-    let test = examine(after);
-    if !test.sound {
+    let Some(test) = examine(after) else {
         return Popped {
             served: Served {
                 state: after,
-                answer: Answer::Refused(18),
+                answer: Answer::Refused(Refusal::State),
             },
             way: departures::no_way(0),
         };
-    }
-    if test.held == 0 {
+    };
+    let Some(trail) = departures::pop_from(after.bytes(), &after.lengths, &test.heads, 0, 9) else {
         return Popped {
             served: Served {
                 state: after,
-                answer: Answer::Refused(16),
+                answer: Answer::Refused(Refusal::Empty),
             },
             way: departures::no_way(0),
         };
-    }
-    let frame = state.frame;
-    let topology = frame.topology;
-    let nodes = frame.nodes;
-    let bytes = &topology[..nodes];
-    let old = state.lengths;
-    let heads = test.heads;
-    let trail = departures::pop_from(bytes, old, heads, 0, 9);
-    let new = trail.lengths;
+    };
+    let lengths = trail.lengths;
     let mut kept = 0;
     let mut end = 0;
-    let mut node = 0;
-    while node < nodes {
-        end += wide16(old[node]);
-        let mut i = end - wide16(new[node]);
-        while i < end {
-            let entry = after.entries[i];
-            after.entries[kept] = entry;
-            kept += 1;
-            i += 1;
-        }
-        node += 1;
+    for node in 0..state.frame.nodes {
+        let length = usize::from(lengths[node]);
+        end += usize::from(after.lengths[node]);
+        after.entries.copy_within(end - length..end, kept);
+        kept += length;
     }
-    after.lengths = new;
-    let way = trail.way;
+    after.lengths = lengths;
     Popped {
         served: Served {
             state: after,
             answer: Answer::Departed(trail.packet),
         },
-        way,
+        way: trail.way,
     }
 }

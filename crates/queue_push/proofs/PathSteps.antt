@@ -5,7 +5,7 @@ use native.Mathlib.Omega.{arith}
 use mathlib.Core.List.{List, [], ◌∷◌, ◌++◌, map}
 use lib.ListN.{length, take, drop, get_or, set, replicate, length-append, length-take}
 use lib.Seq.{drop-cons, get_or-take}
-use borrow.Author.Tests.{lt-ltb, le-ltb}
+use borrow.Author.Tests.{lt-ltb}
 use Rattle.base.proofs.Map.{length-map, get_d_map}
 use Rattle.pifo_model.specs.Tree.{Step, step}
 use Rattle.queue_push.specs.Calls.{step_of, steps_of, code_step, no_step, path_of, Plain, with_step, extended_by}
@@ -52,13 +52,9 @@ path_step ss l s h =
 -- ---- one more step
 
 module _ (path : Path) (child rank : ℕ) where
-  pub extended-room : path.count < 9 → with_step path (step child rank) ≡ extended_by path child rank
+  extended-room : path.count < 9 → with_step path (step child rank) ≡ extended_by path child rank
   unfolding extended_by
   extended-room h = rw (lt-ltb path.count 9 h)
-
-  pub extended-full : 9 ≤ path.count → path ≡ extended_by path child rank
-  unfolding extended_by
-  extended-full h = rw (le-ltb path.count 9 h)
 
   -- for a path whose places past its last step are 0
   pub path_more : Plain path → path.count < 9 → extended_by path child rank ≡ path_of (steps_of path ++ (step child rank ∷ [])) path.leaf_rank

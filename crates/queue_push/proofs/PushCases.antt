@@ -1,28 +1,33 @@
 -- The answers to a push, case by case: what the code finds, and the machine's answer.
 use mathlib.Core.Path.{◌≡◌, refl, sym, ap, ◌∙◌, subst}
-use mathlib.Core.Logic.{◌≢◌}
-use Prim.Native.Nat.{ℕ, zero, suc, min}
+use Prim.Native.Nat.{ℕ, zero, suc, min, ◌<◌, ◌≤◌}
 use native.Mathlib.Omega.{arith}
 use mathlib.Core.List.{List}
 use mathlib.Core.Bool.{true}
-use lib.ListN.{length, take}
+use lib.ListN.{length}
 use lib.Seq.{length-take-le}
-use Rattle.topology.specs.Tree.{Topo}
-use Rattle.topology.specs.Reader.{tree}
+use Rattle.refusal.specs.declared.Refusal.{Refusal}
+use Rattle.refusal.specs.Numbers.{number}
+use Rattle.refusal.proofs.Numbers.{number-ne0}
+use Rattle.topology.specs.Reader.{fault, tree}
 use Rattle.topology.proofs.Lookup.{valid_size}
 use native.Mathlib.Nat.{zero-add}
+use native.Mathlib.Numerals.{add-one}
+use Rattle.std.specs.Prelude.{Some, Ok, Err, ◌+◌}
+use Rattle.queue_check.specs.Tests.{Tests}
+use Rattle.queue_check.specs.declared.Test.{Test}
 use mathlib.Core.Option.{Option}
 use Rattle.base.proofs.Tests.{clash}
 use Rattle.pifo_model.specs.Queue.{Entry, rises_from, insert_some}
 use Rattle.pifo_model.proofs.Local.{well_all}
 use Rattle.pifo_model.specs.Tree.{Step, path_fault, push, shape, held, well}
 use Rattle.pifo_model.specs.InnerNumbered.{pushed}
-use Rattle.pifo_model.specs.Machine.{Machine, pushing, Answer, accepted, refused, full, room, holding, most, counting as count}
+use Rattle.pifo_model.specs.Machine.{Machine, pushing, Answer, accepted, refused, full, holding, most, counting as count}
 use Rattle.pifo_model.proofs.Numbered.{shape_assemble, assemble_same, push_assemble}
 use Rattle.pifo_model.proofs.Push.{push_well, push-held}
-use Rattle.pifo_model.proofs.Answers.{has_room, push-fault, push-full, push-accepted}
-use Rattle.queue_state.specs.State.{Packet, start_of, queue_in, queues, bytes, tree_of, machine, in_bounds, well_formed}
-use Rattle.queue_push.specs.InnerArrivals.{Walked, Raised}
+use Rattle.pifo_model.proofs.Answers.{room_none, room_some, push-fault, push-full, push-accepted}
+use Rattle.queue_state.specs.State.{Packet, queue_in, queues, bytes, tree_of, machine, in_bounds, well_formed}
+use Rattle.queue_push.specs.InnerArrivals.{Walked}
 use Rattle.queue_state.specs.Calls.{Serves, counting}
 use Rattle.queue_state.specs.declared.State.{State}
 use Rattle.queue_push.specs.declared.arrivals.Added.{Added}
@@ -31,104 +36,128 @@ use Rattle.queue_state.proofs.WellFormed.{Formed, formed, form}
 use Rattle.queue_state.proofs.Arrays.{Arrays}
 use Rattle.queue_state.proofs.Serves.{apart, served, full_same}
 use Rattle.queue_push.proofs.RoomCases.{fits}
-use Rattle.queue_push.proofs.Insertion.{Ready, Entered, sum_front, raised-start}
-use Rattle.topology.proofs.Ancestry.{size_pos}
+use Rattle.queue_push.proofs.Insertion.{Ready, Entered}
 use Rattle.queue_state.specs.InnerQueues.{with_queues}
 
-shape_of : (s : State) → shape (tree_of s) ≡ tree (bytes s)
-unfolding tree_of
-shape_of s = shape_assemble (tree (bytes s)) (queues s) 0
+module _ (s : State) (test : Test) (x : Tests s (Some test)) (b : List ℕ) (is : b ≡ bytes s) where
+  sound : well_formed s ≡ true
+  sound = sym x.sound
 
-module _ (s : State) (t : well_formed s ≡ true) (ss : List Step) (l p : ℕ) where
-  -- the path has a fault
-  pub fault-served : (n : ℕ) → n ≢ 0 → n ≡ path_fault (tree (bytes s)) ss → Serves s (pushing ss l p) (refused n) s
-  unfolding machine
-  fault-served zero z e = absurd (z refl)
-  fault-served (suc n) z e = served s s (pushing ss l p) (refused (suc n)) (machine s) (push-fault (machine s) ss l p n (sym e)) t refl t (λ _ _. refl) (λ _ _ q. apart q)
+  pub valid : fault 64 b ≡ 0
+  valid = rw is (formed s sound).valid
 
-  -- no room
-  pub full-served : 0 ≡ path_fault (tree (bytes s)) ss → (n : ℕ) → n ≢ 0 → n ≡ room s.frame.limit (held (tree_of s)) → (c : ℕ) → c ≡ min (suc s.refused) most
-      → Serves s (pushing ss l p) (full n c) (counting s c)
-  unfolding machine well_formed in_bounds tree_of bytes queues
-  full-served e zero z h c q = absurd (z refl)
-  full-served e (suc n) z h c q =
-      let most_of = min (suc s.refused) most in
-      subst (λ (x : ℕ). Serves s (pushing ss l p) (full (suc n) x) (counting s x)) (sym q)
-      (served s (counting s most_of) (pushing ss l p) (full (suc n) most_of) (count (machine s) most_of) (push-full (machine s) ss l p n (sym e) (sym h)) t refl t
-      (λ _ x. apart (sym x)) (λ _ _ y. ap (counting s) (full_same y)))
+  pub limit_low : s.frame.limit ≤ 256
+  limit_low = (formed s sound).most
 
-  -- accepted
-  module _ (ar : Arrays s) (e : 0 ≡ path_fault (tree (bytes s)) ss) (h : 0 ≡ room s.frame.limit (held (tree_of s)))
-      (a : Added) (w : Walked (tree (bytes s)) (length (bytes s)) ss l p a) (z : a.fault ≡ 0) where
-    pub ready : (used : ℕ) → used ≡ start_of s.lengths s.frame.nodes → Ready s.frame.nodes used s.lengths a.pending a.count a.entries s.entries
-    unfolding bytes tree_of queues
-    ready used u =
-        let f = formed s t in
-        let n : length (take s.frame.nodes s.frame.topology) ≡ s.frame.nodes = length-take-le s.frame.nodes s.frame.topology (omega (arith, ar.topology, f.nodes)) in
-        let v = valid_size 64 (take s.frame.nodes s.frame.topology) f.valid in
-        record {
-          marks = w.marks;
-          places = w.places;
-          count = w.count z;
-          ones = w.ones;
-          own = λ m g. w.own m (omega arith);
-          some = omega (arith, size_pos (tree (take s.frame.nodes s.frame.topology)));
-          few = f.nodes;
-          used = u;
-          room = omega (arith, fits s ar f, has_room s.frame.limit (held (tree_of s)) (sym h), w.few z, f.most);
-          rises = λ m g.
-              subst (λ (k : ℕ). rises_from 0 (queue_in s.lengths s.entries k) ≡ true) (zero-add m)
-              (well_all (tree (take s.frame.nodes s.frame.topology)) (queue_in s.lengths s.entries) 0 f.tree m (omega arith)).rises;
-        }
+  module _ (ss : List Step) (l p : ℕ) where
+    -- the path has a fault
+    pub fault_served : (r : Refusal) → Walked (tree b) (length b) ss l p (Err r) → Serves s (pushing ss l p) (refused (number r)) s
+    unfolding machine
+    fault_served r w = by_number (number r) refl
+      where
+        by_number : (n : ℕ) → number r ≡ n → Serves s (pushing ss l p) (refused (number r)) s
+        by_number zero z = absurd (number-ne0 r z)
+        by_number (suc n) z =
+            let e : path_fault (tree (bytes s)) ss ≡ suc n = rw (← is) (sym w.fault ∙ z) in
+            rw z
+            (served s s (pushing ss l p) (refused (suc n)) (machine s) (push-fault (machine s) ss l p n e) sound refl sound
+            (λ _ _. refl) (λ _ _ q. apart q))
 
-    module _ (ls : List ℕ) (es : List CodeEntry) (r : Raised s.frame.nodes s.lengths a.pending ls) (o : Entered s.frame.nodes s.lengths a.pending a.entries s.entries es) where
-      abbrev next : State
-      next = with_queues s ls es
+    module _ (a : Added) (w : Walked (tree b) (length b) ss l p (Ok a)) where
+      faultless : path_fault (tree (bytes s)) ss ≡ 0
+      faultless = rw (← is) (sym w.fault)
 
-      tree_after : tree_of next ≡ push (tree_of s) ss l p
-      unfolding tree_of bytes queues
-      tree_after =
-          let f = formed s t in
-          let d = tree (take s.frame.nodes s.frame.topology) in
-          let q = queue_in s.lengths s.entries in
-          let n : length (take s.frame.nodes s.frame.topology) ≡ s.frame.nodes = length-take-le s.frame.nodes s.frame.topology (omega (arith, ar.topology, f.nodes)) in
-          assemble_same d (queue_in ls es) (pushed d 0 ss l p q) 0
-          (λ m g u.
-          o.queues ls r m (omega (arith, valid_size 64 (take s.frame.nodes s.frame.topology) f.valid))
-          ∙ ap (λ (x : Option (Entry Packet)). insert_some x (q m)) (w.added z m))
-          ∙ sym (push_assemble d q 0 ss l p (sym e))
+      -- no room
+      pub full_served : s.frame.limit ≤ test.held → (c : ℕ) → c ≡ min (s.refused + 1) most → Serves s (pushing ss l p) (full 15 c) (counting s c)
+      unfolding machine well_formed in_bounds tree_of bytes queues
+      full_served h c q =
+          let m = min (suc s.refused) most in
+          let no_room = room_none s.frame.limit (held (tree_of s)) (omega (arith, x.count)) in
+          rw (q, add-one)
+          (served s (counting s m) (pushing ss l p) (full 15 m) (count (machine s) m) (push-full (machine s) ss l p 14 faultless no_room)
+          sound refl sound
+          (λ _ x. apart (sym x)) (λ _ _ y. ap (counting s) (full_same y)))
 
-      sound : path_fault (shape (tree_of s)) ss ≡ 0
-      sound = ap (λ (d : Topo). path_fault d ss) (shape_of s) ∙ sym e
+      -- accepted
+      module _ (ar : Arrays s) (h : test.held < s.frame.limit) where
+        pub ready : Ready s.frame.nodes test.used a.count s.lengths a.entries s.entries
+        unfolding bytes tree_of queues
+        ready =
+            let f = formed s sound in
+            let d = tree (bytes s) in
+            let n : length (bytes s) ≡ s.frame.nodes = length-take-le s.frame.nodes s.frame.topology (omega (arith, ar.topology, f.nodes)) in
+            let v = valid_size 64 (bytes s) f.valid in
+            record {
+              places = w.added.places;
+              tall = ar.lengths;
+              long = ar.entries;
+              all = w.added.count;
+              own = λ m g. w.added.own m (omega (arith, ap length is));
+              few = f.nodes;
+              used = x.used;
+              room = omega (arith, fits s ar f, w.added.few, f.most, x.count);
+              rises = λ m g.
+                  subst (λ (k : ℕ). rises_from 0 (queue_in s.lengths s.entries k) ≡ true) (zero-add m)
+                  (well_all d (queue_in s.lengths s.entries) 0 f.tree m (omega arith)).rises;
+            }
 
-      pub accepted-served : (k : ℕ) → k ≡ suc (held (tree_of s)) → Serves s (pushing ss l p) (accepted k) next
-      unfolding machine bytes
-      accepted-served k n =
-          let pushed_tree = push (tree_of s) ss l p in
-          served s next (pushing ss l p) (accepted k) (holding (machine s) pushed_tree)
-          (push-accepted (machine s) ss l p (sym e) (sym h)
-          ∙ ap {B = Answer Packet × Machine Packet} (λ (x : ℕ). (accepted x, holding (machine s) pushed_tree)) (push-held (tree_of s) ss l p sound ∙ sym n))
-          t
-          (ap (holding (machine s)) tree_after)
-          (form next (next_formed (formed s t)))
-          (λ _ x. never x)
-          (λ _ _ x. never_full x)
-        where
-          never : {k n : ℕ} {A : Type 0} → ◌≡◌ {A = Answer Packet} (accepted k) (refused n) → A
-          never x = absurd (clash (cc))
+        module _ (ls : List ℕ) (es : List CodeEntry) (o : Entered s.frame.nodes s.lengths a.entries s.entries ls es) where
+          abbrev next : State
+          next = with_queues s ls es
 
-          never_full : {k n c : ℕ} {A : Type 0} → ◌≡◌ {A = Answer Packet} (accepted k) (full n c) → A
-          never_full x = absurd (clash (cc))
+          tree_after : tree_of next ≡ push (tree_of s) ss l p
+          unfolding tree_of bytes queues
+          tree_after =
+              let f = formed s sound in
+              let d = tree (bytes s) in
+              let q = queue_in s.lengths s.entries in
+              let n : length (bytes s) ≡ s.frame.nodes = length-take-le s.frame.nodes s.frame.topology (omega (arith, ar.topology, f.nodes)) in
+              assemble_same d (queue_in ls es) (pushed d 0 ss l p q) 0
+              (λ m g u.
+              o.queues m (omega (arith, valid_size 64 (bytes s) f.valid))
+              ∙ ap (λ (x : Option (Entry Packet)). insert_some x (q m)) (rw is at (w.added.entries m)))
+              ∙ sym (push_assemble d q 0 ss l p faultless)
 
-          next_formed : Formed s → Formed next
-          next_formed f =
-              let y = ready (start_of s.lengths s.frame.nodes) refl in
-              record {
-                nodes = f.nodes;
-                used = omega (arith, y.room, raised-start s.frame.nodes s.lengths a.pending ls r s.frame.nodes (omega arith), sum_front a.pending s.frame.nodes y.own, y.count);
-                valid = f.valid;
-                least = f.least;
-                most = f.most;
-                tree = ap well tree_after ∙ push_well (tree_of s) ss l p sound f.tree;
-                room = omega (arith, ap held tree_after, push-held (tree_of s) ss l p sound, has_room s.frame.limit (held (tree_of s)) (sym h));
-              }
+          no_fault : path_fault (shape (tree_of s)) ss ≡ 0
+          unfolding tree_of
+          no_fault = rw (shape_assemble (tree (bytes s)) (queues s) 0) faultless
+
+          entered_served : Serves s (pushing ss l p) (accepted (test.held + 1)) next
+          unfolding machine bytes
+          entered_served =
+              let pushed_tree = push (tree_of s) ss l p in
+              let k : held pushed_tree ≡ test.held + 1 = omega (arith, push-held (tree_of s) ss l p no_fault, x.count) in
+              served s next (pushing ss l p) (accepted (test.held + 1)) (holding (machine s) pushed_tree)
+              (push-accepted (machine s) ss l p faultless (room_some s.frame.limit (held (tree_of s)) (omega (arith, x.count)))
+              ∙ ap {B = Answer Packet × Machine Packet} (λ (x : ℕ). (accepted x, holding (machine s) pushed_tree)) k)
+              sound
+              (ap (holding (machine s)) tree_after)
+              (form next next_formed)
+              (λ _ x. never x)
+              (λ _ _ x. never_full x)
+            where
+              never : {k n : ℕ} {A : Type 0} → ◌≡◌ {A = Answer Packet} (accepted k) (refused n) → A
+              never x = absurd (clash (cc))
+
+              never_full : {k n c : ℕ} {A : Type 0} → ◌≡◌ {A = Answer Packet} (accepted k) (full n c) → A
+              never_full x = absurd (clash (cc))
+
+              next_formed : Formed next
+              next_formed =
+                  let f = formed s sound in
+                  record {
+                    nodes = f.nodes;
+                    used = o.fits;
+                    valid = f.valid;
+                    least = f.least;
+                    most = f.most;
+                    tree = ap well tree_after ∙ push_well (tree_of s) ss l p no_fault f.tree;
+                    room = omega (arith, ap held tree_after, push-held (tree_of s) ss l p no_fault, x.count);
+                  }
+
+        pub accepted_served : (r : State) → r.frame ≡ s.frame → r.refused ≡ s.refused
+            → Entered s.frame.nodes s.lengths a.entries s.entries r.lengths r.entries
+            → Serves s (pushing ss l p) (accepted (test.held + 1)) r
+        accepted_served r f n o =
+            let same : r ≡ with_queues s r.lengths r.entries = λ i. record { frame = f i; lengths = r.lengths; entries = r.entries; refused = n i } in
+            subst (Serves s (pushing ss l p) (accepted (test.held + 1))) (sym same) (entered_served r.lengths r.entries o)

@@ -39,7 +39,8 @@ used_total : (s : State) → Arrays s → Formed s → start_of s.lengths s.fram
 unfolding tree_of queues bytes
 used_total s a f =
     let n : s.frame.nodes ≡ size (tree (take s.frame.nodes s.frame.topology)) =
-    sym (length-take-le s.frame.nodes s.frame.topology (omega (arith, a.topology, f.nodes))) ∙ sym (valid_size 64 (take s.frame.nodes s.frame.topology) f.valid) in
+    sym (length-take-le s.frame.nodes s.frame.topology (omega (arith, a.topology, f.nodes)))
+    ∙ sym (valid_size 64 (take s.frame.nodes s.frame.topology) f.valid) in
     sym (start-sum s.lengths s.entries s.frame.nodes (omega (arith, a.entries, f.used)))
     ∙ ap (λ (k : ℕ). sum_from 0 k (λ m. length (queue_in s.lengths s.entries m))) n
     ∙ sym (total_assemble (tree (take s.frame.nodes s.frame.topology)) (queue_in s.lengths s.entries) 0)

@@ -1,5 +1,6 @@
 -- The proof of demand 2. From an opening on, an execution follows the machine, to which the laws about lists of calls apply (`run`, `drained` in the
 -- crate `pifo_model`). The numbers of the refusals and the counts in the answers follow from the machine's answer to one call.
+use Rattle.std.specs.Prelude.{Ok}
 use mathlib.Core.Path.{◌≡◌, refl, sym, ap, ◌∙◌, subst}
 use Prim.Native.Nat.{ℕ}
 use native.Mathlib.Omega.{arith}
@@ -49,33 +50,31 @@ tells s call (full n c) r f =
     sym (ap (λ (q : Machine Packet). q.refusals) (f.machine ∙ u.1))
 
 each-sound : (calls : List (Call Packet)) (s : State) (vs : History State) → well_formed s ≡ true → Execution Serves s calls vs → EachSound vs
-each-sound [] s [] t run = tt
-each-sound [] s (v ∷ vs) t run = absurd run
-each-sound (c ∷ cs) s [] t run = absurd run
+each-sound [] s [] t _ = tt
+each-sound [] s (v ∷ vs) t e = absurd e
+each-sound (c ∷ cs) s [] t e = absurd e
 each-sound (c ∷ cs) s ((a, r) ∷ vs) t (call, rest) =
     let f = serves_follows s c a r t call in
     (f.formed, tells s c a r f, each-sound cs r vs f.formed rest)
 
 -- ---- from an opening on
 
-conserves : (bytes : List ℕ) (limit : ℕ) → open_fault bytes limit ≡ 0 → let s = (opened_state bytes limit).state in
+conserves : (bytes : List ℕ) (limit : ℕ) → open_fault bytes limit ≡ 0 → let s = opened_state bytes limit in
     (calls : List (Call Packet)) (vs : History State) → Execution Serves s calls vs → Conserves s calls vs
 unfolding machine
 conserves bytes limit e calls vs v =
-    let s = (opened_state bytes limit).state in
-    let o = opens bytes limit in
-    let z = o.refusal ∙ e in
-    let t = o.formed z in
+    let s = opened_state bytes limit in
+    let o = opens bytes limit (Ok s) (sym e) refl in
     let start : Machine Packet = opened (tree bytes) limit in
     let given : answers_in vs ≡ answers start calls =
-    answers_follow serve Serves serves_follows calls s vs t v ∙ ap (λ (q : Machine Packet). answers q calls) (o.machine z) in
+    answers_follow serve Serves serves_follows calls s vs o.formed v ∙ ap (λ (q : Machine Packet). answers q calls) o.machine in
     let last : machine (last_state s vs) ≡ after start calls =
-    (last_follows serve Serves serves_follows calls s vs t v).1 ∙ ap (λ (q : Machine Packet). after q calls) (o.machine z) in
+    (last_follows serve Serves serves_follows calls s vs o.formed v).1 ∙ ap (λ (q : Machine Packet). after q calls) o.machine in
     let r : Run (tree bytes) limit calls (answers_in vs) (machine (last_state s vs)) = rw (given, last) (run (tree bytes) limit calls) in
     let number : fulls (answers_in vs) ≡ times 15 (map number_of (answers_in vs)) = rw given (fulls_15 start calls) in
     record {
-      opened = t;
-      each = each-sound calls s vs t v;
+      opened = o.formed;
+      each = each-sound calls s vs o.formed v;
       never_18 = rw given (none_18 start calls);
       contents = r.contents;
       number = r.number;

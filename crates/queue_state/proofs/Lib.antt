@@ -4,7 +4,6 @@ pub mod OpenedState
 pub mod Serves
 pub mod Stretch
 pub mod SameMachine
-pub mod InPlace
 pub mod Execution
 pub mod Listed
 pub mod Realized

@@ -8,7 +8,7 @@ use mathlib.Core.List.{List, [], ◌∷◌, ◌++◌, map}
 use mathlib.Core.Bool.{true}
 use lib.ListN.{length, get_or, replicate, length-append, get_or-append}
 use lib.Seq.{take-append_seam}
-use Rattle.base.proofs.Map.{length-map, get_d_map}
+use Rattle.std.proofs.lemmas.List.{length-map, get_or-map, map-append}
 use Rattle.topology.specs.Tree.{Topo, size, height}
 use Rattle.topology.specs.Reader.{fault, tree}
 use Rattle.topology.proofs.Reader.{within}
@@ -24,7 +24,7 @@ use Rattle.queue_state.specs.declared.Item.TheVariants.{Child, Packet as PacketI
 use Rattle.queue_state.specs.declared.Entry.{Entry as CodeEntry}
 use Rattle.queue_state.specs.declared.State.{State}
 use Rattle.queue_state.proofs.WellFormed.{form}
-use Rattle.queue_state.proofs.Stretch.{map-append, joined, start-joined, cut}
+use Rattle.queue_state.proofs.Stretch.{joined, start-joined, cut}
 use Rattle.queue_state.proofs.Listed.{queues_of, queues_size, assemble_listed}
 use Rattle.pifo_model.specs.Assembled.{Queues, assemble}
 
@@ -122,9 +122,9 @@ module _ (bs : List ℕ) (m : Machine Packet) (f : Fits bs m) where
   unfolding state_for
   same_lengths n h =
       let l = lengths_of m.tree in
-      let e = length-map (λ (q : List (Entry Packet)). length q) (queues_of m.tree) in
+      let e = length-map (queues_of m.tree) (λ (q : List (Entry Packet)). length q) in
       get_or-append l (replicate (64 - length l) 0) 0 n (omega (arith, queues_size m.tree))
-      ∙ get_d_map (λ (q : List (Entry Packet)). length q) (queues_of m.tree) n [] 0 (omega (arith, queues_size m.tree))
+      ∙ get_or-map (λ (q : List (Entry Packet)). length q) (queues_of m.tree) n [] 0 (omega (arith, queues_size m.tree))
 
   abbrev back : List (Entry Packet)
   back = map entry_of (replicate (2304 - length (entries_of m.tree)) no_entry)

@@ -2,14 +2,13 @@
 use mathlib.Core.Path.{◌≡◌, refl, sym, ap, ◌∙◌}
 use Prim.Native.Nat.{ℕ}
 use mathlib.Core.Bool.{true, false, false≢true}
-use Rattle.base.proofs.Tests.{clash}
 use Rattle.pifo_model.specs.Machine.{Machine, Call, Answer, refused, full, serve}
 use Rattle.queue_state.specs.State.{Packet, machine, well_formed}
 use Rattle.queue_state.specs.Calls.{Serves, counting}
 use Rattle.queue_state.specs.declared.State.{State}
 
 pub apart : {A : Type 0} {a b c : ℕ} → ◌≡◌ {A = Answer Packet} (refused a) (full b c) → A
-apart e = absurd (clash (cc))
+apart e = absurd (cc)
 
 pub full_same : {m n a b : ℕ} → ◌≡◌ {A = Answer Packet} (full m a) (full n b) → a ≡ b
 full_same e = cc

@@ -1,17 +1,16 @@
--- Queues one after the other: where each begins, how a stretch of entries grows, and how queues are joined and cut.
+-- Queues one after the other: where each begins, how long it is, and how queues are joined and cut.
 use mathlib.Core.Path.{◌≡◌, refl, sym, ap, ◌∙◌}
 use Prim.Native.Nat.{ℕ, zero, suc, ◌+◌, ◌-◌, ◌≤◌, ◌<◌}
 use native.Mathlib.Nat.{add-zero, zero-add}
 use native.Mathlib.Omega.{arith}
-use mathlib.Core.List.{List, [], ◌∷◌, ◌++◌, map, append_assoc, append-nil}
+use mathlib.Core.List.{List, [], ◌++◌, map, append_assoc, append-nil}
 use lib.ListN.{length, take, drop, get_or, length-append, length-drop}
-use lib.Seq.{slice, slice_empty, slice-cons, take-suc, take_at, drop_at, drop-append-le, length-take-le}
-use Rattle.base.proofs.Map.{length-map}
+use lib.Seq.{slice, take_at, drop_at, length-take-le}
+use Rattle.std.proofs.lemmas.List.{length-map, map-append, drop-map, take-map}
 use Rattle.base.proofs.Slice.{take-slice}
 use Rattle.base.proofs.Sum.{sum-take}
 use Rattle.pifo_model.specs.Queue.{Entry}
 use Rattle.queue_state.specs.State.{Packet, entry_of, start_of, queue_in}
-use Rattle.queue_state.specs.Entries.{no_entry}
 use Rattle.queue_state.specs.declared.Entry.{Entry as CodeEntry}
 use Rattle.pifo_model.specs.Assembled.{Queues}
 
@@ -20,7 +19,7 @@ use Rattle.pifo_model.specs.Assembled.{Queues}
 pub start_next : (ls : List ℕ) (n : ℕ) → start_of ls (suc n) ≡ start_of ls n + get_or ls n 0
 start_next ls n = sum-take ls n
 
-pub start_later : (ls : List ℕ) (n k : ℕ) → start_of ls n ≤ start_of ls (n + k)
+start_later : (ls : List ℕ) (n k : ℕ) → start_of ls n ≤ start_of ls (n + k)
 start_later ls n zero = omega (arith, ap (start_of ls) (add-zero n))
 start_later ls n (suc k) =
     let e : n + suc k ≡ suc (n + k) = omega arith in
@@ -33,54 +32,18 @@ start_order ls m n h =
 
 -- ---- stretches
 
-module _ {ℓ} {A : Type ℓ} where
-  pub slice_snoc : (a b : ℕ) (l : List A) (d : A) → a ≤ b → b < length l → slice a (suc b) l ≡ slice a b l ++ (get_or l b d ∷ [])
-  slice_snoc a b l d h g =
-      ap (drop a) (take-suc l b d g) ∙ drop-append-le a (take b l) (get_or l b d ∷ []) (omega (arith, length-take-le b l (omega arith)))
+-- the entries from place a to place b
+abbrev pub stretch : List CodeEntry → ℕ → ℕ → List (Entry Packet)
+stretch es a b = map entry_of (slice a b es)
 
-  pub slice-join : (a b c : ℕ) (l : List A) → a ≤ b → b ≤ c → b ≤ length l → slice a c l ≡ slice a b l ++ slice b c l
-  slice-join a b c l h g f =
-      ap (drop a) (take-slice b c l g) ∙ drop-append-le a (take b l) (slice b c l) (omega (arith, length-take-le b l f))
-
-pub length-stretch : (a b : ℕ) (es : List CodeEntry) → b ≤ length es → length (map entry_of (slice a b es)) ≡ b - a
-length-stretch a b es h = length-map entry_of (slice a b es) ∙ length-drop a (take b es) ∙ ap (λ (k : ℕ). k - a) (length-take-le b es h)
+length-stretch : (a b : ℕ) (es : List CodeEntry) → b ≤ length es → length (stretch es a b) ≡ b - a
+length-stretch a b es h = length-map (slice a b es) entry_of ∙ length-drop a (take b es) ∙ ap (λ (k : ℕ). k - a) (length-take-le b es h)
 
 pub queue_length : (ls : List ℕ) (es : List CodeEntry) (n : ℕ) → start_of ls (suc n) ≤ length es → length (queue_in ls es n) ≡ get_or ls n 0
 queue_length ls es n h = omega (arith, length-stretch (start_of ls n) (start_of ls (suc n)) es h, start_next ls n)
 
--- ---- maps
-
-module _ {ℓ κ} {A : Type ℓ} {B : Type κ} (f : A → B) where
-  pub map-append : (l m : List A) → map f (l ++ m) ≡ map f l ++ map f m
-  map-append [] m = refl
-  map-append (x ∷ l) m = ap (λ (r : List B). f x ∷ r) (map-append l m)
-
-  pub map-take : (n : ℕ) (l : List A) → map f (take n l) ≡ take n (map f l)
-  map-take zero l = refl
-  map-take (suc n) [] = refl
-  map-take (suc n) (x ∷ l) = ap (λ (r : List B). f x ∷ r) (map-take n l)
-
-  pub map-drop : (n : ℕ) (l : List A) → map f (drop n l) ≡ drop n (map f l)
-  map-drop zero l = refl
-  map-drop (suc n) [] = refl
-  map-drop (suc n) (x ∷ l) = map-drop n l
-
--- ---- the entries from place a to place b
-
-abbrev pub stretch : List CodeEntry → ℕ → ℕ → List (Entry Packet)
-stretch es a b = map entry_of (slice a b es)
-
-pub stretch_none : (es : List CodeEntry) (a : ℕ) → stretch es a a ≡ []
-stretch_none es a = ap (map entry_of) (slice_empty a es)
-
-pub stretch_first : (es : List CodeEntry) (a b : ℕ) → a < b → b ≤ length es → stretch es a b ≡ entry_of (get_or es a no_entry) ∷ stretch es (suc a) b
-stretch_first es a b h g = ap (map entry_of) (slice-cons a b es no_entry h g)
-
-pub stretch_last : (es : List CodeEntry) (a b : ℕ) → a ≤ b → b < length es → stretch es a (suc b) ≡ stretch es a b ++ (entry_of (get_or es b no_entry) ∷ [])
-stretch_last es a b h g = ap (map entry_of) (slice_snoc a b es no_entry h g) ∙ map-append entry_of (slice a b es) (get_or es b no_entry ∷ [])
-
-pub stretch-join : (es : List CodeEntry) (a b c : ℕ) → a ≤ b → b ≤ c → b ≤ length es → stretch es a c ≡ stretch es a b ++ stretch es b c
-stretch-join es a b c h g f = ap (map entry_of) (slice-join a b c es h g f) ∙ map-append entry_of (slice a b es) (slice b c es)
+pub map-drop : {A B : Type 0} (f : A → B) (n : ℕ) (l : List A) → map f (drop n l) ≡ drop n (map f l)
+map-drop f n l = sym (drop-map f n l)
 
 -- ---- queues joined, k of them from node n on
 
@@ -88,26 +51,22 @@ abbrev pub joined : Queues Packet → ℕ → ℕ → List (Entry Packet)
 joined q n zero = []
 joined q n (suc k) = q n ++ joined q (suc n) k
 
-pub joined-add : (q : Queues Packet) (n k l : ℕ) → joined q n (k + l) ≡ joined q n k ++ joined q (n + k) l
-joined-add q n zero l = ap (joined q n) (zero-add l) ∙ ap (λ (m : ℕ). joined q m l) (sym (add-zero n))
+joined-add : (q : Queues Packet) (n k l : ℕ) → joined q n (k + l) ≡ joined q n k ++ joined q (n + k) l
+joined-add q n zero l = rw (zero-add l, add-zero n) refl
 joined-add q n (suc k) l =
     let a : suc k + l ≡ suc (k + l) = omega arith in
-    let b : suc n + k ≡ n + suc k = omega arith in
-    ap (joined q n) a
-    ∙ ap (λ (r : List (Entry Packet)). q n ++ r) (joined-add q (suc n) k l ∙ ap (λ (m : ℕ). joined q (suc n) k ++ joined q m l) b)
-    ∙ sym (append_assoc (q n) (joined q (suc n) k) (joined q (n + suc k) l))
+    let b : n + suc k ≡ suc n + k = omega arith in
+    rw (a, b, joined-add q (suc n) k l) (sym (append_assoc (q n) (joined q (suc n) k) (joined q (suc n + k) l)))
 
 pub joined_last : (q : Queues Packet) (k : ℕ) → joined q 0 (suc k) ≡ joined q 0 k ++ q k
 joined_last q k =
     let e : suc k ≡ k + 1 = omega arith in
-    ap (joined q 0) e ∙ joined-add q 0 k 1
-    ∙ ap (λ (m : ℕ). joined q 0 k ++ (q m ++ [])) (zero-add k) ∙ ap (λ (r : List (Entry Packet)). joined q 0 k ++ r) (append-nil (q k))
+    ap (joined q 0) e ∙ joined-add q 0 k 1 ∙ rw (zero-add k, append-nil (q k)) refl
 
 pub joined_same : (q r : Queues Packet) (n k : ℕ) → ((m : ℕ) → n ≤ m → m < n + k → q m ≡ r m) → joined q n k ≡ joined r n k
 joined_same q r n zero e = refl
 joined_same q r n (suc k) e =
-    ap (λ (l : List (Entry Packet)). l ++ joined q (suc n) k) (e n (omega arith) (omega arith))
-    ∙ ap (λ (l : List (Entry Packet)). r n ++ l) (joined_same q r (suc n) k (λ m h g. e m (omega arith) (omega arith)))
+    rw (e n (omega arith) (omega arith), joined_same q r (suc n) k (λ m h g. e m (omega arith) (omega arith))) refl
 
 -- the queues of the first k nodes, joined, are the first entries
 pub joined_front : (ls : List ℕ) (es : List CodeEntry) (k : ℕ) → start_of ls k ≤ length es
@@ -116,8 +75,7 @@ joined_front ls es zero h = refl
 joined_front ls es (suc k) h =
     let o = start_order ls k (suc k) (omega arith) in
     joined_last (queue_in ls es) k
-    ∙ ap (λ (r : List (Entry Packet)). r ++ queue_in ls es k) (joined_front ls es k (omega arith))
-    ∙ sym (map-append entry_of (take (start_of ls k) es) (slice (start_of ls k) (start_of ls (suc k)) es))
+    ∙ rw (joined_front ls es k (omega arith)) (sym (map-append entry_of (take (start_of ls k) es) (slice (start_of ls k) (start_of ls (suc k)) es)))
     ∙ ap (map entry_of) (sym (take-slice (start_of ls k) (start_of ls (suc k)) es o))
 
 -- If the entries are given queues joined, and the lengths are theirs, the queues of the entries are the given ones.
@@ -137,7 +95,7 @@ module _ (ls : List ℕ) (es : List CodeEntry) (q : Queues Packet) (k : ℕ) (ba
       is ∙ ap (λ (n : ℕ). joined q 0 n ++ back) e
       ∙ ap (λ (r : List (Entry Packet)). r ++ back) (joined-add q 0 (suc m) (k - suc m))
       ∙ append_assoc (joined q 0 (suc m)) (joined q (0 + suc m) (k - suc m)) back in
-      map-drop entry_of (start_of ls m) (take (start_of ls (suc m)) es)
-      ∙ ap (drop (start_of ls m)) (map-take entry_of (start_of ls (suc m)) es ∙ ap (take (start_of ls (suc m))) front
+      sym (drop-map entry_of (start_of ls m) (take (start_of ls (suc m)) es))
+      ∙ ap (drop (start_of ls m)) (sym (take-map entry_of (start_of ls (suc m)) es) ∙ ap (take (start_of ls (suc m))) front
       ∙ take_at (joined q 0 (suc m)) more (start_of ls (suc m)) (start-joined (suc m) h) ∙ joined_last q m)
       ∙ drop_at (joined q 0 m) (q m) (start_of ls m) (start-joined m (omega arith))

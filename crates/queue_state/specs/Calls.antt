@@ -1,5 +1,6 @@
 -- What a call promises: for every state and argument the answer, and the state after it.
 use Rattle.std.specs.Prelude.{◌≡◌, ℕ, true, false}
+use Rattle.refusal.specs.Numbers.{number}
 use Rattle.pifo_model.specs.Machine.{Call, Answer, accepted, departed, refused, full, serve}
 use Rattle.queue_state.specs.State.{Packet, machine, well_formed}
 use Rattle.queue_state.specs.declared.Answer.{Answer as CodeAnswer}
@@ -10,8 +11,8 @@ use Rattle.queue_state.specs.declared.State.{State}
 abbrev pub answer_of : CodeAnswer → Answer Packet
 answer_of (Accepted h) = accepted h
 answer_of (Departed p) = departed p
-answer_of (Refused n) = refused n
-answer_of (Full n c) = full n c
+answer_of (Refused r) = refused (number r)
+answer_of (Full r c) = full (number r) c
 
 -- the state with another count of refusals
 abbrev pub counting : State → ℕ → State

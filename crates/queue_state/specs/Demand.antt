@@ -74,7 +74,7 @@ pub record Drains (s : State) (vs : History State) : Type 0 where
 -- Demand 2, over lists of calls, for a queue tree of up to 64 nodes.
 pub record Demand2 : Type 0 where
   -- from every opening that is not refused, over every list of calls
-  pub conserves : (bytes : List ℕ) (limit : ℕ) → open_fault bytes limit ≡ 0 → let s = (opened_state bytes limit).state in
+  pub conserves : (bytes : List ℕ) (limit : ℕ) → open_fault bytes limit ≡ 0 → let s = opened_state bytes limit in
       (calls : List (Call Packet)) (vs : History State) → Execution Serves s calls vs → Conserves s calls vs
   -- from every well-formed state, with as many pops as it holds packets
   pub drains : (s : State) → well_formed s ≡ true → (vs : History State)

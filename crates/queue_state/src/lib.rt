@@ -2,15 +2,16 @@
 // (18), `queue_counts` its counts; `queue_push` and `queue_pop` have push and pop.
 //
 // The queues are stored one after another in one array, in the order of their nodes and each from its head on; a second array has their lengths.
-// There are at most 2304 entries: 256 packets, each with entries at up to 9 nodes.
+// There are at most 2304 entries: 256 packets, each with entries at up to 9 nodes. With a vector for each queue a state would be seven times as large.
 #![tactic(auto)]
 
-mod opening;
+ghost use Rattle.std.specs.Prelude.{◌≡◌, ◌≤◌, length, IfOk};
+ghost use Rattle.refusal.specs.Numbers.{number_of};
+ghost use Rattle.queue_state.specs.State.{bytes};
+ghost use Rattle.queue_state.specs.Opening.{open_fault, opened_state, no_tree};
 
-ghost use Rattle.std.specs.Prelude.{◌≡◌, ◌<◌};
-ghost use Rattle.queue_state.specs.Opening.{open_fault, opened_state};
-
-use topology::{Reading, TARGET_NODES};
+use refusal::Refusal;
+use topology::TARGET_NODES;
 
 pub type Rank = u64;
 
@@ -47,21 +48,24 @@ pub struct State {
     pub refused: u32,
 }
 
-// The answer to an opening: the empty tree and 0; or a state of zeros, on which every call is refused by 18, and the refusal's number.
-#[derive(Clone, Copy)]
-pub struct Opened {
-    pub state: State,
-    pub refusal: u8,
+impl State {
+    // The bytes of the topology.
+    #[tactic(auto, unfolding(crate::specs::State::bytes))]
+    pub fn bytes(&self) -> &[u8]
+        ensures { result.now ≡ bytes self.now }
+    {
+        &self.frame.topology[..self.frame.nodes.min(TARGET_NODES)]
+    }
 }
 
-// The answer to a call: the number of packets held after a push; the packet that departs; a refusal's number; or, for a push without room, the
-// refusal's number and the new count of refusals.
+// The answer to a call: the number of packets held after a push; the packet that departs; a refusal; or, for a push without room, the refusal
+// and the new count of refusals.
 #[derive(Clone, Copy)]
 pub enum Answer {
     Accepted(u32),
     Departed(Packet),
-    Refused(u8),
-    Full(u8, u32),
+    Refused(Refusal),
+    Full(Refusal, u32),
 }
 
 // The state after a call, and the answer to it.
@@ -71,37 +75,51 @@ pub struct Served {
     pub answer: Answer,
 }
 
-// The number by which an opening is refused, or 0.
-pub fn refusal(bytes: &[u8], limit: usize) -> u8
-    ensures { result ≡ open_fault bytes.now limit }
+// Tests an opening: 1 to 5 are tested, then 17.
+#[tactic(auto, using(refusal::proofs::Numbers::refused_first, refusal::proofs::Numbers::accepted_first), unfolding(crate::specs::Opening::open_fault))]
+pub fn check_opening(bytes: &[u8], limit: usize) -> Result<(), Refusal>
+    ensures { number_of result ≡ open_fault bytes.now limit }
 {
-    match topology::read(bytes, TARGET_NODES) {
-        Reading::Tree => queue_limit::limit_fault(limit),
-        Reading::Refused(number) => number,
-    }
+    topology::read(bytes, TARGET_NODES)?;
+    queue_limit::check_limit(limit)
 }
 
-// Opens an empty tree with a packet limit: 1 to 5 are tested, then 17.
-pub fn open(bytes: &[u8], limit: usize) -> Opened
+// The state with no entries.
+fn empty(bytes: &[u8], limit: usize) -> State
+    requires { length bytes.now ≤ 64 }
     ensures { result ≡ opened_state bytes.now limit }
 {
-    let number = refusal(bytes, limit);
-    if number != 0 {
-        return Opened {
-            state: opening::empty([0u8; 64], 0, 0),
-            refusal: number,
-        };
-    }
-    let topology = opening::copied(bytes);
-    Opened {
-        state: opening::empty(topology, bytes.len(), limit),
-        refusal: 0,
+    let mut topology = [0u8; 64];
+    topology[..bytes.len()].copy_from_slice(bytes);
+    State {
+        frame: Frame {
+            topology,
+            nodes: bytes.len(),
+            limit,
+        },
+        lengths: [0u16; 64],
+        entries: [Entry {
+            rank: 0,
+            item: Item::Child(0),
+        }; 2304],
+        refused: 0,
     }
 }
 
-// A length as an index.
-pub fn wide16(length: u16) -> usize
-    ensures { (result ≡ length) × (result < 65536) }
+// Opens an empty tree with a packet limit.
+#[tactic(auto, using(crate::proofs::OpenedState::short))]
+pub fn open(bytes: &[u8], limit: usize) -> Result<State, Refusal>
+    ensures refusal { number_of result ≡ open_fault bytes.now limit }
+    ensures state { IfOk result (λ s. s ≡ opened_state bytes.now limit) }
 {
-    length as usize
+    check_opening(bytes, limit)?;
+    Ok(empty(bytes, limit))
+}
+
+// What C gets in place of a state if an opening is refused: zeros, on which every call is refused by 18.
+#[tactic(auto, unfolding(crate::specs::Opening::no_tree, crate::specs::Opening::opened_state))]
+pub fn no_tree() -> State
+    ensures { result ≡ no_tree }
+{
+    empty(&[], 0)
 }

@@ -1,21 +1,18 @@
 -- For every drawing and every number of children there is an answer, and only one.
-use mathlib.Core.Path.{◌≡◌, refl, sym, ap, ◌∙◌}
-use Prim.Native.Nat.{ℕ, zero, suc, ◌≤◌}
-use native.Mathlib.Omega.{arith}
-use mathlib.Core.List.{List}
-use mathlib.Core.Bool.{Bool, true, false, ◌&&◌, cond}
-use lib.Dec.{leb}
+use Rattle.std.proofs.Common.{◌≡◌, ℕ, zero, suc, ◌≤◌, List, Bool, true, false, ◌&&◌, leb, cond, Result, Ok, Err}
+use Rattle.std.proofs.Common.{refl, sym, ap, ◌∙◌, arith}
 use borrow.Author.Tests.{leb-true}
-use Rattle.base.proofs.Refusals.{or_else_none}
+use Rattle.base.proofs.Refusals.{or_else_none, or_else_most, cond_most}
 use Rattle.base.proofs.Tests.{and_parts}
+use Rattle.refusal.specs.declared.Refusal.{Refusal}
+use Rattle.refusal.proofs.Numbers.{number-ne0, number-injective, numbered}
 use Rattle.topology.specs.Reader.{fault, tree}
+use Rattle.topology.proofs.FaultMost.{fault_most}
 use Rattle.regular_model.specs.Depth.{depth_fault}
 use Rattle.regular_model.specs.InnerNeed.{need}
 use Rattle.regular_model.proofs.Depth.{depth_once}
 use Rattle.regular_model.proofs.ReducedNeed.{depth_needed}
 use Rattle.regular_depth.specs.Answers.{Answers}
-use Rattle.regular_depth.specs.declared.Depth.{Depth}
-use Rattle.regular_depth.specs.declared.Depth.TheVariants.{Least, Refused}
 
 module _ (source : List ℕ) (d : ℕ) where
   -- without a refusal the bytes are the code of a tree, and d is 2 or more
@@ -31,15 +28,21 @@ module _ (source : List ℕ) (d : ℕ) where
       by_test true q e = leb-true 2 d (and_parts (leb 2 d) (leb d 8) q).0
       by_test false q e = absurd (omega arith)
 
-  pub answers_some : (a : Depth) × Answers source d a
-  answers_some = by_fault (depth_fault source d) refl
-    where
-      by_fault : (f : ℕ) → depth_fault source d ≡ f → (a : Depth) × Answers source d a
-      by_fault zero e = (Least (need d (tree source)), (e, depth_needed d (wide e) (tree source)))
-      by_fault (suc f) e = (Refused (suc f), (e, λ q. omega arith))
+  depth_fault_most : depth_fault source d ≤ 27
+  unfolding depth_fault
+  depth_fault_most =
+      or_else_most 27 (fault 32 source) (cond (leb 2 d && leb d 8) 0 27) (omega (arith, fault_most 32 source))
+      (cond_most 27 (leb 2 d && leb d 8) 0 27 (omega arith) (omega arith))
 
-  pub answers_once : (a b : Depth) → Answers source d a → Answers source d b → a ≡ b
-  answers_once (Least j) (Least k) u v = ap Least (depth_once (tree source) d j k u.1 v.1)
-  answers_once (Least j) (Refused n) u v = absurd (v.1 (sym v.0 ∙ u.0))
-  answers_once (Refused n) (Least k) u v = absurd (u.1 (sym u.0 ∙ v.0))
-  answers_once (Refused n) (Refused m) u v = ap Refused (sym u.0 ∙ v.0)
+  pub answers_some : (a : Result ℕ Refusal) × Answers source d a
+  answers_some = by_fault (depth_fault source d) refl depth_fault_most
+    where
+      by_fault : (f : ℕ) → depth_fault source d ≡ f → f ≤ 27 → (a : Result ℕ Refusal) × Answers source d a
+      by_fault zero e most = (Ok (need d (tree source)), (sym e, depth_needed d (wide e) (tree source)))
+      by_fault (suc f) e most = let n = numbered f most in (Err n.0, (n.1 ∙ sym e, tt))
+
+  pub answers_once : (a b : Result ℕ Refusal) → Answers source d a → Answers source d b → a ≡ b
+  answers_once (Ok j) (Ok k) u v = ap Ok (depth_once (tree source) d j k u.1 v.1)
+  answers_once (Ok j) (Err e) u v = absurd (number-ne0 e (v.0 ∙ sym u.0))
+  answers_once (Err e) (Ok k) u v = absurd (number-ne0 e (u.0 ∙ sym v.0))
+  answers_once (Err e) (Err f) u v = ap Err (number-injective e f (u.0 ∙ sym v.0))

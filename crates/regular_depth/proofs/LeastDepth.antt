@@ -1,17 +1,11 @@
 -- The answers of `least_depth`, one law for each.
-use mathlib.Core.Path.{◌≡◌, sym, ap, ◌∙◌}
-use mathlib.Core.Logic.{◌≢◌}
-use Prim.Native.Nat.{ℕ, ◌^◌, ◌≤◌, ◌<◌}
-use native.Mathlib.Omega.{arith}
-use mathlib.Core.List.{List}
-use mathlib.Core.Bool.{◌&&◌, cond}
-use lib.Dec.{leb}
-use borrow.Author.Tests.{le-leb, lt-leb}
-use Rattle.base.proofs.Refusals.{or_else_first}
-use Rattle.topology.specs.Reader.{fault, tree, reading}
-use Rattle.topology.specs.declared.Reading.{Reading}
-use Rattle.topology.specs.declared.Reading.TheVariants.{Tree, Refused}
-use Rattle.topology.proofs.Cases.{read-tree, read-refused}
+use Rattle.std.proofs.Common.{◌≡◌, ℕ, ◌^◌, ◌≤◌, List, false, true, ◌&&◌, leb, cond, refl, sym, arith}
+use borrow.Author.Tests.{leb-true}
+use Rattle.base.proofs.Tests.{and_parts}
+use Rattle.refusal.specs.Numbers.{number}
+use Rattle.refusal.specs.declared.Refusal.{Refusal}
+use Rattle.refusal.proofs.Numbers.{refused_first}
+use Rattle.topology.specs.Reader.{fault, tree}
 use Rattle.topology.proofs.Reader.{within}
 use Rattle.regular_model.specs.Depth.{LeastDepth, depth_fault}
 use Rattle.regular_model.specs.InnerNeed.{enough, need, most_leaves}
@@ -19,31 +13,30 @@ use Rattle.regular_model.proofs.Enough.{enough-power}
 use Rattle.regular_model.proofs.Bounds.{need_most}
 use Rattle.regular_model.proofs.ReducedNeed.{depth_needed}
 
-module _ (source : List ℕ) (d : ℕ) (r : Reading) (e : r ≡ reading (fault 32 source)) where
-  pub not_drawn : (number : ℕ) → r ≡ Refused number → (depth_fault source d ≡ number) × (number ≢ 0)
+module _ (source : List ℕ) (d : ℕ) where
+  pub not_drawn : (e : Refusal) → number e ≡ fault 32 source → number e ≡ depth_fault source d
   unfolding depth_fault
-  not_drawn number t =
-      let q = read-refused (fault 32 source) r e number t in
-      (sym (q.0 ∙ or_else_first (fault 32 source) (cond (leb 2 d && leb d 8) 0 27) q.1), λ z. q.1 (sym q.0 ∙ z))
+  not_drawn e h = refused_first e (fault 32 source) (cond (leb 2 d && leb d 8) 0 27) h
 
-  module _ (t : r ≡ Tree) where
-    drawn_well : fault 32 source ≡ 0
-    drawn_well = read-tree (fault 32 source) r e t
-
-    pub too_few : d < 2 → depth_fault source d ≡ 27
+  module _ (drawn : 0 ≡ fault 32 source) where
+    pub not_2_to_8 : leb 2 d && leb d 8 ≡ false → 27 ≡ depth_fault source d
     unfolding depth_fault
-    too_few h = rw (drawn_well, lt-leb 2 d h)
+    not_2_to_8 e = rw (← drawn, e)
 
-    pub too_many : 8 < d → depth_fault source d ≡ 27
-    unfolding depth_fault
-    too_many h = rw (drawn_well, le-leb 2 d (omega arith), lt-leb d 8 h)
+    module _ (degree : leb 2 d && leb d 8 ≡ true) where
+      abbrev bounds : (leb 2 d ≡ true) × (leb d 8 ≡ true)
+      bounds = and_parts (leb 2 d) (leb d 8) degree
 
-    module _ (z : 2 ≤ d) (most : d ≤ 8) (number : ℕ) (is : number ≡ d ^ need d (tree source)) where
-      pub number_most : number ≤ most_leaves
-      number_most = omega (arith, is, need_most d z most (tree source) (within 32 source drawn_well))
+      module _ (number : ℕ) (is : number ≡ d ^ need d (tree source)) where
+        pub needed_most : (2 ≤ d) × (d ≤ 8) × (number ≤ most_leaves)
+        needed_most =
+            let z = leb-true 2 d bounds.0 in
+            let most = leb-true d 8 bounds.1 in
+            let w = within 32 source (sym drawn) in
+            (z, most, omega (arith, is, need_most d z most (tree source) w))
 
-      pub answered : (k : ℕ) → k ≡ enough d number → (depth_fault source d ≡ 0) × LeastDepth (tree source) d k
-      unfolding depth_fault
-      answered k g =
-          let q : k ≡ need d (tree source) = g ∙ ap (enough d) is ∙ enough-power d z (need d (tree source)) in
-          (rw (drawn_well, le-leb 2 d z, le-leb d 8 most), rw q (depth_needed d z (tree source)))
+        pub answered : (0 ≡ depth_fault source d) × LeastDepth (tree source) d (enough d number)
+        unfolding depth_fault
+        answered =
+            let z = leb-true 2 d bounds.0 in
+            (rw (← drawn, degree) refl, rw (is, enough-power d z (need d (tree source))) (depth_needed d z (tree source)))

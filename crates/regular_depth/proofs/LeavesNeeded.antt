@@ -1,14 +1,15 @@
--- The stack of `leaves_needed`. The definition `tree` takes the bytes from the last to the first, and gives each node the first trees behind it as its
--- children; the loop does the same with the numbers that the trees need. For the bytes of a tree there are always as many trees as a byte requires
--- (`Ready`), by induction over the tree.
-use mathlib.Core.Path.{◌≡◌, refl, sym, ap, ◌∙◌}
-use Prim.Native.Nat.{ℕ, zero, suc, ◌+◌, ◌-◌, ◌^◌, ◌≤◌, ◌<◌}
-use native.Mathlib.Nat.{add-zero, mul-le-mul_right}
-use native.Mathlib.Omega.{arith}
-use mathlib.Core.List.{List, [], ◌∷◌, ◌++◌, append_assoc, append-nil}
-use lib.ListN.{length, take, drop, get_or, set, length-append, length-drop, length-set}
-use lib.Seq.{drop-length, drop-cons, get_or-drop, drop-drop, take_at}
-use Rattle.base.proofs.Set.{drop-set}
+-- The stack of `leaves_needed`. The definition `tree` takes the bytes from the last to the first, and gives each node the first trees behind it as
+-- its children; the loop does the same with the numbers that the trees need. For the bytes of a tree there are always as many trees as a byte
+-- requires (`Ready`), by induction over the tree.
+use Rattle.std.proofs.Common.{◌≡◌, ℕ, zero, suc, ◌+◌, ◌-◌, ◌^◌, ◌≤◌, ◌<◌, List, [], ◌∷◌, ◌++◌, length, take, drop, get_or, refl, sym, ap, ◌∙◌}
+use Rattle.std.proofs.Common.{append_assoc, arith, length-append, length-take, length-drop, take-append-drop, drop-cons}
+use Rattle.std.proofs.Math.Nat.{mul-le-mul_right}
+use Rattle.std.proofs.Math.Seq.{drop-length}
+use Rattle.std.proofs.lemmas.List.{append-nil, reverse-append, length-reverse, take_at, drop_at}
+use Rattle.std.proofs.lemmas.List.Sorted.{sum_by-IsPermutation, IsPermutation-reverse}
+use Rattle.std.proofs.lemmas.List.Recursion.{is_sum_by}
+use Rattle.std.specs.List.{sum as std_sum}
+use mathlib.Core.List.{reverse}
 use Rattle.base.specs.Sum.{sum}
 use Rattle.topology.specs.Tree.{Topo, Forest, node, fnil, fcons, count, code, codes, size, sizes, height, heights}
 use Rattle.topology.specs.Reader.{fault, first, others, forest, tree}
@@ -78,83 +79,73 @@ ready_drop d zero bs r = r
 ready_drop d (suc n) [] r = tt
 ready_drop d (suc n) (b ∷ bs) r = ready_drop d n bs r.2
 
--- l[from..to]
-abbrev part : List ℕ → ℕ → ℕ → List ℕ
-part l from to = take (to - from) (drop from l)
+-- The numbers xs of some trees on a stack, the first tree's last. The b last of the stack are the first b trees', and below them are the others'.
+module _ (xs : List ℕ) (b : ℕ) (few : b ≤ length xs) where
+  parts : reverse xs ≡ reverse (drop b xs) ++ reverse (take b xs)
+  parts = rw (← reverse-append (take b xs) (drop b xs), take-append-drop)
 
--- The loop's invariant: leaves[top..] has the terms of the trees that the bytes from i on draw. There are at most as many trees as bytes read, so a
--- place is left for each byte still to be read.
-pub record Stacked (d : ℕ) (bytes leaves : List ℕ) (top i : ℕ) : Type 0 where
-  pub places : length leaves ≡ 32
-  pub read : i ≤ length bytes
-  pub left : i ≤ top
-  pub fits : top ≤ 32
-  pub stack : drop top leaves ≡ terms d (forest (drop i bytes))
+  length_others : length (reverse (drop b xs)) ≡ length (reverse xs) - b
+  length_others = rw (length-reverse (drop b xs), length-reverse xs, length-drop)
 
-module _ (d : ℕ) (bytes : List ℕ) (given : (fault 32 bytes ≡ 0) × (2 ≤ d) × (d ≤ 8)) where
-  length_most : length bytes ≤ 32
-  length_most = omega (arith, (within 32 bytes given.0).nodes, length_code (tree bytes), ap length (drawn 32 bytes given.0))
+  take_others : take (length (reverse xs) - b) (reverse xs) ≡ reverse (drop b xs)
+  take_others = ap (take (length (reverse xs) - b)) parts ∙ take_at (reverse (drop b xs)) (reverse (take b xs)) _ length_others
 
-  pub stacked_none : (leaves : List ℕ) → length leaves ≡ 32 → Stacked d bytes leaves 32 (length bytes)
-  stacked_none leaves n = record {
-    places = n;
-    read = omega arith;
-    left = length_most;
-    fits = omega arith;
-    stack = rw (← n, drop-length leaves, drop-length bytes);
+  drop_others : drop (length (reverse xs) - b) (reverse xs) ≡ reverse (take b xs)
+  drop_others = ap (drop (length (reverse xs) - b)) parts ∙ drop_at (reverse (drop b xs)) (reverse (take b xs)) _ length_others
+
+  sum_last : std_sum (drop (length (reverse xs) - b) (reverse xs)) ≡ sum (take b xs)
+  sum_last =
+      ap std_sum drop_others ∙ sum_by-IsPermutation (λ x. x) (take b xs) (reverse (take b xs)) (IsPermutation-reverse (take b xs))
+      ∙ sym (is_sum_by sum (λ x. x) refl (λ _ _. refl) (take b xs))
+
+-- The loop's invariant: the stack has the terms of the trees that the bytes from i on draw. There are at most as many trees as bytes read, so there
+-- is room for each byte still to be read.
+pub record Stacked (d : ℕ) (bytes stack : List ℕ) (i : ℕ) : Type 0 where
+  pub room : length stack + i ≤ 32
+  pub trees : stack ≡ reverse (terms d (forest (drop i bytes)))
+
+module _ {d : ℕ} {bytes : List ℕ} (given : (fault 32 bytes ≡ 0) × (2 ≤ d) × (d ≤ 8)) where
+  pub stacked_none : Stacked d bytes [] (length bytes)
+  stacked_none = record {
+    room = omega (arith, (within 32 bytes given.0).nodes, length_code (tree bytes), ap length (drawn 32 bytes given.0));
+    trees = rw (drop-length bytes);
   }
 
-  -- One iteration: byte j is read, the last before i.
-  module _ (leaves : List ℕ) (top i j : ℕ) (q : i ≡ suc j) (s : Stacked d bytes leaves top i) where
-    abbrev b : ℕ
-    b = get_or bytes j 0
+  -- One iteration: the byte before i is read, which has b children. The stack keeps `others` numbers.
+  module _ {stack : List ℕ} {i b : ℕ} (s : Stacked d bytes stack i) (more : 0 < i) (read : i ≤ length bytes) (byte : b ≡ get_or bytes (i - 1) 0)
+      (others : ℕ) (o : others ≡ length stack - b) where
+    bytes_from : drop (i - 1) bytes ≡ b ∷ drop i bytes
+    bytes_from =
+        let e : suc (i - 1) ≡ i = omega arith in
+        drop-cons bytes (i - 1) 0 (omega arith) ∙ rw (byte, e)
 
-    bytes_from : drop j bytes ≡ b ∷ drop i bytes
-    bytes_from = rw q (drop-cons bytes j 0 (omega (arith, s.read)))
+    abbrev xs : List ℕ
+    xs = terms d (forest (drop i bytes))
 
     ready : Ready d (b ∷ drop i bytes)
-    ready = rw bytes_from at (ready_drop d j bytes (ready_bytes d given.1 given.2 bytes given.0))
+    ready = rw bytes_from at (ready_drop d (i - 1) bytes (ready_bytes d given.1 given.2 bytes given.0))
 
-    pub children_there : top + b ≤ 32
-    children_there = omega (arith, ready.0, ap length s.stack, length-drop top leaves, s.places, s.fits)
+    children_sum : std_sum (drop others stack) ≡ sum (take b xs)
+    children_sum = rw (o, s.trees) (sum_last xs b ready.0)
 
-    children : part leaves top (top + b) ≡ take b (terms d (forest (drop i bytes)))
-    children =
-        let n : top + b - top ≡ b = omega arith in
-        rw (n, s.stack)
+    pub children_most : (b ≤ length stack) × (std_sum (drop others stack) ≤ most_leaves)
+    children_most = (omega (arith, ready.0, ap length s.trees, length-reverse xs), omega (arith, children_sum, ready.1))
 
-    pub children_sum : sum (part leaves top (top + b)) ≤ most_leaves
-    children_sum = rw children ready.1
+    node_read : terms d (forest (drop (i - 1) bytes)) ≡ d ^ enough d (sum (take b xs)) ∷ drop b xs
+    node_read = rw (bytes_from, terms_first, terms-others)
 
-    behind : drop (top + b) leaves ≡ drop b (terms d (forest (drop i bytes)))
-    behind = sym (drop-drop b top leaves) ∙ ap (drop b) s.stack
-
-    node_read : terms d (forest (drop j bytes)) ≡ d ^ enough d (sum (part leaves top (top + b))) ∷ drop (top + b) leaves
-    node_read = rw (bytes_from, children, behind, terms_first, terms-others)
-
-    pub stacked_next : (together v : ℕ) → together ≡ sum (part leaves top (top + b)) → v ≡ d ^ enough d together
-        → Stacked d bytes (set leaves (top + b - 1) v) (top + b - 1) j
-    stacked_next together v g h =
-        let t : suc (top + b - 1) ≡ top + b = omega (arith, s.left) in
-        let l : top + b - 1 < length leaves = omega (arith, children_there, s.places) in
-        record {
-          places = length-set leaves (top + b - 1) v ∙ s.places;
-          read = omega (arith, s.read);
-          left = omega (arith, s.left);
-          fits = omega (arith, children_there);
-          stack = drop-set leaves (top + b - 1) v l ∙ rw (t, h, g) (sym node_read);
-        }
+    pub stacked_next : Stacked d bytes (take others stack ++ d ^ enough d (std_sum (drop others stack)) ∷ []) (i - 1)
+    stacked_next = record {
+      room = omega (arith, s.room, length-append (take others stack) (d ^ enough d (std_sum (drop others stack)) ∷ []), length-take others stack);
+      trees =
+          rw (children_sum, o, s.trees, take_others xs b ready.0)
+          (sym (reverse-append (d ^ enough d (sum (take b xs)) ∷ []) (drop b xs)) ∙ ap reverse (sym node_read));
+    }
 
   -- The first byte is read: one tree is drawn.
-  module _ (leaves : List ℕ) (top i : ℕ) (q : i ≡ 0) (s : Stacked d bytes leaves top i) where
+  module _ {stack : List ℕ} {i : ℕ} (s : Stacked d bytes stack i) (none : i ≡ 0) where
     whole : forest bytes ≡ fcons (tree bytes) fnil
     whole = ap forest (sym (append-nil (code (tree bytes)) ∙ drawn 32 bytes given.0)) ∙ forest_code (tree bytes) []
 
-    one : drop top leaves ≡ d ^ need d (tree bytes) ∷ []
-    one = s.stack ∙ rw q (ap (terms d) whole)
-
-    pub root_there : top < 32
-    root_there = omega (arith, ap length one, length-drop top leaves, s.places)
-
-    pub stacked_end : get_or leaves top 0 ≡ d ^ need d (tree bytes)
-    stacked_end = ap (λ (n : ℕ). get_or leaves n 0) (sym (add-zero top)) ∙ sym (get_or-drop top leaves 0 0) ∙ ap (λ (l : List ℕ). get_or l 0 0) one
+    pub stacked_end : stack ≡ d ^ need d (tree bytes) ∷ []
+    stacked_end = s.trees ∙ rw none (ap (λ (ts : Forest). reverse (terms d ts)) whole)

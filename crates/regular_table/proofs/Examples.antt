@@ -36,4 +36,10 @@ pub printed : Printed
 unfolding gathered reads read_at next_at command_by sized operand fault tree enough loadable chip_line filled decimal decimal_last no_line
 printed =
     let source = tree (3 ∷ 0 ∷ 0 ∷ 0 ∷ []) in
-    record { three-leaves = (λ d. need d source, (λ d a b. depth_needed d a source), refl); too_short = refl; popped = refl; largest = refl; too_large = refl }
+    record {
+      three-leaves = (λ d. need d source, (λ d a b. depth_needed d a source), refl);
+      too_short = refl;
+      popped = refl;
+      largest = refl;
+      too_large = refl;
+    }

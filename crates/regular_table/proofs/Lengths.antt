@@ -12,6 +12,7 @@ use lib.Dec.{eqb}
 use Rattle.text.specs.Text.{decimal_last, decimal}
 use Rattle.text_templates.specs.Template.{filled}
 use Rattle.text_templates.proofs.Lengths.{AtMost, filled_most}
+use Rattle.refusal.specs.Numbers.{number}
 use Rattle.topology.specs.Tree.{size}
 use Rattle.topology.specs.Reader.{fault, tree}
 use Rattle.topology.proofs.Reader.{within}
@@ -83,4 +84,4 @@ table_fits script text h p = by_ending (gathered script).ending (ends_inside scr
       where
         by_test : (b : Bool) → TextBy (cond b (Compile at) (Refused n at)) script source text → length text ≤ 595
         by_test true t = table-length source at text (omega (arith, i.1, h)) (fault 32 source) refl t
-        by_test false t = omega (arith, ap length t, no_length n at (omega (arith, i.0)) (omega (arith, i.1, h)))
+        by_test false t = omega (arith, ap length t, no_length (number n) at (omega (arith, i.0)) (omega (arith, i.1, h)))

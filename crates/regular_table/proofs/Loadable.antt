@@ -14,10 +14,10 @@ use Rattle.topology.proofs.Reader.{accepts, within}
 use Rattle.topology.proofs.Decoding.{tree_code}
 use Rattle.text_templates.specs.Template.{filled}
 use Rattle.embedding_model.specs.Least.{search_fault}
-use Rattle.regular_model.specs.Regular.{copies, complete, leaves}
+use Rattle.regular_model.specs.Regular.{copies, complete}
 use Rattle.regular_model.specs.Depth.{LeastDepth}
 use Rattle.regular_model.proofs.Complete.{width-complete}
-use Rattle.regular_model.proofs.Sizes.{size_complete}
+use Rattle.regular_model.proofs.Sizes.{size_complete, leaves-complete}
 use Rattle.regular_model.proofs.SearchRegular.{search_regular}
 use Rattle.regular_table.specs.Table.{loadable, chip_text, chip_line}
 
@@ -68,10 +68,10 @@ module _ (d : ℕ) (from : 2 ≤ d) where
             ne_eqb (fault 64 (code (complete d k))) 0 (λ e. h (accepted-within e).nodes) ∙ sym (lt-leb (size (complete d k)) 64 (omega arith))
 
     -- the line that `put_chip` puts, by its test
-    module _ (nodes tips : ℕ) (n : nodes ≡ size (complete d k)) (l : tips ≡ leaves (complete d k)) where
+    module _ (nodes tips : ℕ) (n : nodes ≡ size (complete d k)) (l : tips ≡ d ^ k) where
       by_test : (b : Bool) → loadable d k ≡ b → filled (chip_text b) (d ∷ k ∷ nodes ∷ tips ∷ []) 0 ≡ chip_line d k
       unfolding chip_line
-      by_test b e = rw (n, l, e) refl
+      by_test b e = rw (n, l, e, leaves-complete d (omega arith) k) refl
 
       pub line_plain : nodes ≤ 64 → filled (chip_text true) (d ∷ k ∷ nodes ∷ tips ∷ []) 0 ≡ chip_line d k
       line_plain h = by_test true (loadable-nodes ∙ le-leb (size (complete d k)) 64 (omega (arith, n, h)))

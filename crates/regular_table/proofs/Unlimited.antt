@@ -1,13 +1,9 @@
 -- Which 04 is refused before the search: one without a limit, by 22, and no other.
-use mathlib.Core.Path.{◌≡◌, refl, sym, ap, ◌∙◌}
-use Prim.Native.Nat.{ℕ, zero, suc, ◌<◌}
-use native.Mathlib.Omega.{arith}
-use mathlib.Core.List.{List, [], ◌∷◌, ◌++◌}
-use mathlib.Core.Option.{Option, none, some}
-use lib.ListN.{length, get_or, drop}
-use lib.Seq.{drop-cons}
+use Rattle.std.proofs.Common.{◌≡◌, ℕ, zero, suc, ◌<◌, List, [], ◌∷◌, ◌++◌, Option, None, Some, length, get_or, drop}
+use Rattle.std.proofs.Common.{refl, sym, ap, ◌∙◌, arith, drop-cons}
 use borrow.Author.Tests.{le-leb}
-use Rattle.base.proofs.Tests.{clash}
+use Rattle.refusal.specs.declared.Refusal.{Refusal}
+use Rattle.refusal.specs.declared.Refusal.TheVariants.{OutOfTurn}
 use Rattle.script_commands.specs.declared.Setup.TheVariants.{Source, Target, Limit}
 use Rattle.script_commands.specs.declared.Command.TheVariants.{Setup, Compile, Call}
 use Rattle.script_commands.specs.declared.Read.{Read}
@@ -47,27 +43,28 @@ module _ (script : List ℕ) where
   -- an 04 that is refused
   abbrev Unlimited : Ending → Option ℕ → Type 0
   Unlimited AtEnd l = Unit
-  Unlimited (AtRefusal n at) l = read_at script at ≡ Next Compile at → (n ≡ 22) × (l ≡ none)
+  Unlimited (AtRefusal r at) l = read_at script at ≡ Next Compile at → (r ≡ OutOfTurn) × (l ≡ None)
   Unlimited (AtCompile at) l = Unit
 
   gather_unlimited : (rs : List Read) (s t : List ℕ) (l : Option ℕ) → AllRead rs
       → Unlimited (gather_reads rs s t l).ending (gather_reads rs s t l).limit
   gather_unlimited [] s t l all = tt
   gather_unlimited (End ∷ rs) s t l all = tt
-  gather_unlimited (Refused n at ∷ rs) s t l all = λ e. absurd (clash (let q = sym all.0 ∙ e in cc))
+  gather_unlimited (Refused n at ∷ rs) s t l all = λ e. absurd (let q = sym all.0 ∙ e in cc)
   gather_unlimited (Next (Setup (Source b)) at ∷ rs) s t l all = gather_unlimited rs (s ++ (b ∷ [])) t l all.1
   gather_unlimited (Next (Setup (Target b)) at ∷ rs) s t l all = gather_unlimited rs s (t ++ (b ∷ [])) l all.1
-  gather_unlimited (Next (Setup (Limit n)) at ∷ rs) s t none all = gather_unlimited rs s t (some n) all.1
-  gather_unlimited (Next (Setup (Limit n)) at ∷ rs) s t (some m) all = λ e. absurd (clash (let q = sym all.0 ∙ e in cc))
-  gather_unlimited (Next Compile at ∷ rs) s t none all = λ e. (refl, refl)
-  gather_unlimited (Next Compile at ∷ rs) s t (some n) all = tt
-  gather_unlimited (Next (Call c) at ∷ rs) s t l all = λ e. absurd (clash (let q = sym all.0 ∙ e in cc))
+  gather_unlimited (Next (Setup (Limit n)) at ∷ rs) s t None all = gather_unlimited rs s t (Some n) all.1
+  gather_unlimited (Next (Setup (Limit n)) at ∷ rs) s t (Some m) all = λ e. absurd (let q = sym all.0 ∙ e in cc)
+  gather_unlimited (Next Compile at ∷ rs) s t None all = λ e. (refl, refl)
+  gather_unlimited (Next Compile at ∷ rs) s t (Some n) all = tt
+  gather_unlimited (Next (Call c) at ∷ rs) s t l all = λ e. absurd (let q = sym all.0 ∙ e in cc)
 
   -- An 04 that gatewalk refuses before the search has no limit before it.
-  pub unlimited : (n at : ℕ) → (gathered script).ending ≡ AtRefusal n at → get_or script at 0 ≡ 4 → (n ≡ 22) × ((gathered script).limit ≡ none)
+  pub unlimited : (r : Refusal) (at : ℕ) → (gathered script).ending ≡ AtRefusal r at → get_or script at 0 ≡ 4
+      → (r ≡ OutOfTurn) × ((gathered script).limit ≡ None)
   unfolding gathered reads
-  unlimited n at q e =
-      let inside : Inside (length script) (AtRefusal n at) = rw q at (ends_inside script) in
-      let known : Unlimited (AtRefusal n at) (gathered script).limit =
-      rw q at (gather_unlimited (reads script 0) [] [] none (all_read (suc (length script)) 0)) in
+  unlimited r at q e =
+      let inside : Inside (length script) (AtRefusal r at) = rw q at (ends_inside script) in
+      let known : Unlimited (AtRefusal r at) (gathered script).limit =
+      rw q at (gather_unlimited (reads script 0) [] [] None (all_read (suc (length script)) 0)) in
       known (read_04 at inside.1 e)

@@ -1,5 +1,6 @@
 -- The text of buychip, for a script: a line for each d from 2 to 8, with the least depth of a chip and how large that chip is, or a refusal.
 use Rattle.std.specs.Prelude.{◌≡◌, ℕ, zero, suc, ◌≤◌, List, [], ◌∷◌, ◌++◌, Bool, true, false, cond, length, get_or, eqb}
+use Rattle.refusal.specs.Numbers.{number}
 use Rattle.topology.specs.Tree.{code, size}
 use Rattle.topology.specs.Reader.{fault, tree}
 use Rattle.regular_model.specs.Regular.{complete, leaves}
@@ -44,13 +45,13 @@ Table source at text = TableBy (fault 32 source) source at text
 -- limit, so it accepts such an 04.
 abbrev pub ending : List ℕ → Ending → Ending
 ending script End = End
-ending script (Refused n at) = cond (eqb (get_or script at 0) 4) (Compile at) (Refused n at)
+ending script (Refused r at) = cond (eqb (get_or script at 0) 4) (Compile at) (Refused r at)
 ending script (Compile at) = Compile at
 
 -- The text by how the setup ends. Without an 04 a fault of the source is reported at the end of the script.
 abbrev pub TextBy : Ending → List ℕ → List ℕ → List ℕ → Type 0
 TextBy End script source text = Table source (length script) text
-TextBy (Refused n at) script source text = text ≡ no_line n at
+TextBy (Refused r at) script source text = text ≡ no_line (number r) at
 TextBy (Compile at) script source text = Table source at text
 
 -- the whole text of buychip

@@ -1,33 +1,24 @@
--- What is read by the first byte of a command: the command, if the script has all its bytes; 21, if it ends within them; 20, if no command begins with
--- this byte. A property of these three is a property of every read (`by_code`).
-use mathlib.Core.Path.{◌≡◌, refl}
-use mathlib.Core.Logic.{◌≢◌}
-use Prim.Native.Nat.{ℕ, ◌≤◌, ◌<◌}
-use native.Mathlib.Omega.{arith}
-use mathlib.Core.List.{List}
-use mathlib.Core.Bool.{Bool, true, false, cond}
-use lib.ListN.{length}
-use lib.Dec.{eqb, leb}
-use borrow.Author.Tests.{leb-true, leb-false, eqb-true, ne_eqb}
+-- What is read by the first byte of a command: the command, if the script has all its bytes; 21, if it ends within them; 20, if no command begins
+-- with this byte. A property of these three is a property of every read (`by_code`).
+use Rattle.std.proofs.Common.{◌≡◌, ℕ, ◌≤◌, ◌<◌, List, length, Bool, true, false, cond, eqb, leb, refl, arith}
+use borrow.Author.Tests.{leb-true, leb-false, le-leb, eqb-true}
+use Rattle.refusal.specs.declared.Refusal.TheVariants.{CutShort, UnknownCommand}
 use Rattle.script_commands.specs.declared.Command.{Command}
 use Rattle.script_commands.specs.declared.Read.{Read}
 use Rattle.script_commands.specs.declared.Read.TheVariants.{Next, Refused}
 use Rattle.script_commands.specs.Reading.{size_by, sized, command_by}
 
-pub size_is : (code k n : ℕ) → code ≡ k → n ≡ size_by k → n ≡ size_by code
-size_is code k n e f = rw e f
-
-pub no_size : (code : ℕ) → code ≢ 1 → code ≢ 2 → code ≢ 3 → code ≢ 4 → code ≢ 5 → code ≢ 6 → code ≢ 7 → code ≢ 9 → code ≢ 10 → size_by code ≡ 0
-no_size code n1 n2 n3 n4 n5 n6 n7 n9 n10 =
-    simp (ne_eqb code 1 n1, ne_eqb code 2 n2, ne_eqb code 3 n3, ne_eqb code 4 n4, ne_eqb code 5 n5, ne_eqb code 6 n6, ne_eqb code 7 n7, ne_eqb code 9 n9, ne_eqb code 10 n10)
+pub complete : (code : ℕ) (bytes : List ℕ) (at : ℕ) (c : Command) → size_by code ≤ length bytes → Next c at ≡ sized code bytes at c
+unfolding sized
+complete code bytes at c h = simp (le-leb (size_by code) (length bytes) h)
 
 module _ (P : Read → Type 0) (at code : ℕ) (bytes : List ℕ) (command : (c : Command) → 0 < size_by code → size_by code ≤ length bytes → P (Next c at))
-    (short : length bytes < size_by code → P (Refused 21 at)) where
+    (short : length bytes < size_by code → P (Refused CutShort at)) where
   of_size : (c : Command) → 0 < size_by code → P (sized code bytes at c)
   unfolding sized
   of_size c z = by_test (leb (size_by code) (length bytes)) refl
     where
-      by_test : (t : Bool) → leb (size_by code) (length bytes) ≡ t → P (cond t (Next c at) (Refused 21 at))
+      by_test : (t : Bool) → leb (size_by code) (length bytes) ≡ t → P (cond t (Next c at) (Refused CutShort at))
       by_test true q = command c z (leb-true (size_by code) (length bytes) q)
       by_test false q = short (leb-false (size_by code) (length bytes) q)
 
@@ -39,7 +30,7 @@ module _ (P : Read → Type 0) (at code : ℕ) (bytes : List ℕ) (command : (c 
       by_test true q = of_size c (rw (eqb-true code k q) z)
       by_test false q = more q
 
-  pub by_code : (size_by code ≡ 0 → P (Refused 20 at)) → P (command_by code bytes at)
+  pub by_code : (size_by code ≡ 0 → P (Refused UnknownCommand at)) → P (command_by code bytes at)
   unfolding command_by
   by_code unknown =
       one 1 _ _ (omega arith) (λ e1.

@@ -1,5 +1,4 @@
 pub mod FirstByte
-pub mod OperandBytes
 pub mod ReadAt
 pub mod ReadsFrom
 pub mod Batches

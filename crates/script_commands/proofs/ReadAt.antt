@@ -1,12 +1,9 @@
--- What the reader reads at an offset: the end, a command that ends within the script, or refusal 20 or 21 at that offset. A property of these three is
--- a property of every read (`read_all`).
-use mathlib.Core.Path.{◌≡◌, refl, sym, ap}
-use Prim.Native.Nat.{ℕ, ◌+◌, ◌-◌, ◌≤◌, ◌<◌}
-use native.Mathlib.Omega.{arith}
-use mathlib.Core.List.{List, [], ◌∷◌}
-use lib.ListN.{length, drop, get_or, length-drop}
-use lib.Seq.{drop-cons}
-use Rattle.base.proofs.Tests.{clash}
+-- What the reader reads at an offset: the end, a command that ends within the script, or refusal 20 or 21 at that offset. A property of these three
+-- is a property of every read (`read_all`).
+use Rattle.std.proofs.Common.{◌≡◌, ℕ, ◌+◌, ◌-◌, ◌≤◌, ◌<◌, List, [], ◌∷◌, length, drop, get_or, refl, sym, ap, arith, length-drop, drop-cons}
+use Rattle.refusal.specs.Numbers.{number}
+use Rattle.refusal.specs.declared.Refusal.{Refusal}
+use Rattle.refusal.specs.declared.Refusal.TheVariants.{CutShort, UnknownCommand}
 use Rattle.script_commands.specs.declared.Command.{Command}
 use Rattle.script_commands.specs.declared.Read.{Read}
 use Rattle.script_commands.specs.declared.Read.TheVariants.{End, Next, Refused}
@@ -22,7 +19,7 @@ module _ (script : List ℕ) (at : ℕ) where
   size_at_lem h = rw (drop-cons script at 0 h) refl
 
   read_all : (P : Read → Type 0) → P End → ((c : Command) → 0 < size_at → at + size_at ≤ length script → P (Next c at))
-      → ((n : ℕ) → n ≤ 21 → at < length script → P (Refused n at)) → P (read_at script at)
+      → ((e : Refusal) → number e ≤ 21 → at < length script → P (Refused e at)) → P (read_at script at)
   unfolding read_at
   read_all P end command refusal = by_bytes (drop at script) (length-drop at script) command
     where
@@ -30,8 +27,8 @@ module _ (script : List ℕ) (at : ℕ) where
           → ((c : Command) → 0 < first_size bytes → at + first_size bytes ≤ length script → P (Next c at)) → P (command_of bytes at)
       by_bytes [] l command = end
       by_bytes (code ∷ rest) l command =
-          by_code P at code (code ∷ rest) (λ c z h. command c z (omega (arith, l, h, z))) (λ h. refusal 21 (omega arith) (omega (arith, l)))
-          (λ e. refusal 20 (omega arith) (omega (arith, l)))
+          by_code P at code (code ∷ rest) (λ c z h. command c z (omega (arith, l, h, z))) (λ h. refusal CutShort (omega arith) (omega (arith, l)))
+          (λ e. refusal UnknownCommand (omega arith) (omega (arith, l)))
 
   -- a command is at its offset, ends within the script, and has the size that its first byte says
   pub record Within (offset : ℕ) : Type 0 where
@@ -42,14 +39,14 @@ module _ (script : List ℕ) (at : ℕ) where
 
   pub within : (c : Command) (offset : ℕ) → read_at script at ≡ Next c offset → Within offset
   within =
-      read_all (λ r. (c : Command) (offset : ℕ) → r ≡ Next c offset → Within offset) (λ c offset e. absurd (clash (cc)))
-      (λ d z h c offset e. record { is_at = cc; some = z; inside = h; first = size_at_lem (omega arith) }) (λ n h z c offset e. absurd (clash (cc)))
+      read_all (λ r. (c : Command) (offset : ℕ) → r ≡ Next c offset → Within offset) (λ c offset e. absurd (cc))
+      (λ d z h c offset e. record { is_at = cc; some = z; inside = h; first = size_at_lem (omega arith) }) (λ n h z c offset e. absurd (cc))
 
   -- a refusal is 20 or 21, at the offset, which is before the end of the script
-  pub told : (n offset : ℕ) → read_at script at ≡ Refused n offset → (n ≤ 21) × (offset ≡ at) × (at < length script)
+  pub told : (r : Refusal) (offset : ℕ) → read_at script at ≡ Refused r offset → (number r ≤ 21) × (offset ≡ at) × (at < length script)
   told =
-      read_all (λ r. (n offset : ℕ) → r ≡ Refused n offset → (n ≤ 21) × (offset ≡ at) × (at < length script)) (λ n offset e. absurd (clash (cc)))
-      (λ c z h n offset e. absurd (clash (cc))) (λ m h z n offset e. let f : n ≡ m = cc in (omega arith, cc, z))
+      read_all (λ x. (r : Refusal) (offset : ℕ) → x ≡ Refused r offset → (number r ≤ 21) × (offset ≡ at) × (at < length script))
+      (λ r offset e. absurd (cc)) (λ c z h r offset e. absurd (cc)) (λ q h z r offset e. let f : r ≡ q = cc in (rw f h, cc, z))
 
   -- the next command is at a greater offset
   pub further : (c : Command) (offset : ℕ) → read_at script at ≡ Next c offset → (at < next_at script at) × (next_at script at ≤ length script)

@@ -1,10 +1,9 @@
 -- What the reader reads from an offset on: the read at that offset and, if it is a command, what it reads from the next offset on. The bound on the
 -- number of commands makes no difference (`same`).
 use mathlib.Core.Path.{◌≡◌, refl, ap}
-use Prim.Native.Nat.{ℕ, zero, suc, ◌+◌, ◌-◌, ◌<◌}
+use Prim.Native.Nat.{ℕ, zero, suc, ◌+◌, ◌<◌}
 use native.Mathlib.Omega.{arith}
 use mathlib.Core.List.{List}
-use mathlib.Core.Bool.{Bool, true, false, cond}
 use lib.ListN.{length}
 use Rattle.script_commands.specs.declared.Read.{Read}
 use Rattle.script_commands.specs.declared.Read.TheVariants.{End, Next, Refused}
@@ -37,14 +36,5 @@ module _ (script : List ℕ) where
       by_read (Refused n offset) e = refl
       by_read (Next c offset) e =
           let f = further script at c offset e in
-          ap (reads_by (Next c offset)) (same (length script) (suc (length script)) (next_at script at) (omega (arith, f)) (omega (arith, f)) (omega (arith, f)) (omega arith))
-
--- How many reads may be to come in a loop, which falls at each turn: one for each byte from the reader's offset on and one for the script's end, or none
--- once the loop stops.
-abbrev pub to_come : List ℕ → ℕ → Bool → ℕ
-to_come script at going = cond going (length script - at + 1) 0
-
-pub fewer : (script : List ℕ) (at at' n : ℕ) (going : Bool) → n < length script - at + 1 → (going ≡ true → (length script < at' + n) × (0 < n))
-    → to_come script at' going < to_come script at true
-fewer script at at' n true h k = let z = k refl in omega (arith, z.0, z.1)
-fewer script at at' n false h k = omega arith
+          let enough = same (length script) (suc (length script)) (next_at script at) in
+          ap (reads_by (Next c offset)) (enough (omega (arith, f)) (omega (arith, f)) (omega (arith, f)) (omega arith))

@@ -1,5 +1,6 @@
 -- Which commands the bytes of a script are: paper 01, "Scripts for gatewalk". A command is its byte and then its operands, big-endian.
 use Rattle.std.specs.Prelude.{ℕ, zero, suc, ◌+◌, ◌*◌, List, [], ◌∷◌, cond, length, take, drop, eqb, leb}
+use Rattle.refusal.specs.declared.Refusal.TheVariants.{CutShort, UnknownCommand}
 use Rattle.script_commands.specs.declared.Setup.TheVariants.{Source, Target, Limit}
 use Rattle.script_commands.specs.declared.Call.TheVariants.{Step, Push, Pop}
 use Rattle.script_commands.specs.declared.Command.{Command}
@@ -31,12 +32,12 @@ size_by code =
 
 -- the command c at an offset, if `bytes` is the script from there on and `code` its first byte; 21 if the script ends within the command
 unfoldable pub sized : ℕ → List ℕ → ℕ → Command → Read
-sized code bytes at c = cond (leb (size_by code) (length bytes)) (Next c at) (Refused 21 at)
+sized code bytes at c = cond (leb (size_by code) (length bytes)) (Next c at) (Refused CutShort at)
 
 -- the command by its first byte, in the order of the tests 20, 21; a rank has four bytes after 05 and 06, and eight after 09 and 0A (request 2.5)
 unfoldable pub command_by : ℕ → List ℕ → ℕ → Read
 command_by code bytes at =
-    let c10 = cond (eqb code 10) (sized code bytes at (Call (Push (operand 1 4 bytes) (operand 5 8 bytes)))) (Refused 20 at) in
+    let c10 = cond (eqb code 10) (sized code bytes at (Call (Push (operand 1 4 bytes) (operand 5 8 bytes)))) (Refused UnknownCommand at) in
     let c9 = cond (eqb code 9) (sized code bytes at (Call (Step (operand 1 1 bytes) (operand 2 8 bytes)))) c10 in
     let c7 = cond (eqb code 7) (sized code bytes at (Call Pop)) c9 in
     let c6 = cond (eqb code 6) (sized code bytes at (Call (Push (operand 1 4 bytes) (operand 5 4 bytes)))) c7 in

@@ -1,26 +1,13 @@
 // What is read at an offset of a script, and where the next command begins.
 ghost use Rattle.std.specs.Prelude.{◌≡◌};
 ghost use Rattle.script_commands.specs.Reading.{size_by, read_at, next_at};
-ghost use Rattle.script_commands.specs.Batches.{first_reads, after, reads_of};
+ghost use Rattle.script_commands.specs.Batches.{first_reads, after};
 
-use super::operands::command_at;
-use super::{Batch, Read, Slot};
-
-// What is read at an offset, and the offset of the next command.
-#[derive(Clone, Copy)]
-pub(crate) struct CursorRead {
-    pub read: Read,
-    pub next: usize,
-}
-
-// What is read in 256 reads, and the offset of the next command.
-#[derive(Clone, Copy)]
-pub(crate) struct CursorBatch {
-    pub batch: Batch,
-    pub next: usize,
-}
+use super::Read;
+use super::operands::command_by;
 
 // How many bytes a command has, by its first byte; 0 if no command begins with it.
+// The numbers are those of the table in paper 01, "Scripts for gatewalk".
 fn size_by(code: u8) -> usize
     ensures { result ≡ size_by code }
 {
@@ -38,35 +25,31 @@ fn size_by(code: u8) -> usize
     }
 }
 
-pub(crate) fn read_at(script: &[u8], at: usize) -> CursorRead
-    ensures { (result.read ≡ read_at script.now at) × (result.next ≡ next_at script.now at) }
+// What is read at an offset, and the offset of the next command.
+#[tactic(auto, unfolding(crate::specs::Reading::read_at, crate::specs::Reading::next_at))]
+pub(crate) fn read_at(script: &[u8], at: usize) -> (Read, usize)
+    ensures read { result.0 ≡ read_at script.now at }
+    ensures next { result.1 ≡ next_at script.now at }
 {
-    let read = command_at(script, at);
+    let Some(&code) = script.get(at) else {
+        return (Read::End, at);
+    };
+    let read = command_by(code, &script[at..], at);
     match read {
-        Read::End => CursorRead { read, next: at },
-        Read::Next(_, _) => CursorRead {
-            read,
-            next: at + size_by(script[at]),
-        },
-        Read::Refused(_, _) => CursorRead { read, next: at },
+        Read::Next(_, _) => (read, at + size_by(code)),
+        Read::End | Read::Refused(_, _) => (read, at),
     }
 }
 
-pub(crate) fn batch_at(script: &[u8], at: usize) -> CursorBatch
-    ensures { (reads_of result.batch.slots ≡ first_reads 256 script.now at) × (result.next ≡ after 256 script.now at) }
+// What is read in 256 reads, and the offset of the next command.
+pub(crate) fn batch_at(script: &[u8], at: usize) -> ([Read; 256], usize)
+    ensures reads { result.0 ≡ first_reads 256 script.now at }
+    ensures next { result.1 ≡ after 256 script.now at }
 {
-    let mut slots = [Slot { read: Read::End }; 256];
+    let mut reads = [Read::End; 256];
     let mut next = at;
-    let mut i = 0;
-    while i < 256 {
-        let found = read_at(script, next);
-        let read = found.read;
-        slots[i] = Slot { read };
-        next = found.next;
-        i += 1;
+    for i in 0..256 {
+        (reads[i], next) = read_at(script, next);
     }
-    CursorBatch {
-        batch: Batch { slots },
-        next,
-    }
+    (reads, next)
 }

@@ -6,7 +6,9 @@ mod operands;
 
 ghost use Rattle.std.specs.Prelude.{◌≡◌};
 ghost use Rattle.script_commands.specs.Reading.{read_at, next_at};
-ghost use Rattle.script_commands.specs.Batches.{first_reads, after, reads_of};
+ghost use Rattle.script_commands.specs.Batches.{first_reads, after};
+
+use refusal::Refusal;
 
 // A command of the setup, before 04.
 #[derive(Clone, Copy)]
@@ -36,28 +38,17 @@ pub enum Command {
     Call(Call),
 }
 
-// What a reader reads: the end of the script; a command and its offset; or a refusal's number and its command's offset.
+// What a reader reads: the end of the script; a command and its offset; or a refusal and its command's offset. It is an enum of its own because an
+// Option of a Result would have to be taken apart twice.
 #[derive(Clone, Copy)]
 pub enum Read {
     End,
     Next(Command, usize),
-    Refused(u8, usize),
+    Refused(Refusal, usize),
 }
 
-// The prover does not cover an array of enums as a field, so each of them is in a struct.
-#[derive(Clone, Copy)]
-pub struct Slot {
-    pub read: Read,
-}
-
-// What a reader reads in 256 reads in a row.
-#[derive(Clone, Copy)]
-pub struct Batch {
-    pub slots: [Slot; 256],
-}
-
-// The script reader: the script, and the offset of its next command. The functions over it are thin; those of `cursor`, over the slice and the number,
-// do the work.
+// The script reader: the script, and the offset of its next command. The functions over it are thin; those of `cursor`, over the slice and the
+// number, do the work.
 #[derive(Clone, Copy)]
 pub struct Reader<'a> {
     pub script: &'a [u8],
@@ -66,7 +57,8 @@ pub struct Reader<'a> {
 
 // A reader whose next command is at an offset.
 pub fn reader_at<'a>(script: &'a [u8], at: usize) -> Reader<'a>
-    ensures { (result.script ≡ script.entry) × (result.at ≡ at) }
+    ensures script { result.script ≡ script.entry }
+    ensures at { result.at ≡ at }
 {
     Reader { script, at }
 }
@@ -74,19 +66,23 @@ pub fn reader_at<'a>(script: &'a [u8], at: usize) -> Reader<'a>
 impl<'a> Reader<'a> {
     // The next command. The reader moves past it, or stays if there is none.
     pub fn next(&mut self) -> Read
-        ensures { (result ≡ read_at self.old.script.now self.old.at) × (self.new.script ≡ self.old.script) × (self.new.at ≡ next_at self.old.script.now self.old.at) }
+        ensures read { result ≡ read_at self.old.script.now self.old.at }
+        ensures script { self.new.script ≡ self.old.script }
+        ensures at { self.new.at ≡ next_at self.old.script.now self.old.at }
     {
-        let found = cursor::read_at(self.script, self.at);
-        self.at = found.next;
-        found.read
+        let (read, next) = cursor::read_at(self.script, self.at);
+        self.at = next;
+        read
     }
 
     // The next 256 reads at once, so that a caller passes its own large values by value once for all of these.
-    pub fn next_batch(&mut self) -> Batch
-        ensures { (reads_of result.slots ≡ first_reads 256 self.old.script.now self.old.at) × (self.new.script ≡ self.old.script) × (self.new.at ≡ after 256 self.old.script.now self.old.at) }
+    pub fn next_batch(&mut self) -> [Read; 256]
+        ensures reads { result ≡ first_reads 256 self.old.script.now self.old.at }
+        ensures script { self.new.script ≡ self.old.script }
+        ensures at { self.new.at ≡ after 256 self.old.script.now self.old.at }
     {
-        let found = cursor::batch_at(self.script, self.at);
-        self.at = found.next;
-        found.batch
+        let (reads, next) = cursor::batch_at(self.script, self.at);
+        self.at = next;
+        reads
     }
 }

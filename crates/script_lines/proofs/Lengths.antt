@@ -1,19 +1,11 @@
 -- The length of the line of a refusal, for a script of at most 65,536 bytes.
 use Prim.Native.Nat.{ℕ, ◌≤◌}
 use native.Mathlib.Omega.{arith}
-use mathlib.Core.List.{[], ◌∷◌, ◌++◌}
 use lib.ListN.{length, length-append}
-use Rattle.text.specs.Text.{decimal}
 use Rattle.text.proofs.Digits.{length-decimal}
 use Rattle.script_lines.specs.Lines.{no_line}
 
 pub no_length : (n at : ℕ) → n ≤ 99 → at ≤ 65536 → length (no_line n at) ≤ 13
 unfolding no_line
 no_length n at h g =
-    omega (
-      arith,
-      length-append (decimal n) ((32 ∷ decimal at) ++ (10 ∷ [])),
-      length-append (decimal at) (10 ∷ []),
-      length-decimal 1 n (omega arith),
-      length-decimal 4 at (omega arith),
-    )
+    simp length-append (omega (arith, length-decimal 1 n (omega arith), length-decimal 4 at (omega arith)))

@@ -1,3 +1,2 @@
-pub mod Spacing
 pub mod Examples
 pub mod Lengths

@@ -1,51 +1,47 @@
 // The lines that gatewalk prints.
 #![tactic(auto)]
 
-ghost use Rattle.text.specs.Text.{Puts};
-ghost use Rattle.script_lines.specs.Lines.{spaced, in_line, out_line, no_line, map_line};
+ghost use Rattle.text.specs.Appending.{Appends};
+ghost use Rattle.script_lines.specs.Lines.{in_line, out_line, no_line, map_line};
 
-use text::{put, put_hex8, put_word};
+use text::Text;
 use text_templates::put_filled;
 
 // The line of an accepted push: the packets held after it.
-pub fn put_in(out: &mut [u8], at: usize, held: u32) -> usize
-    ensures { Puts out.old at (in_line held) out.new result }
+#[tactic(auto, unfolding(text_templates::specs::Template::filled, crate::specs::Lines::in_line))]
+pub fn put_in(text: &mut Text<'_>, held: u32)
+    ensures { Appends text.old (in_line held) text.new }
 {
-    put_filled(out, at, b"in #\n", &[held as usize])
+    // The cast loses nothing, and a `try_from` would give a Result that is never an error.
+    put_filled(text, b"in #\n", &[held as usize]);
 }
 
 // The line of a pop: the packet that departs.
-pub fn put_out(out: &mut [u8], at: usize, packet: u32) -> usize
-    ensures { Puts out.old at (out_line packet) out.new result }
+pub fn put_out(text: &mut Text<'_>, packet: u32)
+    ensures { Appends text.old (out_line packet) text.new }
 {
-    let word = put_word(out, at, b"out ");
-    let digits = put_hex8(out, word, packet);
-    put(out, digits, b'\n')
+    text.put_word(b"out ");
+    text.put_hex8(packet);
+    text.put(b'\n');
 }
 
 // The line of a refusal: its number and the offset of the command refused.
-pub fn put_no(out: &mut [u8], at: usize, number: u8, offset: usize) -> usize
-    ensures { Puts out.old at (no_line number offset) out.new result }
+// The number may be any u8: a `Refusal` in its place would ask more of callers.
+#[tactic(auto, unfolding(text_templates::specs::Template::filled, crate::specs::Lines::no_line))]
+pub fn put_no(text: &mut Text<'_>, number: u8, offset: usize)
+    ensures { Appends text.old (no_line number offset) text.new }
 {
-    put_filled(out, at, b"no # #\n", &[number as usize, offset])
+    put_filled(text, b"no # #\n", &[usize::from(number), offset]);
 }
 
 // The line of a map: the images.
-pub fn put_map(out: &mut [u8], at: usize, images: &[u8]) -> usize
-    ensures { Puts out.old at (map_line images.now) out.new result }
+pub fn put_map(text: &mut Text<'_>, images: &[u8])
+    ensures { Appends text.old (map_line images.now) text.new }
 {
-    let mut place = put_word(out, at, b"map");
-    let mut i = 0;
-    while i < images.len() {
-        place = put_image(out, place, images[i]);
-        i += 1;
+    text.put_word(b"map");
+    for &image in images {
+        text.put(b' ');
+        text.put_decimal(usize::from(image));
     }
-    put(out, place, b'\n')
-}
-
-// One image with the space before it.
-fn put_image(out: &mut [u8], at: usize, image: u8) -> usize
-    ensures { Puts out.old at (spaced image) out.new result }
-{
-    put_filled(out, at, b" #", &[image as usize])
+    text.put(b'\n');
 }

@@ -3,17 +3,12 @@
 --
 -- The bound is proved from the last command back. At a stage before the trees are opened 132 bytes are reserved for the map. The machine of an opened
 -- tree is sound, so that a count of packets has at most three digits.
-use mathlib.Core.Path.{◌≡◌, refl}
-use Prim.Native.Nat.{ℕ, zero, suc, ◌+◌, ◌-◌, ◌*◌, ◌≤◌, ◌<◌}
-use native.Mathlib.Omega.{arith}
-use mathlib.Core.List.{List, [], ◌∷◌, ◌++◌}
-use mathlib.Core.Bool.{Bool, true, false, ◌&&◌, cond}
-use mathlib.Core.Option.{none, some}
-use lib.ListN.{length, take, get_or, length-append}
-use lib.Dec.{leb, ltb}
+use Rattle.std.proofs.Common.{◌≡◌, ℕ, zero, suc, ◌+◌, ◌-◌, ◌*◌, ◌≤◌, ◌<◌, List, [], ◌∷◌, ◌++◌, None, Some, Bool, true, false, ◌&&◌, cond}
+use Rattle.std.proofs.Common.{length, take, get_or, leb, ltb, refl, arith, length-append}
 use borrow.Author.Tests.{leb-true}
 use Rattle.base.proofs.Refusals.{or_else_none}
 use Rattle.base.proofs.Tests.{and_parts}
+use Rattle.refusal.specs.Numbers.{number}
 use Rattle.topology.specs.Reader.{tree}
 use Rattle.topology.proofs.Reader.{within}
 use Rattle.pifo_model.specs.Tree.{Step, step, held}
@@ -86,7 +81,7 @@ record Short (at : ℕ) (before : Stage) (r : Reply × Stage) : Type 0 where
   line : length (line_of r.0 at) + room r.1 ≤ 13 + room before
 
 module _ (at : ℕ) (h : at < 65536) where
-  short-compiled : (s t : List ℕ) (n f : ℕ) → both_fault s t n ≡ f → Short at (drawing s t (some n)) (compiled f s t n)
+  short-compiled : (s t : List ℕ) (n f : ℕ) → both_fault s t n ≡ f → Short at (drawing s t (Some n)) (compiled f s t n)
   unfolding both_fault
   short-compiled s t n (suc f) e = record { good = tt; line = omega (arith, no_length (suc f) at (omega (arith, e, both_most s t n)) (omega arith)) }
   short-compiled s t n zero e =
@@ -131,10 +126,10 @@ module _ (at : ℕ) (h : at < 65536) where
   unfolding execute
   short (drawing s t l) (Setup (Source b)) g = record { good = tt; line = omega arith }
   short (drawing s t l) (Setup (Target b)) g = record { good = tt; line = omega arith }
-  short (drawing s t none) (Setup (Limit n)) g = record { good = tt; line = omega arith }
-  short (drawing s t (some m)) (Setup (Limit n)) g = out_of_turn_lem (drawing s t (some m)) g
-  short (drawing s t none) Compile g = out_of_turn_lem (drawing s t none) g
-  short (drawing s t (some n)) Compile g = short-compiled s t n (both_fault s t n) refl
+  short (drawing s t None) (Setup (Limit n)) g = record { good = tt; line = omega arith }
+  short (drawing s t (Some m)) (Setup (Limit n)) g = out_of_turn_lem (drawing s t (Some m)) g
+  short (drawing s t None) Compile g = out_of_turn_lem (drawing s t None) g
+  short (drawing s t (Some n)) Compile g = short-compiled s t n (both_fault s t n) refl
   short (drawing s t l) (Calling c) g = out_of_turn_lem (drawing s t l) g
   short (serving m steps) (Setup c) g = out_of_turn_lem (serving m steps) g
   short (serving m steps) Compile g = out_of_turn_lem (serving m steps) g
@@ -162,7 +157,7 @@ module _ (script : List ℕ) (h : length script ≤ 65536) where
   by_read at stage g End e more = omega arith
   by_read at stage g (Refused n offset) e more =
       let t = told script at n offset e in
-      omega (arith, no_length n offset (omega (arith, t.0)) (omega (arith, t.1, t.2, h)), t.2)
+      omega (arith, no_length (number n) offset (omega (arith, t.0)) (omega (arith, t.1, t.2, h)), t.2)
   by_read at stage g (Next c offset) e more =
       let f = further script at c offset e in
       let w = command_within script at c offset e in
@@ -182,4 +177,4 @@ module _ (script : List ℕ) (h : length script ≤ 65536) where
 
   pub output-fits : length (output script) ≤ 852100
   unfolding output
-  output-fits = omega (arith, from_length (length script) 0 (drawing [] [] none) (omega arith) tt, h)
+  output-fits = omega (arith, from_length (length script) 0 (drawing [] [] None) (omega arith) tt, h)

@@ -1,9 +1,8 @@
-pub mod Examples
 pub mod Stops
-pub mod CompileCases
+pub mod Opening
 pub mod BeforeCompile
 pub mod ServeCases
-pub mod CallOf
 pub mod BatchLoop
 pub mod RunLoop
+pub mod Examples
 pub mod Lengths

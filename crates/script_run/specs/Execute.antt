@@ -1,7 +1,6 @@
 -- What each command of a script does (paper 01, "Scripts for gatewalk"). The stage is what a script has come to: before 04 two drawings and a limit;
 -- after it the source's machine, whose answers are also those of the chip's tree (crate `pair_step`), and the steps gathered for the next push.
-use Rattle.std.specs.Prelude.{ℕ, zero, suc, List, [], ◌∷◌, ◌++◌, Bool, false, not, ◌&&◌, cond, length, take, leb, ltb}
-use Rattle.std.proofs.Math.Option.{Option, none, some}
+use Rattle.std.specs.Prelude.{ℕ, zero, suc, List, [], ◌∷◌, ◌++◌, Option, None, Some, Bool, false, not, ◌&&◌, cond, length, take, leb, ltb}
 use Rattle.topology.specs.Reader.{tree}
 use Rattle.pifo_model.specs.Tree.{Step, step}
 use Rattle.pifo_model.specs.Machine.{Machine, Answer, accepted, departed, refused, full, pushing, popping, serve, opened}
@@ -43,7 +42,7 @@ out_of_turn stage = (refused_by 22, stage)
 abbrev pub compiled : ℕ → List ℕ → List ℕ → ℕ → Reply × Stage
 compiled zero source target limit =
     (mapped (take (length source) (search_map source target)), serving (opened (tree source) limit) [])
-compiled (suc f) source target limit = (refused_by (suc f), drawing source target (some limit))
+compiled (suc f) source target limit = (refused_by (suc f), drawing source target (Some limit))
 
 -- the answer of the machine as a reply
 abbrev pub replied : Answer Packet → Reply
@@ -60,10 +59,10 @@ served (a, m) steps = (replied a, serving m steps)
 unfoldable pub execute : Stage → Command → Reply × Stage
 execute (drawing s t l) (Setup (Source b)) = (silent, drawing (s ++ (b ∷ [])) t l)
 execute (drawing s t l) (Setup (Target b)) = (silent, drawing s (t ++ (b ∷ [])) l)
-execute (drawing s t none) (Setup (Limit n)) = (silent, drawing s t (some n))
-execute (drawing s t (some m)) (Setup (Limit n)) = out_of_turn (drawing s t (some m))
-execute (drawing s t none) Compile = out_of_turn (drawing s t none)
-execute (drawing s t (some n)) Compile = compiled (both_fault s t n) s t n
+execute (drawing s t None) (Setup (Limit n)) = (silent, drawing s t (Some n))
+execute (drawing s t (Some m)) (Setup (Limit n)) = out_of_turn (drawing s t (Some m))
+execute (drawing s t None) Compile = out_of_turn (drawing s t None)
+execute (drawing s t (Some n)) Compile = compiled (both_fault s t n) s t n
 execute (drawing s t l) (Call c) = out_of_turn (drawing s t l)
 execute (serving m steps) (Setup c) = out_of_turn (serving m steps)
 execute (serving m steps) Compile = out_of_turn (serving m steps)

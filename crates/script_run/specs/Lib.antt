@@ -2,5 +2,3 @@
 pub mod Execute
 pub mod Output
 pub mod InnerParts
-pub mod InnerTurns
-pub mod InnerSteps

@@ -1,6 +1,6 @@
 -- The text that a script prints, byte by byte, as a definition over the script's bytes.
-use Rattle.std.specs.Prelude.{ℕ, List, [], ◌∷◌, ◌++◌, cond}
-use Rattle.std.proofs.Math.Option.{none}
+use Rattle.std.specs.Prelude.{ℕ, List, [], ◌∷◌, ◌++◌, None, cond}
+use Rattle.refusal.specs.Numbers.{number}
 use Rattle.script_lines.specs.Lines.{in_line, out_line, no_line, map_line}
 use Rattle.script_commands.specs.declared.Read.{Read}
 use Rattle.script_commands.specs.declared.Read.TheVariants.{End, Next, Refused}
@@ -23,7 +23,7 @@ printed reply at rest = line_of reply at ++ cond (stops reply) [] rest
 abbrev pub text_of : List Read → Stage → List ℕ
 text_of [] stage = []
 text_of (End ∷ rest) stage = []
-text_of (Refused n at ∷ rest) stage = line_of (refused_by n) at
+text_of (Refused r at ∷ rest) stage = line_of (refused_by (number r)) at
 text_of (Next c at ∷ rest) stage =
     let r = execute stage c in
     let more = text_of rest r.1 in
@@ -31,4 +31,4 @@ text_of (Next c at ∷ rest) stage =
 
 -- the whole output of gatewalk
 unfoldable pub output : List ℕ → List ℕ
-output script = text_of (reads script 0) (drawing [] [] none)
+output script = text_of (reads script 0) (drawing [] [] None)

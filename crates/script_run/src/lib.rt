@@ -5,37 +5,43 @@
 #![tactic(auto)]
 
 mod replies;
-mod steps;
-mod turns;
 
-ghost use Rattle.std.specs.Prelude.{◌≡◌, true, ◌≤◌, length};
+ghost use Rattle.std.specs.Prelude.{◌≡◌, None, OnSome};
+ghost use Rattle.refusal.specs.Numbers.{number};
 ghost use Rattle.text.specs.Text.{Puts};
-ghost use Rattle.script_commands.specs.Batches.{reads_of};
+ghost use Rattle.text.specs.Appending.{Appends};
+ghost use Rattle.script_lines.specs.Lines.{no_line};
+ghost use Rattle.queue_push.specs.Calls.{path_of};
 ghost use Rattle.script_run.specs.Output.{output};
-ghost use Rattle.script_run.specs.InnerParts.{opening_text, drawn, chip, start_text, batch_text, Fits, Ready, Comes, Begun, Stops};
+ghost use Rattle.script_run.specs.InnerParts.{opening_text, start_text, batch_text, limit_in, Ready, Comes};
 ghost use Rattle.script_commands.specs.InnerBatches.{AllCommands};
 
 use pair_state::Pair;
-use queue_push::Path;
+use queue_push::{Path, Step};
 use queue_state::Answer;
-use script_commands::{Batch, Call};
-use script_setup::{Drawing, Ending, Gathered};
-use turns::CallRead;
+use refusal::Refusal;
+use replies::{put_reply, stops};
+use script_commands::{Call, Command, Read, reader_at};
+use script_lines::{put_map, put_no};
+use script_setup::{Drawing, Ending, Gathered, gather};
+use text::Text;
 
-// Where the text so far ends, and whether the script goes on.
-#[derive(Clone, Copy)]
-struct Printed {
-    pub end: usize,
-    pub going: bool,
-}
+// How many steps may be gathered for a push.
+const MOST_STEPS: usize = 8;
 
-// The stage of a script after 04: what it has printed, the steps gathered for the next push, the drawings, and both trees with the map.
-#[derive(Clone, Copy)]
-struct Progress {
-    pub printed: Printed,
-    pub path: Path,
-    pub drawing: Drawing,
-    pub pair: Pair,
+// A path without steps.
+const NO_STEPS: Path = Path {
+    steps: [Step { child: 0, rank: 0 }; 9],
+    count: 0,
+    leaf_rank: 0,
+};
+
+// The stage of a script after 04 that goes on: the drawings, both trees with the map, and the steps gathered for the next push.
+#[derive(Drop)]
+struct Session {
+    drawing: Drawing,
+    pair: Pair,
+    path: Path,
 }
 
 // Runs a script: its text is put into `out`, as far as there is room, and the answer is where it ends there. One reader reads the script from its
@@ -43,149 +49,123 @@ struct Progress {
 pub fn run(script: &[u8], out: &mut [u8]) -> usize
     ensures { Puts out.old 0 (output script.now) out.new result }
 {
-    let mut reader = script_commands::reader_at(script, 0);
-    let gathered = script_setup::gather(&mut reader);
-    let mut progress = start(out, gathered);
-    while progress.printed.going {
-        let batch = reader.next_batch();
-        progress = serve(progress, out, batch);
+    let mut text = Text::new(out);
+    let mut reader = reader_at(script, 0);
+    let gathered = gather(&mut reader);
+    let Some(mut session) = start(&mut text, gathered) else {
+        return text.place();
+    };
+    while let Some(next) = serve(session, &mut text, reader.next_batch()) {
+        session = next;
     }
-    progress.printed.end
+    text.place()
 }
 
-// The stage of a script after its setup and 04.
-fn start(out: &mut [u8], gathered: Gathered) -> Progress
-    requires { Fits gathered.drawing }
-    ensures { Comes (start_text gathered) out.old 0 result out.new }
+// The stage after the setup and 04, or none if the script stops there.
+fn start(text: &mut Text<'_>, gathered: Gathered) -> Option<Session>
+    ensures { Comes (start_text gathered) text.old result text.new }
 {
-    let drawing = gathered.drawing;
-    let ending = gathered.ending;
-    match ending {
-        Ending::End => stop(drawing, 0),
-        Ending::Refused(number, offset) => {
-            let end = script_lines::put_no(out, 0, number, offset);
-            stop(drawing, end)
+    match gathered.ending {
+        Ending::End => None,
+        Ending::Refused(refusal, at) => refuse(text, refusal, at),
+        Ending::Compile(at) => compile(text, gathered.drawing, at),
+    }
+}
+
+// 04 at an offset: opens both trees and prints the map, or prints its refusal. The limit is given, since the 04 is in turn (`limited` in
+// script_setup/proofs/WithLimit).
+#[tactic(auto, using(pair_state::proofs::Truncated::both_few))]
+fn compile(text: &mut Text<'_>, drawing: Drawing, at: usize) -> Option<Session>
+    ensures { Comes (opening_text drawing.source.items drawing.target.items (limit_in drawing) at) text.old result text.new }
+{
+    let limit = drawing.limit.unwrap_or(0);
+    // The cast loses nothing, and a `try_from` would give a Result that is never an error.
+    match pair_state::open(&drawing.source, &drawing.target, limit as usize) {
+        Err(refusal) => refuse(text, refusal, at),
+        Ok(pair) => {
+            put_map(text, &pair.map[..drawing.source.len()]);
+            Some(Session {
+                drawing,
+                pair,
+                path: NO_STEPS,
+            })
         }
-        Ending::Compile(at) => compile(out, drawing, at),
     }
 }
 
-fn begin(drawing: Drawing, pair: Pair, end: usize, going: bool) -> Progress
-    ensures { Begun drawing pair end going result }
+// The line of a refusal that stops the script.
+fn refuse(text: &mut Text<'_>, refusal: Refusal, at: usize) -> Option<Session>
+    ensures line { Appends text.old (no_line (number refusal) at) text.new }
+    ensures stops { result ≡ None }
 {
-    Progress {
-        printed: Printed { end, going },
-        path: steps::no_steps(),
+    put_no(text, refusal.into(), at);
+    None
+}
+
+// Serves a batch of reads after 04, or as many as come before the script stops.
+fn serve(session: Session, text: &mut Text<'_>, batch: [Read; 256]) -> Option<Session>
+    requires { Ready session }
+    ensures comes { Comes (batch_text batch session) text.old result text.new }
+    ensures commands { OnSome result (AllCommands batch) }
+{
+    let Session {
         drawing,
         pair,
-    }
-}
-
-// The stage of a script that stops before both trees are opened: its trees are those of an opening without drawings, which is refused.
-fn stop(drawing: Drawing, end: usize) -> Progress
-    ensures { Stops end result }
-{
-    let source = drawing.source;
-    let none = &source[..0];
-    let both = pair_state::open(none, none, 0);
-    let pair = both.pair;
-    begin(drawing, pair, end, false)
-}
-
-// 04 at an offset: opens both trees and prints the map, or prints its refusal.
-fn compile(out: &mut [u8], drawing: Drawing, at: usize) -> Progress
-    requires { Fits drawing }
-    ensures { Comes (opening_text (drawn drawing) (chip drawing) drawing.limit at) out.old 0 result out.new }
-{
-    let source_nodes = drawing.source_nodes;
-    let target_nodes = drawing.target_nodes;
-    let source = drawing.source;
-    let target = drawing.target;
-    let drawn = &source[..source_nodes];
-    let chip = &target[..target_nodes];
-    let both = pair_state::open(drawn, chip, drawing.limit as usize);
-    let pair = both.pair;
-    if both.refusal != 0 {
-        let place = script_lines::put_no(out, 0, both.refusal, at);
-        return begin(drawing, pair, place, false);
-    }
-    let map = pair.map;
-    let images = &map[..source_nodes];
-    let end = script_lines::put_map(out, 0, images);
-    begin(drawing, pair, end, true)
-}
-
-// Serves a batch of reads after 04.
-fn serve(progress: Progress, out: &mut [u8], batch: Batch) -> Progress
-    requires { Ready progress × (progress.printed.end ≤ length out.old) × (length batch.slots ≡ 256) }
-    ensures { Comes (batch_text (reads_of batch.slots) progress) out.old progress.printed.end result out.new × (result.printed.going ≡ true → AllCommands (reads_of batch.slots)) }
-{
-    let drawing = progress.drawing;
-    let source_nodes = drawing.source_nodes;
-    let target_nodes = drawing.target_nodes;
-    let source_bytes = drawing.source;
-    let target_bytes = drawing.target;
-    let pair = progress.pair;
-    let map = pair.map;
-    let drawn_tree = &source_bytes[..source_nodes];
-    let chip_tree = &target_bytes[..target_nodes];
-    let images = &map[..source_nodes];
-    let mut source = pair.source;
-    let mut chip = pair.chip;
-    let mut path = progress.path;
-    let mut end = progress.printed.end;
-    let mut going = true;
-    let slots = batch.slots;
-    let mut i = 0;
-    while going && i < 256 {
-        let slot = slots[i];
-        let read = slot.read;
-        i += 1;
-        match turns::call_read(path.count, read) {
-            CallRead::End => {
-                going = false;
-            }
-            CallRead::Refused(number, offset) => {
-                end = script_lines::put_no(out, end, number, offset);
-                going = false;
-            }
-            CallRead::Call(call, offset) => match call {
+        mut path,
+    } = session;
+    let Pair {
+        mut source,
+        mut chip,
+        map,
+    } = pair;
+    let source_tree = drawing.source.as_slice();
+    let chip_tree = drawing.target.as_slice();
+    let images = &map[..source_tree.len()];
+    for &read in &batch {
+        match read {
+            Read::Next(Command::Call(call), at) => match call {
                 Call::Step(child, rank) => {
+                    if MOST_STEPS <= path.count {
+                        return refuse(text, Refusal::OutOfTurn, at);
+                    }
                     path = queue_push::extended(path, child, rank);
                 }
                 Call::Push(packet, leaf_rank) => {
-                    let whole = steps::ended(path, leaf_rank);
-                    path = steps::no_steps();
-                    let over = translator::carry(drawn_tree, chip_tree, images, whole);
-                    let drawn = queue_push::push(source, whole, packet);
-                    source = drawn.state;
-                    let mut answer = Answer::Refused(over.refusal);
-                    if over.refusal == 0 {
-                        let sent = queue_push::push(chip, over.path, packet);
-                        chip = sent.state;
-                        let given = sent.answer;
-                        answer = given;
+                    let whole = Path { leaf_rank, ..path };
+                    path = NO_STEPS;
+                    source = queue_push::push(source, whole, packet).state;
+                    let answer = match translator::carry(source_tree, chip_tree, images, whole) {
+                        Err(refusal) => Answer::Refused(refusal),
+                        Ok(carried) => {
+                            let sent = queue_push::push(chip, carried, packet);
+                            chip = sent.state;
+                            sent.answer
+                        }
+                    };
+                    put_reply(text, answer, at);
+                    if stops(answer) {
+                        return None;
                     }
-                    end = replies::put_reply(out, end, answer, offset);
-                    going = !replies::stops(answer);
                 }
                 Call::Pop => {
-                    let drawn = queue_pop::pop(source);
-                    let taken = queue_pop::pop(chip);
-                    let left = taken.served;
-                    source = drawn.served.state;
-                    chip = left.state;
-                    let answer = left.answer;
-                    end = replies::put_reply(out, end, answer, offset);
-                    going = !replies::stops(answer);
+                    let drawn = queue_pop::pop(source).served;
+                    let taken = queue_pop::pop(chip).served;
+                    source = drawn.state;
+                    chip = taken.state;
+                    put_reply(text, taken.answer, at);
+                    if stops(taken.answer) {
+                        return None;
+                    }
                 }
             },
+            Read::Next(_, at) => return refuse(text, Refusal::OutOfTurn, at),
+            Read::Refused(refusal, at) => return refuse(text, refusal, at),
+            Read::End => return None,
         }
     }
-    Progress {
-        printed: Printed { end, going },
-        path,
+    Some(Session {
         drawing,
         pair: Pair { source, chip, map },
-    }
+        path,
+    })
 }

@@ -1,10 +1,6 @@
 -- The end of the setup: it is at an offset of the script. A refusal there is 20, 21 or 22.
-use mathlib.Core.Path.{◌≡◌, refl}
-use Prim.Native.Nat.{ℕ, zero, suc, ◌≤◌, ◌<◌}
-use native.Mathlib.Omega.{arith}
-use mathlib.Core.List.{List, [], ◌∷◌, ◌++◌}
-use mathlib.Core.Option.{Option, none, some}
-use lib.ListN.{length}
+use Rattle.std.proofs.Common.{◌≡◌, ℕ, zero, suc, ◌≤◌, ◌<◌, List, [], ◌∷◌, ◌++◌, Option, None, Some, length, refl, arith}
+use Rattle.refusal.specs.Numbers.{number}
 use Rattle.script_commands.specs.declared.Setup.TheVariants.{Source, Target, Limit}
 use Rattle.script_commands.specs.declared.Command.TheVariants.{Setup, Compile, Call}
 use Rattle.script_commands.specs.declared.Read.{Read}
@@ -18,7 +14,7 @@ use Rattle.script_setup.specs.declared.Ending.TheVariants.{End as AtEnd, Refused
 -- an ending at an offset below a script's length
 abbrev pub Inside : ℕ → Ending → Type 0
 Inside size AtEnd = Unit
-Inside size (AtRefusal n at) = (n ≤ 22) × (at < size)
+Inside size (AtRefusal r at) = (number r ≤ 22) × (at < size)
 Inside size (AtCompile at) = at < size
 
 -- the same for each read
@@ -26,7 +22,7 @@ abbrev AllInside : ℕ → List Read → Type 0
 AllInside size [] = Unit
 AllInside size (End ∷ rs) = AllInside size rs
 AllInside size (Next c at ∷ rs) = (at < size) × AllInside size rs
-AllInside size (Refused n at ∷ rs) = (n ≤ 22) × (at < size) × AllInside size rs
+AllInside size (Refused r at ∷ rs) = (number r ≤ 22) × (at < size) × AllInside size rs
 
 module _ (script : List ℕ) where
   reads_inside : (most at : ℕ) → AllInside (length script) (reads_from most script at)
@@ -41,15 +37,15 @@ module _ (script : List ℕ) where
   gather_inside : (rs : List Read) (s t : List ℕ) (l : Option ℕ) → AllInside (length script) rs → Inside (length script) (gather_reads rs s t l).ending
   gather_inside [] s t l all = tt
   gather_inside (End ∷ rs) s t l all = tt
-  gather_inside (Refused n at ∷ rs) s t l all = (all.0, all.1)
+  gather_inside (Refused r at ∷ rs) s t l all = (all.0, all.1)
   gather_inside (Next (Setup (Source b)) at ∷ rs) s t l all = gather_inside rs (s ++ (b ∷ [])) t l all.1
   gather_inside (Next (Setup (Target b)) at ∷ rs) s t l all = gather_inside rs s (t ++ (b ∷ [])) l all.1
-  gather_inside (Next (Setup (Limit n)) at ∷ rs) s t none all = gather_inside rs s t (some n) all.1
-  gather_inside (Next (Setup (Limit n)) at ∷ rs) s t (some m) all = (omega arith, all.0)
-  gather_inside (Next Compile at ∷ rs) s t none all = (omega arith, all.0)
-  gather_inside (Next Compile at ∷ rs) s t (some n) all = all.0
+  gather_inside (Next (Setup (Limit n)) at ∷ rs) s t None all = gather_inside rs s t (Some n) all.1
+  gather_inside (Next (Setup (Limit n)) at ∷ rs) s t (Some m) all = (omega arith, all.0)
+  gather_inside (Next Compile at ∷ rs) s t None all = (omega arith, all.0)
+  gather_inside (Next Compile at ∷ rs) s t (Some n) all = all.0
   gather_inside (Next (Call c) at ∷ rs) s t l all = (omega arith, all.0)
 
   pub ends_inside : Inside (length script) (gathered script).ending
   unfolding gathered reads
-  ends_inside = gather_inside (reads script 0) [] [] none (reads_inside (suc (length script)) 0)
+  ends_inside = gather_inside (reads script 0) [] [] None (reads_inside (suc (length script)) 0)

@@ -1,5 +1,4 @@
-pub mod AddingBytes
+pub mod KeptBytes
 pub mod GatherLoop
-pub mod Take
 pub mod WithLimit
 pub mod Endings

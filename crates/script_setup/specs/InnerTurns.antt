@@ -1,41 +1,31 @@
--- Promises of the private functions that take one command before 04.
-use Rattle.std.specs.Prelude.{ℕ, Bool, true, false, not, cond}
-use Rattle.script_commands.specs.declared.Setup.{Setup as SetupCommand}
-use Rattle.script_commands.specs.declared.Setup.TheVariants.{Source, Target, Limit}
-use Rattle.script_commands.specs.declared.Command.{Command}
-use Rattle.script_commands.specs.declared.Command.TheVariants.{Setup, Compile, Call}
+-- The promise of the private function that takes one read of the setup.
+use Rattle.std.specs.Prelude.{◌≡◌, ℕ, List, [], ◌∷◌, Option, None, Some}
 use Rattle.script_commands.specs.declared.Read.{Read}
 use Rattle.script_commands.specs.declared.Read.TheVariants.{End, Next, Refused}
+use Rattle.script_commands.specs.Reading.{reads_by}
 use Rattle.script_setup.specs.declared.Ending.{Ending}
-use Rattle.script_setup.specs.declared.Ending.TheVariants.{End as AtEnd, Refused as AtRefusal, Compile as AtCompile}
 use Rattle.script_setup.specs.declared.Drawing.{Drawing}
-use Rattle.script_setup.specs.declared.turns.Gathering.{Gathering}
-use Rattle.script_setup.specs.InnerAdding.{given}
+use Rattle.script_setup.specs.Gathering.{Given, ended, gather_reads, Draws}
 
-abbrev pub stopped : Drawing → Ending → Gathering
-stopped d e = record { gathered = record { drawing = d; ending = e }; going = false }
+-- a setup that the code's struct has so far, and that is completed by the reads that follow
+pub record GoesOn (d : Drawing) (more : List Read) (total : Given) : Type 0 where
+  pub source : List ℕ
+  pub target : List ℕ
+  pub limit : Option ℕ
+  pub draws : Draws d source target limit
+  pub rest : gather_reads more source target limit ≡ total
 
--- whether a command is out of turn, by whether the limit is given
-abbrev pub repeated : Bool → SetupCommand → Bool
-repeated limited (Source b) = false
-repeated limited (Target b) = false
-repeated limited (Limit n) = limited
+-- what the reader reads after an end of the setup: only a command is passed
+abbrev pub left_by : Read → List Read → List Read
+left_by End more = End ∷ []
+left_by (Next c at) more = more
+left_by (Refused r at) more = Refused r at ∷ []
 
-abbrev pub out_of_turn : Bool → Command → Bool
-out_of_turn limited (Setup c) = repeated limited c
-out_of_turn limited Compile = not limited
-out_of_turn limited (Call c) = true
-
--- a command in turn at an offset; a call never is, so its case does not matter
-abbrev pub in_turn : Drawing → Command → ℕ → Gathering
-in_turn d (Setup c) at = record { gathered = record { drawing = given d c; ending = AtEnd }; going = true }
-in_turn d Compile at = stopped d (AtCompile at)
-in_turn d (Call c) at = stopped d (AtCompile at)
-
-abbrev pub taken : Drawing → Command → ℕ → Gathering
-taken d c at = cond (out_of_turn d.limited c) (stopped d (AtRefusal 22 at)) (in_turn d c at)
-
-abbrev pub added : Drawing → Read → Gathering
-added d End = stopped d AtEnd
-added d (Next c at) = taken d c at
-added d (Refused n at) = stopped d (AtRefusal n at)
+-- The setup d goes on as d' after a command, or ends as d'; `more` is what is read after the command.
+abbrev pub Takes : Drawing → Read → Drawing → Option Ending → Type 0
+Takes d r d' (Some e) =
+    (s t : List ℕ) (l : Option ℕ) (more : List Read) → Draws d s t l
+    → Draws d' s t l × (gather_reads (reads_by r more) s t l ≡ ended s t l e (left_by r more))
+Takes d End d' None = ⊥
+Takes d (Next c at) d' None = (more : List Read) (total : Given) → GoesOn d (Next c at ∷ more) total → GoesOn d' more total
+Takes d (Refused r at) d' None = ⊥

@@ -1,58 +1,88 @@
 // The setup of a script, its commands before 04: the two drawings and the limit.
 #![tactic(auto)]
 
-mod adding;
-mod turns;
-
-ghost use Rattle.std.specs.Prelude.{◌≡◌, []};
+ghost use Rattle.std.specs.Prelude.{◌≡◌, [], None};
 ghost use Rattle.script_commands.specs.Reading.{reads};
 ghost use Rattle.script_setup.specs.Gathering.{gather_reads, gathered, Gathers};
-ghost use Rattle.std.proofs.Math.Option.{none};
+ghost use Rattle.script_setup.specs.InnerTurns.{Takes};
 
-use script_commands::Reader;
+use arrayvec::ArrayVec;
+use refusal::Refusal;
+use script_commands::{Command, Read, Reader, Setup, reader_at};
 
-// The drawings and the limit. Each array has one place more than a tree may have nodes, so that a drawing that is cut off here has a fault in any
-// case.
-#[derive(Clone, Copy)]
+// The drawings and the limit. Each drawing has room for one byte more than a tree may have nodes, so that one that is cut off here has a fault in
+// any case.
+#[derive(Drop)]
 pub struct Drawing {
-    pub source: [u8; 33],
-    pub source_nodes: usize,
-    pub target: [u8; 65],
-    pub target_nodes: usize,
-    pub limit: u32,
-    pub limited: bool,
+    pub source: ArrayVec<u8, 33>,
+    pub target: ArrayVec<u8, 65>,
+    pub limit: Option<u32>,
 }
 
-// How the setup ends: with the script; with a refusal, its number and its command's offset; or with an 04 in turn, and its offset.
+// How the setup ends: with the script; with a refusal and its command's offset; or with an 04 in turn, and its offset. It is an enum of its own, as
+// `Read` is.
 #[derive(Clone, Copy)]
 pub enum Ending {
     End,
-    Refused(u8, usize),
+    Refused(Refusal, usize),
     Compile(usize),
 }
 
-#[derive(Clone, Copy)]
+#[derive(Drop)]
 pub struct Gathered {
     pub drawing: Drawing,
     pub ending: Ending,
 }
 
+impl Drawing {
+    // Takes one read: adds what it gives, or answers how the setup ends with it.
+    fn take(&mut self, read: Read) -> Option<Ending>
+        ensures { Takes self.old read self.new result }
+    {
+        match read {
+            Read::Next(Command::Setup(Setup::Source(children)), _) => {
+                let _ = self.source.try_push(children);
+                None
+            }
+            Read::Next(Command::Setup(Setup::Target(children)), _) => {
+                let _ = self.target.try_push(children);
+                None
+            }
+            Read::Next(Command::Setup(Setup::Limit(limit)), _) if self.limit.is_none() => {
+                self.limit = Some(limit);
+                None
+            }
+            Read::Next(Command::Compile, at) if self.limit.is_some() => Some(Ending::Compile(at)),
+            Read::Next(_, at) => Some(Ending::Refused(Refusal::OutOfTurn, at)),
+            Read::Refused(refusal, at) => Some(Ending::Refused(refusal, at)),
+            Read::End => Some(Ending::End),
+        }
+    }
+}
+
 // Gathers the setup from the reader's next command on. If it ends with an 04 in turn, the reader is then past this 04.
 pub fn gather<'s, 'a>(reader: &'s mut Reader<'a>) -> Gathered
-    ensures { Gathers (gather_reads (reads reader.old.script.now reader.old.at) [] [] none) result × (reader.new.script ≡ reader.old.script) × (reads reader.old.script.now reader.new.at ≡ (gather_reads (reads reader.old.script.now reader.old.at) [] [] none).left) }
+    ensures gathers { Gathers (gather_reads (reads reader.old.script.now reader.old.at) [] [] None) result }
+    ensures script { reader.new.script ≡ reader.old.script }
+    ensures left { reads reader.old.script.now reader.new.at ≡ (gather_reads (reads reader.old.script.now reader.old.at) [] [] None).left }
 {
-    let mut state = turns::start();
-    while state.going {
-        let read = reader.next();
-        state = turns::add(state, read);
+    let mut drawing = Drawing {
+        source: ArrayVec::new(),
+        target: ArrayVec::new(),
+        limit: None,
+    };
+    loop {
+        if let Some(ending) = drawing.take(reader.next()) {
+            return Gathered { drawing, ending };
+        }
     }
-    state.gathered
 }
 
 // The setup of a whole script, for a caller that needs nothing after it.
+#[tactic(auto, unfolding(crate::specs::Gathering::gathered))]
 pub fn gathered_of(script: &[u8]) -> Gathered
     ensures { Gathers (gathered script.now) result }
 {
-    let mut reader = script_commands::reader_at(script, 0);
+    let mut reader = reader_at(script, 0);
     gather(&mut reader)
 }

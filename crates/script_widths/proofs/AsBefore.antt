@@ -1,14 +1,9 @@
 -- A script that reaches neither 09 nor 0A prints what it printed. At an offset with another first byte both readers read the same and go on at the same
 -- offset (`reads-alike`); so they do along the whole run, and the texts are the same (`text-alike`).
-use mathlib.Core.Path.{◌≡◌, refl, sym, ap, subst, ◌∙◌}
-use mathlib.Core.Logic.{◌≢◌}
-use Prim.Native.Nat.{ℕ, zero, suc, ◌+◌}
-use mathlib.Core.List.{List, [], ◌∷◌, ◌++◌}
-use mathlib.Core.Bool.{Bool, true, false, cond}
-use mathlib.Core.Option.{none}
-use lib.ListN.{length, take, drop}
-use lib.Dec.{eqb, leb}
+use Rattle.std.proofs.Common.{◌≡◌, ◌≢◌, ℕ, zero, suc, ◌+◌, List, [], ◌∷◌, ◌++◌, None, Bool, true, false, cond, length, take, drop, eqb, leb}
+use Rattle.std.proofs.Common.{refl, sym, ap, subst, ◌∙◌}
 use borrow.Author.Tests.{eqb-true, ne_eqb}
+use Rattle.refusal.specs.declared.Refusal.TheVariants.{CutShort}
 use Rattle.script_commands.specs.declared.Command.{Command}
 use Rattle.script_commands.specs.declared.Read.{Read}
 use Rattle.script_commands.specs.declared.Read.TheVariants.{End, Next, Refused}
@@ -33,13 +28,13 @@ module _ (code : ℕ) (bytes : List ℕ) (at : ℕ) where
   unfolding sized Before.sized
   one k c now before e others = by_code (eqb code k) refl
     where
-      by_size : (t : Bool) → size_by code ≡ Before.size_of c → Alike at (size_by code) (cond t (Next c at) (Refused 21 at)) (cond t (Next c at) (Refused 21 at))
+      by_size : (t : Bool) → size_by code ≡ Before.size_of c → Alike at (size_by code) (cond t (Next c at) (Refused CutShort at)) (cond t (Next c at) (Refused CutShort at))
       by_size true q = record { read = refl; next = ap (λ (n : ℕ). at + n) q }
       by_size false q = record { read = refl; next = refl }
 
       by_code : (t : Bool) → eqb code k ≡ t
-          → Alike at (size_by code) (cond t (cond (leb (size_by code) (length bytes)) (Next c at) (Refused 21 at)) now)
-          (cond t (cond (leb (Before.size_of c) (length bytes)) (Next c at) (Refused 21 at)) before)
+          → Alike at (size_by code) (cond t (cond (leb (size_by code) (length bytes)) (Next c at) (Refused CutShort at)) now)
+          (cond t (cond (leb (Before.size_of c) (length bytes)) (Next c at) (Refused CutShort at)) before)
       by_code true q =
           let same : size_by code ≡ Before.size_of c = ap size_by (eqb-true code k q) ∙ e in
           rw (← same) (by_size (leb (size_by code) (length bytes)) same)
@@ -105,4 +100,4 @@ module _ (script : List ℕ) where
 
 pub as_before : AsBefore
 unfolding reached output Before.output reads Before.reads
-as_before script n = text-alike script (suc (length script)) 0 (drawing [] [] none) n
+as_before script n = text-alike script (suc (length script)) 0 (drawing [] [] None) n

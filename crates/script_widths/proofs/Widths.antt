@@ -1,13 +1,8 @@
 -- Commands of both widths. A rank of eight bytes that is below 2^32 begins with four zeros, and the other four are the rank of 05 or 06. Either kind of
 -- step is read as a step, and either kind of push as a push, so that they are out of turn together and counted together.
-use mathlib.Core.Path.{◌≡◌, refl, sym, subst, ◌∙◌}
-use mathlib.Core.Logic.{◌⊎◌, inl, inr}
-use Prim.Native.Nat.{ℕ, zero, suc, ◌+◌, ◌≤◌, ◌<◌}
-use native.Mathlib.Omega.{arith}
-use mathlib.Core.List.{List, [], ◌∷◌, ◌++◌, append-nil}
-use mathlib.Core.Option.{Option}
-use lib.ListN.{length, drop, get_or, length-append, length-drop}
-use lib.Seq.{drop-cons}
+use Rattle.std.proofs.Common.{◌≡◌, ◌⊎◌, inl, inr, ℕ, zero, suc, ◌+◌, ◌≤◌, ◌<◌, List, [], ◌∷◌, ◌++◌, Option, length, drop, get_or}
+use Rattle.std.proofs.Common.{refl, sym, subst, ◌∙◌, arith, length-append, length-drop, drop-cons}
+use Rattle.std.proofs.lemmas.List.{append-nil}
 use borrow.Author.Tests.{lt-ltb, le-ltb}
 use Rattle.pifo_model.specs.Tree.{Step, step}
 use Rattle.pifo_model.specs.Machine.{Machine}
@@ -20,7 +15,7 @@ use Rattle.script_commands.specs.declared.Read.{Read}
 use Rattle.script_commands.specs.declared.Read.TheVariants.{Next}
 use Rattle.script_commands.specs.Batches.{after}
 use Rattle.script_commands.specs.Reading.{number, operand, size_by, command_by, command_of, read_at, next_at, reads}
-use Rattle.script_commands.proofs.OperandBytes.{complete}
+use Rattle.script_commands.proofs.FirstByte.{complete}
 use Rattle.script_commands.proofs.ReadsFrom.{reads_by_lem}
 use Rattle.script_run.specs.Execute.{drawing, serving, execute}
 use Rattle.script_run.specs.Output.{text_of}

@@ -1,7 +1,7 @@
 -- The reader of scripts before request 2.5, as its definition was, and the text that a script printed; for the statement `AsBefore` in Widths alone. The
 -- size of a command went by the command, and 09 and 0A were unknown.
-use Rattle.std.specs.Prelude.{ℕ, zero, suc, ◌+◌, List, [], ◌∷◌, cond, length, drop, eqb, leb}
-use Rattle.std.proofs.Math.Option.{none}
+use Rattle.std.specs.Prelude.{ℕ, zero, suc, ◌+◌, List, [], ◌∷◌, None, cond, length, drop, eqb, leb}
+use Rattle.refusal.specs.declared.Refusal.TheVariants.{CutShort, UnknownCommand}
 use Rattle.script_commands.specs.Reading.{operand, reads_by}
 use Rattle.script_commands.specs.declared.Setup.{Setup as SetupCommand}
 use Rattle.script_commands.specs.declared.Setup.TheVariants.{Source, Target, Limit}
@@ -32,12 +32,12 @@ size_of (Call c) = call_size c
 
 -- the command c at an offset, if `bytes` is the script from there on; 21 if the script ends within the command
 unfoldable pub sized : List ℕ → ℕ → Command → Read
-sized bytes at c = cond (leb (size_of c) (length bytes)) (Next c at) (Refused 21 at)
+sized bytes at c = cond (leb (size_of c) (length bytes)) (Next c at) (Refused CutShort at)
 
 -- the command by its first byte, in the order of the tests 20, 21
 unfoldable pub command_by : ℕ → List ℕ → ℕ → Read
 command_by code bytes at =
-    let f7 = cond (eqb code 7) (sized bytes at (Call Pop)) (Refused 20 at) in
+    let f7 = cond (eqb code 7) (sized bytes at (Call Pop)) (Refused UnknownCommand at) in
     let f6 = cond (eqb code 6) (sized bytes at (Call (Push (operand 1 4 bytes) (operand 5 4 bytes)))) f7 in
     let f5 = cond (eqb code 5) (sized bytes at (Call (Step (operand 1 1 bytes) (operand 2 4 bytes)))) f6 in
     let f4 = cond (eqb code 4) (sized bytes at Compile) f5 in
@@ -57,7 +57,7 @@ read_at script at = command_of (drop at script) at
 abbrev pub behind : ℕ → Read → ℕ
 behind at End = at
 behind at (Next c offset) = at + size_of c
-behind at (Refused n offset) = at
+behind at (Refused r offset) = at
 
 unfoldable pub next_at : List ℕ → ℕ → ℕ
 next_at script at = behind at (read_at script at)
@@ -74,4 +74,4 @@ reads script at = reads_from (suc (length script)) script at
 
 -- the whole output of gatewalk, as in Output of the crate `script_run`
 unfoldable pub output : List ℕ → List ℕ
-output script = text_of (reads script 0) (drawing [] [] none)
+output script = text_of (reads script 0) (drawing [] [] None)

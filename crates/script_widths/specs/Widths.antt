@@ -1,6 +1,5 @@
 -- What request 2.5 promises about scripts.
-use Rattle.std.specs.Prelude.{◌≡◌, ◌≢◌, ◌⊎◌, ℕ, ◌+◌, ◌≤◌, ◌<◌, List, [], ◌∷◌, length, get_or}
-use Rattle.std.proofs.Math.Option.{Option}
+use Rattle.std.specs.Prelude.{◌≡◌, ◌≢◌, ◌⊎◌, ℕ, ◌+◌, ◌≤◌, ◌<◌, List, [], ◌∷◌, Option, length, get_or}
 use Rattle.pifo_model.specs.Machine.{Machine}
 use Rattle.queue_state.specs.State.{Packet}
 use Rattle.script_lines.specs.Lines.{no_line}

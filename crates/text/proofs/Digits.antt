@@ -1,17 +1,9 @@
--- Numbers as text: a decimal number is its other digits followed by its last digit; how many digits a number takes; and hexadecimal digits, computed
--- from the last to the first.
-use mathlib.Core.Path.{◌≡◌, refl, sym, ap, ◌∙◌}
-use Prim.Native.Nat.{ℕ, zero, suc, ◌+◌, ◌/◌, ◌%◌, ◌^◌, ◌-◌, ◌≤◌, ◌<◌}
+-- Numbers as text: a decimal number is its other digits followed by its last digit, and so is one in base sixteen; how many digits a number takes.
+use Rattle.std.proofs.Common.{◌≡◌, refl, ap, ℕ, zero, suc, ◌+◌, ◌/◌, ◌%◌, ◌^◌, ◌-◌, ◌≤◌, ◌<◌, Bool, true, false, cond, ltb, arith}
+use Rattle.std.proofs.Common.{List, [], ◌∷◌, ◌++◌, length, length-append}
 use native.Mathlib.Nat.{not-suc-le-zero, pow-suc, div-lt_self}
-use native.Mathlib.Omega.{arith}
-use mathlib.Core.Bool.{Bool, true, false, cond}
-use mathlib.Core.List.{List, [], ◌∷◌, ◌++◌, append_assoc, append-nil}
-use lib.ListN.{length, drop, set, length-append, length-set, drop_of_length-le}
-use lib.Seq.{drop-cons, get_or-set_same, drop-set-lt}
-use lib.Dec.{ltb}
 use borrow.Author.Tests.{lt-ltb, le-ltb, ltb-true, ltb-false}
-use Rattle.text.specs.Text.{decimal_last, decimal, hex_digit, hex_last, hex8, Puts}
-use Rattle.text.proofs.Written.{puts_as, puts_then}
+use Rattle.text.specs.Text.{decimal_last, decimal, hex_digit, hex_last, hex8}
 
 cond_else : (t : Bool) {a b : List ℕ} → (t ≡ false → a ≡ b) → cond t [] a ≡ cond t [] b
 cond_else true f = refl
@@ -36,16 +28,11 @@ decimal_digit n h =
     let e : n % 10 ≡ n = omega arith in
     rw (lt-ltb n 10 h, e)
 
-decimal_more : (n : ℕ) → 10 ≤ n → decimal n ≡ decimal (n / 10) ++ ((48 + n % 10) ∷ [])
+pub decimal_more : (n : ℕ) → 10 ≤ n → decimal n ≡ decimal (n / 10) ++ ((48 + n % 10) ∷ [])
 unfolding decimal decimal_last
 decimal_more n h =
     let e = enough n (suc (n / 10)) (n / 10) (shorter n n (omega arith) h) (omega arith) in
     rw (le-ltb n 10 h) (ap (λ (l : List ℕ). l ++ ((48 + n % 10) ∷ [])) e)
-
--- the last digit is written behind the digits before it
-pub puts_last : {before middle after : List ℕ} {at place end : ℕ} (n : ℕ) → 10 ≤ n → Puts before at (decimal (n / 10)) middle place
-    → Puts middle place ((48 + n % 10) ∷ []) after end → Puts before at (decimal n) after end
-puts_last n h p q = puts_as (sym (decimal_more n h)) (puts_then p q)
 
 -- a number below 10 ^ k takes at most k digits, for k at least 1
 pub length-decimal : (k n : ℕ) → n < 10 ^ suc k → length (decimal n) ≤ suc k
@@ -89,52 +76,12 @@ pub length-hex8 : (n : ℕ) → length (hex8 n) ≡ 8
 unfolding hex8
 length-hex8 n = length-hex_last 8 n
 
-pub hex_digit_low : (d : ℕ) → d < 10 → 48 + d ≡ hex_digit d
-unfolding hex_digit
-hex_digit_low d h = rw (lt-ltb d 10 h)
-
-pub hex_digit_high : (d : ℕ) → 10 ≤ d → 55 + d ≡ hex_digit d
-unfolding hex_digit
-hex_digit_high d h = rw (le-ltb d 10 h)
-
--- The last of n's eight digits are in `text` from i on, and the first i digits are those of `rest`.
-pub record Spelt (n i rest : ℕ) (text : List ℕ) : Type 0 where
-  pub in_8 : i ≤ 8
-  pub wide : length text ≡ 8
-  pub is : hex8 n ≡ hex_last i rest ++ drop i text
-
-pub spelt_none : (n : ℕ) (text : List ℕ) → length text ≡ 8 → Spelt n 8 n text
-unfolding hex8
-spelt_none n text e =
-    record {
-      in_8 = omega arith;
-      wide = e;
-      is = sym (append-nil (hex_last 8 n)) ∙ ap (λ (l : List ℕ). hex_last 8 n ++ l) (sym (drop_of_length-le text {i = 8} (omega arith)));
-    }
-
--- one more digit
-pub spelt_next : (n i rest d : ℕ) (text : List ℕ) → Spelt n i rest text → 0 < i → d ≡ hex_digit (rest % 16)
-    → Spelt n (i - 1) (rest / 16) (set text (i - 1) d)
+pub hex_none : (k n : ℕ) → k ≤ 0 → hex_last k n ≡ []
 unfolding hex_last
-spelt_next n zero rest d text s h e = absurd (not-suc-le-zero h)
-spelt_next n (suc i) rest d text s h e =
-    let p : suc i - 1 ≡ i = omega arith in
-    let in_text : i < length text = omega (arith, s.in_8, s.wide) in
-    let digit = get_or-set_same text i d 0 in_text in
-    let kept : drop i (set text i d) ≡ hex_digit (rest % 16) ∷ drop (suc i) text =
-    drop-cons (set text i d) i 0 (omega (arith, length-set text i d))
-    ∙ ap (λ (x : ℕ). x ∷ drop (suc i) (set text i d)) (digit ∙ e)
-    ∙ ap (λ (l : List ℕ). hex_digit (rest % 16) ∷ l) (drop-set-lt (suc i) text i d (omega arith)) in
-    rw p
-    record {
-      in_8 = omega (arith, s.in_8);
-      wide = length-set text i d ∙ s.wide;
-      is =
-          s.is
-          ∙ append_assoc (hex_last i (rest / 16)) (hex_digit (rest % 16) ∷ []) (drop (suc i) text)
-          ∙ ap (λ (l : List ℕ). hex_last i (rest / 16) ++ l) (sym kept);
-    }
+hex_none zero n h = refl
+hex_none (suc k) n h = absurd (omega (arith, h))
 
-pub spelt_all : (n i rest : ℕ) (text : List ℕ) → i ≡ 0 → Spelt n i rest text → text ≡ hex8 n
+pub hex_more : (k n : ℕ) → 0 < k → hex_last k n ≡ hex_last (k - 1) (n / 16) ++ (hex_digit (n % 16) ∷ [])
 unfolding hex_last
-spelt_all n i rest text e s = sym (s.is ∙ ap (λ (j : ℕ). hex_last j rest ++ drop j text) e)
+hex_more zero n h = absurd (omega (arith, h))
+hex_more (suc k) n h = let e : suc k - 1 ≡ k = omega arith in rw e refl

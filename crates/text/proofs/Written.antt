@@ -3,12 +3,11 @@
 -- `puts_then`.
 use mathlib.Core.Path.{◌≡◌, refl, sym, ap, ◌∙◌}
 use Prim.Native.Nat.{ℕ, suc, ◌+◌, ◌≤◌, ◌<◌, min}
-use native.Mathlib.Numerals.{add-one}
 use native.Mathlib.Omega.{arith}
 use mathlib.Core.Bool.{Bool, true, false}
 use mathlib.Core.List.{List, [], ◌∷◌, ◌++◌}
-use lib.ListN.{length, get_or, take, drop, set, length-set, length-append}
-use lib.Seq.{set_out, drop-nil, take-suc}
+use lib.ListN.{length, take, drop, set, length-set, length-append}
+use lib.Seq.{set_out, drop-nil}
 use lib.Dec.{leb}
 use borrow.Author.Tests.{leb-true, leb-false}
 use Rattle.text.specs.Text.{written, Puts}
@@ -59,8 +58,8 @@ module _ (buffer : List ℕ) (at byte : ℕ) where
   unfolding written
   byte_in h = record { bytes = refl; next = omega arith }
 
-  pub byte_out : length buffer ≤ at → Puts buffer at (byte ∷ []) buffer (length buffer)
-  byte_out h = record { bytes = sym (written_past buffer at (byte ∷ []) h); next = omega arith }
+  pub byte_out : length buffer ≡ at → Puts buffer at (byte ∷ []) buffer at
+  byte_out e = record { bytes = sym (written_past buffer at (byte ∷ []) (omega arith)); next = omega arith }
 
 pub puts_none : (buffer : List ℕ) (at place : ℕ) → place ≡ min at (length buffer) → Puts buffer at [] buffer place
 unfolding written
@@ -68,13 +67,6 @@ puts_none buffer at place e = record { bytes = refl; next = omega arith }
 
 pub puts_length : {before text after : List ℕ} {at place : ℕ} → Puts before at text after place → length after ≡ length before
 puts_length {before} {text} {after} {at} p = ap length p.bytes ∙ length-written before at text
-
--- the empty text, after a text
-pub puts_still : {before text after : List ℕ} {at place : ℕ} → Puts before at text after place → Puts after place [] after place
-puts_still {before} {text} {after} {at} {place} p = puts_none after place place (omega (arith, p.next, puts_length p))
-
-pub puts_as : {before s t after : List ℕ} {at place : ℕ} → s ≡ t → Puts before at s after place → Puts before at t after place
-puts_as e p = rw e at p
 
 pub puts_then : {before s middle t after : List ℕ} {at place end : ℕ} → Puts before at s middle place → Puts middle place t after end
     → Puts before at (s ++ t) after end
@@ -91,11 +83,10 @@ puts_then {before} {s} {middle} {t} {after} {at} {place} p q =
       next = omega (arith, length-append s t, p.next, q.next, same);
     }
 
--- one more byte of a word
-pub puts_next : {before middle after : List ℕ} {at place end : ℕ} (word : List ℕ) (i : ℕ) → i < length word
-    → Puts before at (take i word) middle place → Puts middle place (get_or word i 0 ∷ []) after end
-    → Puts before at (take (i + 1) word) after end
-puts_next word i h p q = rw (add-one, take-suc word i 0) (puts_then p q)
+-- a place past the end is the same as the end
+pub puts_from : {before text after : List ℕ} {at place : ℕ} → Puts before (min at (length before)) text after place → Puts before at text after place
+puts_from {before} {text} {after} {at} p =
+    record { bytes = p.bytes ∙ written-min before at text; next = omega (arith, p.next) }
 
 -- the whole text from the start of a buffer, by list operations
 pub puts_at_0 : {before text after : List ℕ} {place : ℕ} → Puts before 0 text after place

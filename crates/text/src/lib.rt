@@ -1,55 +1,97 @@
-// Text that is put into a caller's buffer at a place. Each call writes what fits and returns the place after its text, where the next call goes on.
-// If that is below the buffer's length, all of the text was written.
+// Text that is put into a caller's buffer.
 #![tactic(auto)]
 
-ghost use Rattle.text.specs.Text.{decimal, hex_digit, Puts};
+ghost use Rattle.text.specs.Text.{decimal, hex_digit, hex_last};
 ghost use Rattle.text.specs.Text.{hex8 as text_hex8};
-ghost use Rattle.std.specs.Prelude.{◌≡◌, ◌<◌, min, ◌∷◌, []};
+ghost use Rattle.std.specs.Prelude.{◌≡◌, ◌<◌, ◌≤◌, length, ◌∷◌, []};
 
-// One byte.
-pub fn put(out: &mut [u8], at: usize, byte: u8) -> usize
-    ensures { Puts out.old at (byte ∷ []) out.new result }
-{
-    if at < out.len() {
-        out[at] = byte;
-        at + 1
-    } else {
-        out.len()
-    }
+// A buffer with the place in it where the next text goes. Each call puts what fits and moves the place behind its text, but not past the end. If the
+// place is below the buffer's length, all of the text was put.
+#[derive(Drop)]
+pub struct Text<'a> {
+    out: &'a mut [u8],
+    at: usize,
+    ghost within: { at ≤ length out.now },
 }
 
-// A place, but not past the end.
-fn within(at: usize, end: usize) -> usize
-    ensures { result ≡ min at end }
-{
-    if at < end { at } else { end }
-}
+impl<'a> Text<'a> {
+    ghost use Rattle.text.specs.Appending.{Begins, Appends};
 
-// The bytes of a word.
-pub fn put_word(out: &mut [u8], at: usize, word: &[u8]) -> usize
-    ensures { Puts out.old at word.now out.new result }
-{
-    let mut place = within(at, out.len());
-    let mut i = 0;
-    while i < word.len() {
-        place = put(out, place, word[i]);
-        i += 1;
+    // The text that begins at the start of a buffer.
+    pub fn new(out: &'a mut [u8]) -> Text<'a>
+        ensures { Begins out.entry 0 result }
+    {
+        Text { out, at: 0 }
     }
-    place
-}
 
-// A number in base ten: the digits before its last one, then that.
-pub fn put_decimal(out: &mut [u8], at: usize, number: usize) -> usize
-    ensures { Puts out.old at (decimal number) out.new result }
-{
-    if number < 10 {
-        return put(out, at, 48 + number as u8);
+    // The text that begins at a place of a buffer, or at its end if the place lies past that.
+    pub fn behind(out: &'a mut [u8], at: usize) -> Text<'a>
+        ensures { Begins out.entry at result }
+    {
+        let at = at.min(out.len());
+        Text { out, at }
     }
-    let place = put_decimal(out, at, number / 10);
-    put(out, place, 48 + (number % 10) as u8)
+
+    // The place behind the text.
+    pub fn place(&self) -> usize
+        ensures { result ≡ self.now.at }
+    {
+        self.at
+    }
+
+    // One byte.
+    pub fn put(&mut self, byte: u8)
+        ensures { Appends self.old (byte ∷ []) self.new }
+    {
+        if self.at < self.out.len() {
+            self.out[self.at] = byte;
+            self.at += 1;
+        }
+    }
+
+    // The bytes of a word.
+    pub fn put_word(&mut self, word: &[u8])
+        ensures { Appends self.old word.now self.new }
+    {
+        for &byte in word {
+            self.put(byte);
+        }
+    }
+
+    // A number in base ten: the digits before its last one, then that. By hand, as `decimal` has the same two cases: no law about `itoa` is needed.
+    pub fn put_decimal(&mut self, number: usize)
+        ensures { Appends self.old (decimal number) self.new }
+    {
+        // The casts of this file lose nothing, and a `try_from` would give a Result that is never an error.
+        if number < 10 {
+            self.put(48 + number as u8);
+        } else {
+            self.put_decimal(number / 10);
+            self.put(48 + (number % 10) as u8);
+        }
+    }
+
+    // The last `digits` digits of a number in base sixteen: those before its last one, then that.
+    fn put_hex(&mut self, digits: usize, number: u32)
+        ensures { Appends self.old (hex_last digits number) self.new }
+    {
+        if digits > 0 {
+            self.put_hex(digits - 1, number / 16);
+            self.put(hex_digit(number % 16));
+        }
+    }
+
+    // A number as eight digits in base sixteen.
+    #[tactic(auto, unfolding(crate::specs::Text::hex8))]
+    pub fn put_hex8(&mut self, number: u32)
+        ensures { Appends self.old (text_hex8 number) self.new }
+    {
+        self.put_hex(8, number);
+    }
 }
 
 // The ASCII byte of a digit in base sixteen.
+#[tactic(auto, unfolding(crate::specs::Text::hex_digit))]
 fn hex_digit(digit: u32) -> u8
     requires { digit < 16 }
     ensures { result ≡ hex_digit digit }
@@ -59,26 +101,4 @@ fn hex_digit(digit: u32) -> u8
     } else {
         55 + digit as u8
     }
-}
-
-// The eight digits of a number in base sixteen, made from the last to the first.
-fn hex8(number: u32) -> [u8; 8]
-    ensures { result ≡ text_hex8 number }
-{
-    let mut text = [0u8; 8];
-    let mut rest = number;
-    let mut i = 8;
-    while i > 0 {
-        i -= 1;
-        text[i] = hex_digit(rest % 16);
-        rest /= 16;
-    }
-    text
-}
-
-// A number as eight digits in base sixteen.
-pub fn put_hex8(out: &mut [u8], at: usize, number: u32) -> usize
-    ensures { Puts out.old at (text_hex8 number) out.new result }
-{
-    put_word(out, at, &hex8(number))
 }

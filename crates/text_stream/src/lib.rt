@@ -1,7 +1,7 @@
 // A program's standard input and output, and what it says on standard error where they fail.
 #![tactic(auto)]
 
-ghost use Rattle.std.specs.Prelude.{◌≤◌, length};
+ghost use Rattle.std.specs.Prelude.{◌≤◌, length, IfSome};
 
 use std::io::Read;
 
@@ -12,12 +12,25 @@ pub fn print(rt: &(impl Print + Eprint), text: &[u8]) {
     }
 }
 
-// Reads standard input until the buffer is full, the input ends or a read fails, and returns how many bytes it put at the start of the buffer. A read that
-// a signal interrupts counts as one that failed.
+// Reads standard input until the buffer is full or the input ends, and returns the bytes read. If the input fails before, it writes an error message
+// to standard error.
+pub fn read_all<'a>(rt: &(impl Input + Eprint), buffer: &'a mut [u8]) -> Option<&'a [u8]>
+    ensures { IfSome result (λ part. length part.now ≤ length buffer.old) }
+{
+    let count = read_full(rt, buffer);
+    if input_failed(rt, count, buffer.len()) {
+        return None;
+    }
+    Some(&buffer[..count])
+}
+
+// Reads standard input until the buffer is full, the input ends or a read fails, and returns how many bytes it put at the start of the buffer. A read
+// that a signal interrupts counts as one that failed.
 pub fn read_full(rt: &impl Input, buffer: &mut [u8]) -> usize
     ensures { result ≤ length buffer.new }
 {
     let mut input = rt.reader();
+    // A read says how many bytes it gave, so no `for` counts them.
     let mut done = 0;
     while done < buffer.len() {
         match input.read(&mut buffer[done..]) {
@@ -28,20 +41,18 @@ pub fn read_full(rt: &impl Input, buffer: &mut [u8]) -> usize
     done
 }
 
-// Whether standard input failed before its end, where `count` bytes were read into a buffer of `room` bytes; then it writes an error message to standard
-// error. At the end of the input a further read gives no byte. A directory, a closed input and one that does not wait for its bytes fail.
+// Whether standard input failed before its end, where `count` bytes were read into a buffer of `room` bytes; then it writes an error message to
+// standard error. At the end of the input a further read gives no byte. A directory, a closed input and one that does not wait for its bytes fail.
 pub fn input_failed(rt: &(impl Input + Eprint), count: usize, room: usize) -> bool {
     if room <= count {
         return false;
     }
     let mut next = [0u8; 1];
-    match rt.reader().read(&mut next) {
-        Ok(0) => false,
-        _ => {
-            say(rt, "cannot read all of the input\n");
-            true
-        }
+    if let Ok(0) = rt.reader().read(&mut next) {
+        return false;
     }
+    say(rt, "cannot read all of the input\n");
+    true
 }
 
 // Writes an error message to standard error. Where that fails too, there is nowhere left to say so.

@@ -35,12 +35,5 @@ pub filled_most : (template numbers most : List ℕ) → AtMost numbers most →
 unfolding filled
 filled_most [] numbers most h n = omega arith
 filled_most (byte ∷ template) numbers most h n =
-    let next = cond (eqb byte 35) (suc n) n in
     let here = part_most byte (get_or numbers n 0) (get_or most n 0) (number_most numbers most h n) in
-    omega (
-      arith,
-      length-append (part byte (get_or numbers n 0)) (filled template numbers next),
-      length-append (part byte (get_or most n 0)) (filled template most next),
-      here,
-      filled_most template numbers most h next,
-    )
+    omega (arith, length-append {A = ℕ}, here, filled_most template numbers most h (cond (eqb byte 35) (suc n) n))

@@ -9,7 +9,7 @@ use mathlib.Core.List.{[], ◌∷◌, ◌++◌, append_assoc, append-nil}
 use lib.ListN.{length, drop, length-append}
 use lib.Seq.{drop-length, drop-append_seam}
 use Rattle.base.proofs.Last.{split_last, last_unique}
-use Rattle.topology.specs.Tree.{Topo, Forest, node, fnil, fcons, count, kids, width, size}
+use Rattle.topology.specs.Tree.{Topo, Forest, fnil, fcons, count, kids, width, size}
 use Rattle.topology.specs.Address.{Addr, nth, child, In, sub, Above, addr, ahead, num, subtree, child_of, depth, route}
 use Rattle.topology.proofs.Numbering.{addr_in, num-addr, num_lt, addr-num}
 use Rattle.topology.proofs.Ancestry.{in_front, in_below, in_join, sub-append, num-append, above_from, above_to, addr_inj}

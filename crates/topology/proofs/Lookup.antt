@@ -15,12 +15,10 @@ use Rattle.base.proofs.Part.{drop-part, take_part}
 use Rattle.base.proofs.Tests.{clash}
 use Rattle.topology.specs.Tree.{Topo, Forest, node, fnil, fcons, count, width, code, codes, size, sizes}
 use Rattle.topology.specs.Address.{Above, addr, subtree, child_of}
-use Rattle.topology.specs.Reader.{fault, tree, reading}
+use Rattle.topology.specs.Reader.{fault, tree}
 use Rattle.topology.specs.Branch.{span, branch_end, start, child_at, is_above, toward_from, toward_at, branch_part}
-use Rattle.topology.specs.declared.Found.TheVariants.{Node, Missing}
-use Rattle.topology.specs.declared.Toward.{Toward}
-use Rattle.topology.specs.declared.Toward.TheVariants.{Child, Nowhere}
-use Rattle.topology.specs.declared.Reading.TheVariants.{Tree}
+use Rattle.std.specs.Prelude.{Option, None, Some}
+use Rattle.topology.specs.declared.Child.{Child}
 use Rattle.topology.proofs.Numbering.{addr_in}
 use Rattle.topology.proofs.Ancestry.{above_from, above_to, in_breadth}
 use Rattle.topology.proofs.Children.{HasChild, child_of_lt, child_of_first, child_of_next, subtree-child_of, child-toward}
@@ -58,7 +56,7 @@ part_code bytes n e h = within-tree (tree bytes) (drawn 64 bytes e)
         let l : n < size t = omega (arith, length_code t, ap length c) in
         let s : branch_end bytes n - n ≡ length (code (subtree t n)) =
         omega (arith, end_code t n l, ap (λ (bs : List ℕ). branch_end bs n) c, length_code (subtree t n)) in
-        sym (branch_there bytes n Tree (ap reading (sym e)) refl h (branch_end bytes n) refl).1
+        sym (branch_there bytes n (sym e) h (branch_end bytes n) refl).1
         ∙ ap (λ (k : ℕ). take k (drop n bytes)) s
         ∙ ap (λ (bs : List ℕ). take (length (code (subtree t n))) (drop n bs)) (sym c)
         ∙ take_part (code_at t n l)
@@ -73,27 +71,27 @@ start_code t n (suc i) h g =
     ∙ ap (λ (s : Topo). child_of t n (suc i) + size s) (subtree-child_of t n (suc i) has)
     ∙ sym (child_of_next t n (suc i) has)
 
-pub child_code : (t : Topo) (n i : ℕ) → HasChild t n i → child_at (code t) n i ≡ Node (child_of t n i)
+pub child_code : (t : Topo) (n i : ℕ) → HasChild t n i → child_at (code t) n i ≡ Some (child_of t n i)
 child_code t n zero h = absurd (not-suc-le-zero h.1)
 child_code t n (suc i) h =
     let e : i ≡ suc i - 1 = omega arith in
     sym (child_found (code t) n (suc i) (suc i) (start (code t) n i) (ap (start (code t) n) e) refl (omega arith) (omega (arith, byte_width t n h.0, h.2)))
-    ∙ ap Node (start_code t n i h.0 h.2)
+    ∙ ap Some (start_code t n i h.0 h.2)
 
 -- and a node has no other children
-pub child_there : (t : Topo) (n i m : ℕ) → child_at (code t) n i ≡ Node m → HasChild t n i
+pub child_there : (t : Topo) (n i m : ℕ) → child_at (code t) n i ≡ Some m → HasChild t n i
 unfolding child_at
 child_there t n zero m e = absurd (clash (cc))
 child_there t n (suc i) m e = by_tests (ltb i (get_or (code t) n 0)) refl e (dec_lt n (size t))
   where
-    by_tests : (b : Bool) → ltb i (get_or (code t) n 0) ≡ b → cond b (Node (start (code t) n i)) Missing ≡ Node m → Dec (n < size t) → HasChild t n (suc i)
+    by_tests : (b : Bool) → ltb i (get_or (code t) n 0) ≡ b → cond b (Some (start (code t) n i)) None ≡ Some m → Dec (n < size t) → HasChild t n (suc i)
     by_tests true q e (yes h) = (h, omega arith, omega (arith, ltb-true i (get_or (code t) n 0) q, byte_width t n h))
     by_tests true q e (no g) =
         let d = get_or-eq_default (code t) 0 {n = n} (omega (arith, length_code t)) in
         absurd (omega (arith, ltb-true i (get_or (code t) n 0) q))
     by_tests false q e d = absurd (clash (cc))
 
--- Node a is b or lies above it exactly where the code says so.
+-- Some a is b or lies above it exactly where the code says so.
 pub above_code : (t : Topo) (a b : ℕ) → a < size t → b < size t → Above (addr t a) (addr t b) → is_above (code t) a b ≡ true
 unfolding is_above
 above_code t a b h g u =
@@ -116,9 +114,9 @@ pub record IsToward (t : Topo) (x y i n : ℕ) : Type 0 where
   pub above : Above (addr t n) (addr t y)
 
 -- the answer is such a child
-abbrev pub Leads : Topo → ℕ → ℕ → Toward → Type 0
-Leads t x y (Child i n) = IsToward t x y i n
-Leads t x y Nowhere = ⊥
+abbrev pub Leads : Topo → ℕ → ℕ → Option Child → Type 0
+Leads t x y (Some c) = IsToward t x y c.number c.node
+Leads t x y None = ⊥
 
 -- The children are tried in order, and child `last` is y or lies above it. So one is found there at the latest.
 module _ (t : Topo) (x y last : ℕ) (has : HasChild t x last) (below : y < size t) (above : Above (addr t (child_of t x last)) (addr t y)) where
@@ -141,7 +139,7 @@ module _ (t : Topo) (x y last : ℕ) (has : HasChild t x last) (below : y < size
 
     toward_by : (k : ℕ) (b : Bool) → is_above (code t) (start (code t) x i) y ≡ b
         → (suc i < last → Leads t x y (toward_from (code t) x y (suc i) k))
-        → Leads t x y (cond b (Child (suc i) (start (code t) x i)) (toward_from (code t) x y (suc i) k))
+        → Leads t x y (cond b (Some (record { number = suc i; node = start (code t) x i })) (toward_from (code t) x y (suc i) k))
     toward_by k true e rest =
         let lt : start (code t) x i < size t = omega (arith, at, child_of_lt t x (suc i) here) in
         record { has = here; node = at; above = code_above t (start (code t) x i) y lt e }
@@ -193,20 +191,20 @@ module _ (limit : ℕ) (bytes : List ℕ) (e : fault limit bytes ≡ 0) where
     start_lt = omega (arith, valid_start, child_of_lt (tree bytes) n (suc i) valid_has, valid_size)
 
   -- a child that the bytes have, and one that they do not have
-  pub valid_child : (n c next : ℕ) → child_at bytes n c ≡ Node next → HasChild (tree bytes) n c × (next ≡ child_of (tree bytes) n c)
+  pub valid_child : (n c next : ℕ) → child_at bytes n c ≡ Some next → HasChild (tree bytes) n c × (next ≡ child_of (tree bytes) n c)
   valid_child n c next f =
-      let g : child_at (code (tree bytes)) n c ≡ Node next = ap (λ (bs : List ℕ). child_at bs n c) (drawn limit bytes e) ∙ f in
+      let g : child_at (code (tree bytes)) n c ≡ Some next = ap (λ (bs : List ℕ). child_at bs n c) (drawn limit bytes e) ∙ f in
       let h = child_there (tree bytes) n c next g in
       (h, same_node (sym g ∙ child_code (tree bytes) n c h))
     where
-      same_node : {a b : ℕ} → Node a ≡ Node b → a ≡ b
+      same_node : {a b : ℕ} → Some a ≡ Some b → a ≡ b
       same_node q = cc
 
-  pub valid_missing : (n c : ℕ) → child_at bytes n c ≡ Missing → HasChild (tree bytes) n c → ⊥
+  pub valid_missing : (n c : ℕ) → child_at bytes n c ≡ None → HasChild (tree bytes) n c → ⊥
   valid_missing n c f h =
       apart (sym f ∙ ap (λ (bs : List ℕ). child_at bs n c) (sym (drawn limit bytes e)) ∙ child_code (tree bytes) n c h)
     where
-      apart : {a : ℕ} → Missing ≡ Node a → ⊥
+      apart : {a : ℕ} → None ≡ Some a → ⊥
       apart q = clash (cc)
 
   pub valid_toward : (x y : ℕ) → x < length bytes → y < length bytes → Above (addr (tree bytes) x) (addr (tree bytes) y) → x ≢ y

@@ -14,8 +14,7 @@ use Rattle.base.specs.Sum.{sum}
 use Rattle.base.proofs.Set.{drop-set}
 use Rattle.base.proofs.Sum.{sum-take}
 use Rattle.base.specs.Refusals.{or_else}
-use Rattle.topology.specs.Reader.{owing, pending, marking, fault_at, fault_from, fault, reading}
-use Rattle.topology.specs.declared.Reading.TheVariants.{Tree, Refused}
+use Rattle.topology.specs.Reader.{owing, pending, marking, fault_at, fault_from, fault}
 use Rattle.topology.proofs.Reader.{sound}
 use Rattle.topology.proofs.Marks.{Bounded, bounded_most, bounded_marking}
 
@@ -55,10 +54,10 @@ module _ (limit : ℕ) (bytes : List ℕ) (debt : ℕ) (marks : List ℕ) (top i
   ends : length bytes ≤ i → fault limit bytes ≡ cond (eqb debt 0) 0 1
   ends h = sym p.same ∙ ap (fault_from limit i debt (drop top marks)) (drop_of_length-le bytes h)
 
-  pub complete : length bytes ≤ i → debt ≡ 0 → Tree ≡ reading (fault limit bytes)
+  pub complete : length bytes ≤ i → debt ≡ 0 → 0 ≡ fault limit bytes
   complete h e = rw (ends h, eq-eqb debt 0 e)
 
-  pub incomplete : length bytes ≤ i → debt ≢ 0 → Refused 1 ≡ reading (fault limit bytes)
+  pub incomplete : length bytes ≤ i → debt ≢ 0 → 1 ≡ fault limit bytes
   incomplete h e = rw (ends h, ne_eqb debt 0 e)
 
   module _ (number : ℕ) (h : i < length bytes) (is : number ≡ fault_at limit i debt (9 - top) (get_or bytes i 0)) where
@@ -73,10 +72,10 @@ module _ (limit : ℕ) (bytes : List ℕ) (debt : ℕ) (marks : List ℕ) (top i
         ∙ ap (fault_from limit i debt (drop top marks)) (drop-cons bytes i 0 h)
         ∙ ap (λ (n : ℕ). or_else n rest) (ap (λ (d : ℕ). fault_at limit i debt d (get_or bytes i 0)) depth_is ∙ sym is)
 
-    pub refuse : number ≢ 0 → Refused number ≡ reading (fault limit bytes)
+    pub refuse : number ≢ 0 → number ≡ fault limit bytes
     refuse n = rw unrolled (refused number rest n)
       where
-        refused : (f r : ℕ) → f ≢ 0 → Refused f ≡ reading (or_else f r)
+        refused : (f r : ℕ) → f ≢ 0 → f ≡ or_else f r
         refused zero r n = absurd (n refl)
         refused (suc f) r n = refl
 

@@ -1,12 +1,9 @@
 -- Branches, children, ancestry and the child toward a node, computed from the bytes of a topology. They are defined for any bytes and numbers;
 -- `proofs/Lookup.antt` shows what they mean if the bytes are a tree's.
-use Rattle.std.specs.Prelude.{ℕ, zero, suc, ◌+◌, ◌-◌, List, [], ◌∷◌, Bool, ◌&&◌, cond, length, take, drop, get_or, leb, ltb}
+use Rattle.std.specs.Prelude.{ℕ, zero, suc, ◌+◌, ◌-◌, List, [], ◌∷◌, Bool, ◌&&◌, Option, None, Some, cond, length, take, drop, get_or, leb, ltb}
 use Rattle.base.specs.Refusals.{or_else, unless_refused}
 use Rattle.topology.specs.Reader.{fault}
-use Rattle.topology.specs.declared.Found.{Found}
-use Rattle.topology.specs.declared.Found.TheVariants.{Node, Missing}
-use Rattle.topology.specs.declared.Toward.{Toward}
-use Rattle.topology.specs.declared.Toward.TheVariants.{Child, Nowhere}
+use Rattle.topology.specs.declared.Child.{Child}
 
 -- how many bytes k complete trees take; all bytes if they end before that
 abbrev pub span : ℕ → List ℕ → ℕ
@@ -24,23 +21,23 @@ start bytes n zero = suc n
 start bytes n (suc i) = branch_end bytes (start bytes n i)
 
 -- child i of node n
-unfoldable pub child_at : List ℕ → ℕ → ℕ → Found
-child_at bytes n zero = Missing
-child_at bytes n (suc i) = cond (ltb i (get_or bytes n 0)) (Node (start bytes n i)) Missing
+unfoldable pub child_at : List ℕ → ℕ → ℕ → Option ℕ
+child_at bytes n zero = None
+child_at bytes n (suc i) = cond (ltb i (get_or bytes n 0)) (Some (start bytes n i)) None
 
 -- whether node a is node b or lies above it
 unfoldable pub is_above : List ℕ → ℕ → ℕ → Bool
 is_above bytes a b = leb a b && ltb b (branch_end bytes a)
 
 -- the first of the k children of node n from child i + 1 on that is node y or lies above it
-abbrev pub toward_from : List ℕ → ℕ → ℕ → ℕ → ℕ → Toward
-toward_from bytes n y i zero = Nowhere
+abbrev pub toward_from : List ℕ → ℕ → ℕ → ℕ → ℕ → Option Child
+toward_from bytes n y i zero = None
 toward_from bytes n y i (suc k) =
     let rest = toward_from bytes n y (suc i) k in
-    cond (is_above bytes (start bytes n i) y) (Child (suc i) (start bytes n i)) rest
+    cond (is_above bytes (start bytes n i) y) (Some (record { number = suc i; node = start bytes n i })) rest
 
 -- the child of node n that is node y or lies above it
-unfoldable pub toward_at : List ℕ → ℕ → ℕ → Toward
+unfoldable pub toward_at : List ℕ → ℕ → ℕ → Option Child
 toward_at bytes n y = toward_from bytes n y 0 (get_or bytes n 0)
 
 -- The refusal of a request for a branch: the topology's fault under the target's limit, then 19 for a node that is not there; or 0.

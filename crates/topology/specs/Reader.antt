@@ -2,8 +2,6 @@
 use Rattle.std.specs.Prelude.{ℕ, zero, suc, pred, ◌+◌, ◌≤◌, List, [], ◌∷◌, cond, length, leb, ltb, eqb}
 use Rattle.base.specs.Refusals.{or_else}
 use Rattle.topology.specs.Tree.{Topo, Forest, node, fnil, fcons, leaf, size, height, breadth}
-use Rattle.topology.specs.declared.Reading.{Reading}
-use Rattle.topology.specs.declared.Reading.TheVariants.{Tree, Refused}
 
 -- A tree within the limits. Paper 01 calls the tree that a park draws the source (at most 32 nodes) and the chip's tree the target (at most 64).
 pub record Within (limit : ℕ) (t : Topo) : Type 0 where
@@ -63,8 +61,3 @@ head (fcons t ts) = t
 
 unfoldable pub tree : List ℕ → Topo
 tree bytes = head (forest bytes)
-
--- the reader's answer for a fault's number
-abbrev pub reading : ℕ → Reading
-reading zero = Tree
-reading (suc n) = Refused (suc n)

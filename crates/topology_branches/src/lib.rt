@@ -2,12 +2,15 @@
 //
 // `branch` is the call of paper 01. `branch_end`, `child`, `is_above` and `toward` are helpers for other crates. They take any bytes; their names
 // say what they mean if `topology::read` accepts the bytes.
+// The bytes and a node are two parameters, since most functions ask about more than one node of the same bytes.
 #![tactic(auto)]
 
-ghost use Rattle.std.specs.Prelude.{◌≡◌, ◌+◌};
+ghost use Rattle.std.specs.Prelude.{◌≡◌, ◌+◌, IfOk};
+ghost use Rattle.refusal.specs.Numbers.{number_of};
 ghost use Rattle.topology.specs.Branch.{branch_end, child_at, is_above, toward_at, branch_fault, branch_part};
 
-use topology::{Found, Reading, TARGET_NODES, Toward, read};
+use refusal::Refusal;
+use topology::{Child, TARGET_NODES, read};
 
 // One past the last node of the branch under `node`; the end of the bytes if they end before that, and `node` if it lies past their end.
 pub fn branch_end(bytes: &[u8], node: usize) -> usize
@@ -17,95 +20,75 @@ pub fn branch_end(bytes: &[u8], node: usize) -> usize
         return node;
     }
     let mut end = node + 1;
-    let mut i = node;
-    while i < end {
-        let children = bytes[i] as usize;
+    for i in node..bytes.len() {
+        if i == end {
+            break;
+        }
+        let children = usize::from(bytes[i]);
         if bytes.len() - end < children {
             return bytes.len();
         }
         end += children;
-        i += 1;
     }
     end
 }
 
-// Child `index`, from 1, of `node`.
-pub fn child(bytes: &[u8], node: usize, index: usize) -> Found
+// The node number of child `index`, from 1, of `node`.
+pub fn child(bytes: &[u8], node: usize, index: usize) -> Option<usize>
     ensures { result ≡ child_at bytes.now node index }
 {
+    let &children = bytes.get(node)?;
     if index == 0 {
-        return Found::Missing;
+        return None;
     }
-    if bytes.len() <= node {
-        return Found::Missing;
-    }
-    if (bytes[node] as usize) < index {
-        return Found::Missing;
+    if usize::from(children) < index {
+        return None;
     }
     let mut at = node + 1;
-    let mut k = 1;
-    while k < index {
+    for _ in 1..index {
         at = branch_end(bytes, at);
-        k += 1;
     }
-    Found::Node(at)
+    Some(at)
 }
 
 // Whether node `a` is node `b` or lies above it.
 pub fn is_above(bytes: &[u8], a: usize, b: usize) -> bool
     ensures { result ≡ is_above bytes.now a b }
 {
-    if a <= b {
-        b < branch_end(bytes, a)
-    } else {
-        false
-    }
+    a <= b && b < branch_end(bytes, a)
 }
 
 // The child of node `from` that is node `to` or lies above it.
-pub fn toward(bytes: &[u8], from: usize, to: usize) -> Toward
+pub fn toward(bytes: &[u8], from: usize, to: usize) -> Option<Child>
     ensures { result ≡ toward_at bytes.now from to }
 {
-    if bytes.len() <= from {
-        return Toward::Nowhere;
-    }
+    let &children = bytes.get(from)?;
     if to <= from {
-        return Toward::Nowhere;
+        return None;
     }
-    let children = bytes[from];
     let mut node = from + 1;
-    let mut elder = 0u8;
-    while elder < children {
+    for elder in 0..children {
         let end = branch_end(bytes, node);
         if to < end {
-            return Toward::Child(elder + 1, node);
+            return Some(Child {
+                number: elder + 1,
+                node,
+            });
         }
         node = end;
-        elder += 1;
     }
-    Toward::Nowhere
+    None
 }
 
-// The branch under `node`, as a slice of the caller's own bytes, with 0 in `refusal`; or an empty slice, with the refusal's number. The second
-// clause says that the slice begins `node` bytes into the caller's. Unspecified: where the empty slice of a refusal begins.
-pub fn branch<'a>(bytes: &'a [u8], node: usize, refusal: &mut u8) -> &'a [u8]
-    ensures refusal_after { (refusal.new ≡ branch_fault bytes.now node) × (result.now ≡ branch_part bytes.now node) }
-    ensures ref_ptr_value { refusal.new ≡ 0 → result.ref_ptr ≡ (bytes.entry.ref_ptr.0, node + bytes.entry.ref_ptr.1) }
+// The branch under `node`, as a slice of the caller's own bytes. The clause `place` says that it begins `node` bytes into them.
+pub fn branch<'a>(bytes: &'a [u8], node: usize) -> Result<&'a [u8], Refusal>
+    ensures refusal { number_of result ≡ branch_fault bytes.now node }
+    ensures part { IfOk result (λ part. part.now ≡ branch_part bytes.now node) }
+    ensures place { IfOk result (λ part. part.ref_ptr ≡ (bytes.entry.ref_ptr.0, node + bytes.entry.ref_ptr.1)) }
 {
-    match read(bytes, TARGET_NODES) {
-        Reading::Refused(number) => {
-            *refusal = number;
-            &bytes[..0]
-        }
-        Reading::Tree => {
-            if node < bytes.len() {
-                *refusal = 0;
-                let end = branch_end(bytes, node);
-                &bytes[node..end]
-            } else {
-                *refusal = 19;
-                &bytes[..0]
-            }
-        }
+    read(bytes, TARGET_NODES)?;
+    if bytes.len() <= node {
+        return Err(Refusal::NoSuchBranch);
     }
+    Ok(&bytes[node..branch_end(bytes, node)])
 }

@@ -1,7 +1,7 @@
 pub mod Counted
-pub mod Trunks
-pub mod RoleOf
 pub mod Passes
+pub mod Chains
+pub mod RoleOf
 pub mod Addresses
 pub mod RoleExactly
 pub mod Examples

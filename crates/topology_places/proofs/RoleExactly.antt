@@ -117,10 +117,10 @@ module _ (limit : ℕ) (bytes : List ℕ) (e : fault limit bytes ≡ 0) (images 
       back : (r : Role) → Says (tree bytes) images k r → role_of bytes images k ≡ r
       back Plain z = sym (role_plain bytes images k z)
       back Passed f = absurd f
-      back Image (a, l, q) = sym (role_image bytes images k (λ z. omega arith) (images_at images k) refl (λ z. no_image z (a, l, q)))
+      back Image (a, l, q) = sym (role_image bytes images k (λ z. omega arith) (λ z. no_image z (a, l, q)))
       back Between (f, over) =
-          sym (role_between bytes images k (λ z. omega (arith, over.1)) (images_at images k) refl
-          (not_some (images_at images k) (λ n. f (is_image n))) (images_under bytes images k) refl (λ z. under_none z over))
+          sym (role_between bytes images k (λ z. omega (arith, over.1)) (not_some (images_at images k) (λ n. f (is_image n)))
+          (λ z. under_none z over))
       back Unused (some, f) =
-          sym (role_unused bytes images k some (images_at images k) refl (not_some (images_at images k) (λ n. f (image_over (is_image n))))
-          (images_under bytes images k) refl (not_some (images_under bytes images k) (λ n. f (over_image n))))
+          sym (role_unused bytes images k some (not_some (images_at images k) (λ n. f (image_over (is_image n))))
+          (not_some (images_under bytes images k) (λ n. f (over_image n))))

@@ -1,3 +1,2 @@
-pub mod ReadCases
 pub mod FirstFault
 pub mod Examples

@@ -9,7 +9,7 @@ use native.Mathlib.Decide.{dec_lt}
 use mathlib.Core.List.{List, [], ◌∷◌, ◌++◌}
 use mathlib.Core.Bool.{Bool, true, false, cond}
 use lib.ListN.{length, take, get_or, set, replicate, length-append}
-use lib.Seq.{take_all}
+use lib.Seq.{take_all, length-take-le}
 use lib.Dec.{eqb}
 use borrow.Author.Tests.{eq-eqb, ne_eqb}
 use Rattle.topology_reduction.specs.Reduced.{passed_over, kept_bytes, spread, in32}
@@ -80,13 +80,19 @@ module _ (bytes images : List ℕ) where
         goes_on longer (get_or images next 0) more (rw (ne_eqb (get_or bytes i 0) 1 q) (ap (λ (n : ℕ). get_or images n 0) (sym s.at))) e
         (rw (ne_eqb (get_or bytes i 0) 1 q) (sym f)) (omega (arith, f, s.few))
 
-  pub spread_out_end : (i : ℕ) (map : List ℕ) (next : ℕ) → SpreadTo bytes images i map next → i ≤ min (length bytes) 32 → min (length bytes) 32 ≤ i
-      → map ≡ in32 (spread (take 32 bytes) images)
-  spread_out_end i map next s h g = s.is ∙ ap (λ (l : List ℕ). in32 (spread l images)) (by_length (dec_lt (length bytes) 32))
-    where
-      by_length : Dec (length bytes < 32) → take i bytes ≡ take 32 bytes
-      by_length (yes l) = take_all i bytes (omega arith) ∙ sym (take_all 32 bytes (omega arith))
-      by_length (no l) = ap (λ (n : ℕ). take n bytes) (let e : i ≡ 32 = omega arith in e)
+  pub spread_out_end : (i : ℕ) (map : List ℕ) (next : ℕ) → SpreadTo bytes images i map next → length bytes ≤ i → map ≡ in32 (spread bytes images)
+  spread_out_end i map next s h = s.is ∙ ap (λ (l : List ℕ). in32 (spread l images)) (take_all i bytes h)
+
+-- the first 32 bytes
+pub first_32 : (bytes : List ℕ) → take (min (length bytes) 32) bytes ≡ take 32 bytes
+first_32 bytes = by_length (dec_lt (length bytes) 32)
+  where
+    by_length : Dec (length bytes < 32) → take (min (length bytes) 32) bytes ≡ take 32 bytes
+    by_length (yes l) = take_all (min (length bytes) 32) bytes (omega arith) ∙ sym (take_all 32 bytes (omega arith))
+    by_length (no l) = ap (λ (n : ℕ). take n bytes) (let e : min (length bytes) 32 ≡ 32 = omega arith in e)
+
+pub length_first : (bytes : List ℕ) → length (take (min (length bytes) 32) bytes) ≤ 32
+length_first bytes = omega (arith, length-take-le (min (length bytes) 32) bytes (omega arith))
 
 -- For callers with at most 32 bytes: images in 32 places, one for each kept node, become one list over all nodes.
 spread_more : (bs l m : List ℕ) → length l ≡ length (kept_bytes bs) → spread bs (l ++ m) ≡ spread bs l

@@ -3,17 +3,19 @@ use mathlib.Core.Path.{◌≡◌, sym, ap, ap₂, ◌∙◌}
 use mathlib.Core.Logic.{◌≢◌}
 use Prim.Native.Nat.{ℕ, ◌≤◌, ◌<◌}
 use native.Mathlib.Omega.{arith}
+use native.Mathlib.Decide.{ℕ_discrete}
 use mathlib.Core.List.{List, [], ◌∷◌, ◌++◌, append-nil, append_assoc}
 use lib.ListN.{length, length-append}
 use Rattle.topology.specs.Tree.{Topo, size}
 use Rattle.topology.specs.Address.{addr, child_of, depth, route}
 use Rattle.topology.specs.Reader.{tree}
 use Rattle.topology.specs.Branch.{toward_at}
-use Rattle.topology.specs.declared.Toward.{Toward}
-use Rattle.topology.specs.declared.Toward.TheVariants.{Child, Nowhere}
+use Rattle.topology.specs.declared.Child.{Child}
+use Rattle.std.specs.Prelude.{Option, None, Some}
 use Rattle.topology.proofs.Numbering.{addr_in}
 use Rattle.topology.proofs.Ancestry.{above_from, in_height}
 use Rattle.topology.proofs.Children.{child_of_lt, child_of_after, depth-child_of, route_self, route_step}
+use Rattle.topology.proofs.Cases.{toward_before}
 use Rattle.topology.proofs.Lookup.{IsToward, Leads, valid_size, valid_toward}
 use Rattle.topology.proofs.Reader.{within}
 use Rattle.pifo_model.specs.Tree.{Step, step}
@@ -44,32 +46,43 @@ module _ (bytes : List ℕ) (all : List Step) (l to rank : ℕ) (path : Path) (n
   descending_room : path.count < 9
   descending_room = omega (arith, d.deep, in_height T (addr T node) (addr_in T node upper), (within 64 bytes d.over.valid).steps)
 
-  module _ (n : node ≢ to) (r : Toward) (is : r ≡ toward_at bytes node to) where
-    leads : Leads T node to r
-    leads = rw is (valid_toward 64 bytes d.over.valid node to d.over.upper d.over.lower d.over.above n)
+  module _ (r : Option Child) (is : r ≡ toward_at bytes node to) where
+    leads : node ≢ to → Leads T node to r
+    leads n = rw is (valid_toward 64 bytes d.over.valid node to d.over.upper d.over.lower d.over.above n)
 
-    pub descending_lost : r ≡ Nowhere → ⊥
-    descending_lost q = rw q at leads
+    -- there is no child toward the node itself
+    pub descending_none : r ≡ None → node ≡ to
+    descending_none q = by_node (ℕ_discrete node to)
+      where
+        by_node : Dec (node ≡ to) → node ≡ to
+        by_node (yes e) = e
+        by_node (no n) = absurd (let lost = leads n in rw q at lost)
 
-    module _ (index next : ℕ) (q : r ≡ Child index next) where
-      found : IsToward T node to index next
-      found = rw q at leads
+    module _ (c : Child) (q : r ≡ Some c) where
+      apart : node ≢ to
+      apart e = clash (sym (sym q ∙ is ∙ sym (toward_before bytes node to (omega (arith, e)))))
+        where
+          clash : ◌≡◌ {A = Option Child} None (Some c) → ⊥
+          clash z = absurd (cc)
 
-      next_lt : next < size T
-      next_lt = omega (arith, found.node, child_of_lt T node index found.has)
+      found : IsToward T node to c.number c.node
+      found = let there = leads apart in rw q at there
 
-      pub descending_down : (node < next) × (next ≤ to)
+      next_lt : c.node < size T
+      next_lt = omega (arith, found.node, child_of_lt T node c.number found.has)
+
+      pub descending_down : (node < c.node) × (c.node ≤ to)
       descending_down =
-          let a = above_from T next to next_lt (omega (arith, d.over.lower, size_is)) found.above in
-          (omega (arith, found.node, child_of_after T node index found.has), a.0)
+          let a = above_from T c.node to next_lt (omega (arith, d.over.lower, size_is)) found.above in
+          (omega (arith, found.node, child_of_after T node c.number found.has), a.0)
 
-      pub descending_next : (more : Path) → more ≡ extended_by path index rank → Descending bytes all l to rank more next
+      pub descending_next : (more : Path) → more ≡ extended_by path c.number rank → Descending bytes all l to rank more c.node
       descending_next more e =
-          let s : Step = step index rank in
-          let made : more ≡ path_of (steps_of path ++ (s ∷ [])) path.leaf_rank = e ∙ path_more path index rank d.plain descending_room in
+          let s : Step = step c.number rank in
+          let made : more ≡ path_of (steps_of path ++ (s ∷ [])) path.leaf_rank = e ∙ path_more path c.number rank d.plain descending_room in
           let now : steps_of more ≡ steps_of path ++ (s ∷ []) = ap steps_of made ∙ steps_path (steps_of path ++ (s ∷ [])) path.leaf_rank in
           let rank_kept : more.leaf_rank ≡ path.leaf_rank = ap (λ (p : Path). p.leaf_rank) made in
-          let way = route_step T node to index found.has (rw (sym found.node) found.above) in
+          let way = route_step T node to c.number found.has (rw (sym found.node) found.above) in
           record {
             over =
                 record {
@@ -87,12 +100,12 @@ module _ (bytes : List ℕ) (all : List Step) (l to rank : ℕ) (path : Path) (n
                   length-append (steps_of path) (s ∷ []),
                   ap (λ (p : Path). p.count) d.plain,
                   d.deep,
-                  depth-child_of T node index found.has,
+                  depth-child_of T node c.number found.has,
                   ap (depth T) found.node,
                 );
             rest =
                 ap₂ (λ (f : List Step) (k : ℕ). f ++ steps rank (route T k to)) now found.node
-                ∙ append_assoc (steps_of path) (s ∷ []) (steps rank (route T (child_of T node index) to))
+                ∙ append_assoc (steps_of path) (s ∷ []) (steps rank (route T (child_of T node c.number) to))
                 ∙ ap (λ (a : List ℕ). steps_of path ++ steps rank a) (sym way)
                 ∙ d.rest;
           }

@@ -1,6 +1,6 @@
--- The number of the refusal, case by case: the map's fault if it has one, else the path's fault in the source.
+-- The number of the refusal if the map has no fault: the path's fault in the source.
 use mathlib.Core.Path.{◌≡◌, ap}
-use Prim.Native.Nat.{ℕ, suc}
+use Prim.Native.Nat.{ℕ}
 use mathlib.Core.List.{List}
 use Rattle.base.specs.Refusals.{or_else}
 use Rattle.topology.specs.Reader.{tree}
@@ -9,10 +9,6 @@ use Rattle.embedding_model.specs.Check.{map_fault}
 use Rattle.translator.specs.Carry.{carry_fault}
 
 module _ (source target m : List ℕ) (ss : List Step) where
-  pub carry-map : (f : ℕ) → map_fault source target m ≡ suc f → carry_fault source target m ss ≡ suc f
-  unfolding carry_fault
-  carry-map f e = ap (λ (g : ℕ). or_else g (path_fault (tree source) ss)) e
-
   pub carry_path : map_fault source target m ≡ 0 → carry_fault source target m ss ≡ path_fault (tree source) ss
   unfolding carry_fault
   carry_path e = ap (λ (g : ℕ). or_else g (path_fault (tree source) ss)) e

@@ -7,6 +7,10 @@ use native.Mathlib.Omega.{arith}
 use mathlib.Core.List.{List}
 use mathlib.Core.Bool.{Bool, true, false, cond}
 use lib.Dec.{leb}
+use Rattle.std.specs.Prelude.{Ok, Err}
+use Rattle.refusal.specs.Numbers.{number}
+use Rattle.refusal.specs.declared.Refusal.{Refusal}
+use Rattle.refusal.proofs.Numbers.{number-ne0}
 use Rattle.topology.specs.Reader.{tree}
 use Rattle.pifo_model.specs.Tree.{Step, path_fault, held}
 use Rattle.pifo_model.specs.Machine.{Machine, Answer, refused, number_of, serve, serve_room, pushing}
@@ -20,27 +24,27 @@ use Rattle.pair_step.specs.InStep.{ServesCarried}
 use Rattle.pair_step.proofs.InStep.{carried_follows}
 use Rattle.translator.specs.Carry.{Carries}
 use Rattle.translator.specs.PushesLand.{push_along, PushesLand}
-use Rattle.translator.specs.declared.Carried.{Carried}
 use Rattle.translator.proofs.PathFault.{carry_path}
 use Rattle.translator.proofs.Carries.{carry_none, carried_steps}
 
-module _ (source target m : List ℕ) (path : Path) (c : Carried) (e : Carries source target m path c) where
+module _ (source target m : List ℕ) (path : Path) where
   abbrev Chip : State → Packet → Answer Packet → State → Type 0
   Chip t packet b y = ServesCarried (tree source) (tree target) m t (push_along path packet) b y
 
-  pub carried_serves : c.refusal ≡ 0 → (t : State) (packet : Packet) (b : Answer Packet) (y : State) → Serves t (push_along c.path packet) b y
-      → Chip t packet b y
-  carried_serves z t packet b y v =
-      let over = carried_steps source target m path c e z in
-      let none = carry_none source target m (steps_of path) (sym e.refusal ∙ z) in
+  pub carried_serves : (c : Path) → Carries source target m path (Ok c)
+      → (t : State) (packet : Packet) (b : Answer Packet) (y : State) → Serves t (push_along c packet) b y → Chip t packet b y
+  carried_serves c e t packet b y v =
+      let over = carried_steps source target m path c e in
+      let none = carry_none source target m (steps_of path) (sym e.refusal) in
       rw none.1 (rw (over.steps, over.leaf) at v)
 
-  pub refused_serves : map_fault source target m ≡ 0 → c.refusal ≢ 0 → (t : State) (packet : Packet) → Chip t packet (refused c.refusal) t
-  refused_serves passes some t packet = by_number c.refusal refl
+  pub refused_serves : (r : Refusal) → Carries source target m path (Err r) → map_fault source target m ≡ 0
+      → (t : State) (packet : Packet) → Chip t packet (refused (number r)) t
+  refused_serves r e passes t packet = by_number (number r) refl (number-ne0 r)
     where
-      by_number : (n : ℕ) → c.refusal ≡ n → Chip t packet (refused n) t
-      by_number zero z = absurd (some z)
-      by_number (suc n) z =
+      by_number : (n : ℕ) → number r ≡ n → n ≢ 0 → Chip t packet (refused n) t
+      by_number zero z some = absurd (some refl)
+      by_number (suc n) z some =
           let number : path_fault (tree source) (steps_of path) ≡ suc n =
           sym (carry_path source target m (steps_of path) passes) ∙ sym e.refusal ∙ z in
           rw number (refl, refl)
@@ -56,13 +60,12 @@ room-number q ss l p e = rw e (by_test (leb q.limit (held q.tree)))
 
 pub pushes_land : PushesLand
 unfolding machine
-pushes_land source target m path c e z t w same packet b y v =
-    let call = carried_serves source target m path c e z t packet b y v in
+pushes_land source target m path c e t w same packet b y v =
+    let call = carried_serves source target m path c e t packet b y v in
     let f = carried_follows (tree source) (tree target) m t (push_along path packet) b y w call in
-    let over = carried_steps source target m path c e z in
-    let none : path_fault (tree (bytes t)) (steps_of c.path) ≡ 0 =
-    ap (λ (bs : List ℕ). path_fault (tree bs) (steps_of c.path)) same ∙ over.fault in
-    let number = room-number (machine t) (steps_of c.path) c.path.leaf_rank packet none in
+    let over = carried_steps source target m path c e in
+    let none : path_fault (tree (bytes t)) (steps_of c) ≡ 0 = ap (λ (bs : List ℕ). path_fault (tree bs) (steps_of c)) same ∙ over.fault in
+    let number = room-number (machine t) (steps_of c) c.leaf_rank packet none in
     let is = ap number_of (v.answer w) in
     record {
       not_13 = λ n. number.0 (sym is ∙ n);

@@ -10,8 +10,7 @@ use Rattle.topology.specs.Tree.{Topo, width, size}
 use Rattle.topology.specs.Address.{child, addr, sub, subtree, child_of, depth}
 use Rattle.topology.specs.Reader.{fault, tree}
 use Rattle.topology.specs.Branch.{child_at}
-use Rattle.topology.specs.declared.Found.{Found}
-use Rattle.topology.specs.declared.Found.TheVariants.{Node, Missing}
+use Rattle.std.specs.Prelude.{Option, None, Some}
 use Rattle.topology.proofs.Numbering.{addr_root, addr_in}
 use Rattle.topology.proofs.Ancestry.{size_pos, in_height}
 use Rattle.topology.proofs.Children.{HasChild, child_of_lt, subtree-child_of, depth-child_of}
@@ -63,15 +62,15 @@ module _ (source : List ℕ) (valid : fault 32 source ≡ 0) (path : Path) where
       pub standing_first : drop i ss ≡ step_of s ∷ others
       standing_first = step_at path i no_step h (omega (arith, standing_few))
 
-      module _ (r : Found) (e : r ≡ child_at source node s.child) where
-        pub standing_lost : r ≡ Missing → path_fault S ss ≡ 13
+      module _ (r : Option ℕ) (e : r ≡ child_at source node s.child) where
+        pub standing_lost : r ≡ None → path_fault S ss ≡ 13
         standing_lost q =
             let none = valid_missing 32 source valid node s.child (sym e ∙ q) in
             w.same
             ∙ ap (path_fault (subtree S node)) standing_first
             ∙ fault_off (subtree S node) s.child s.rank others (λ x. none (w.there, x.0, x.1))
 
-        module _ (next : ℕ) (q : r ≡ Node next) where
+        module _ (next : ℕ) (q : r ≡ Some next) where
           pub standing_child : HasChild S node s.child × (next ≡ child_of S node s.child)
           standing_child = valid_child 32 source valid node s.child next (sym e ∙ q)
 

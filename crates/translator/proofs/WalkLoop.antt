@@ -11,8 +11,7 @@ use Rattle.topology.specs.Tree.{Topo, size}
 use Rattle.topology.specs.Address.{Above, addr, depth, route}
 use Rattle.topology.specs.Reader.{fault, tree}
 use Rattle.topology.specs.Branch.{child_at}
-use Rattle.topology.specs.declared.Found.{Found}
-use Rattle.topology.specs.declared.Found.TheVariants.{Node, Missing}
+use Rattle.std.specs.Prelude.{Option, None, Some}
 use Rattle.topology.proofs.Numbering.{addr_root, addr_in, num_lt}
 use Rattle.topology.proofs.Ancestry.{size_pos}
 use Rattle.topology.proofs.Lookup.{valid_size}
@@ -150,14 +149,14 @@ module _ (source target m : List ℕ) (z : map_fault source target m ≡ 0) wher
 
       -- ---- one more step
 
-      module _ (h : i < path.count) (g : length path.steps ≡ 9) (r : Found) (e : r ≡ child_at source node (get_or path.steps i no_step).child) where
+      module _ (h : i < path.count) (g : length path.steps ≡ 9) (r : Option ℕ) (e : r ≡ child_at source node (get_or path.steps i no_step).child) where
         abbrev s : CodeStep
         s = get_or path.steps i no_step
 
-        pub walking_lost : path_fault S ss ≡ 0 → r ≡ Missing → ⊥
+        pub walking_lost : path_fault S ss ≡ 0 → r ≡ None → ⊥
         walking_lost none q = omega (arith, none, standing_lost source valid_source path node i w.standing h g r e q)
 
-        module _ (next : ℕ) (q : r ≡ Node next) where
+        module _ (next : ℕ) (q : r ≡ Some next) where
           stands : Standing source path next (i + 1)
           stands = standing_next source valid_source path node i w.standing h g r e next q
 

@@ -1,24 +1,24 @@
--- What the translator promises: the refusal's number, and the carried path.
-use Rattle.std.specs.Prelude.{◌≡◌, ◌≢◌, ℕ, ◌≤◌, List}
+-- What the translator promises: the refusal, or the carried path.
+use Rattle.std.specs.Prelude.{◌≡◌, ℕ, ◌≤◌, List, Result, IfOk}
 use Rattle.base.specs.Refusals.{or_else}
+use Rattle.refusal.specs.Numbers.{number_of}
+use Rattle.refusal.specs.declared.Refusal.{Refusal}
 use Rattle.topology.specs.Reader.{tree}
 use Rattle.pifo_model.specs.Tree.{Step, path_fault}
 use Rattle.embedding_model.specs.Check.{map_fault}
 use Rattle.pair_model.specs.Carrying.{carry}
 use Rattle.queue_push.specs.Calls.{steps_of, path_of}
 use Rattle.queue_push.specs.declared.Path.{Path}
-use Rattle.translator.specs.declared.Carried.{Carried}
 
 -- The refusal of carrying a path, or 0: of both trees (1 to 5), of the map (6 to 11 and 26), then of the path as drawn in the source (13, 14).
 unfoldable pub carry_fault : List ℕ → List ℕ → List ℕ → List Step → ℕ
 carry_fault source target m ss =
     let rest = path_fault (tree source) ss in or_else (map_fault source target m) rest
 
--- The answer: the refusal's number; and the carried path if there is no refusal, else the path as given.
-pub record Carries (source target m : List ℕ) (path : Path) (r : Carried) : Type 0 where
-  pub refusal : r.refusal ≡ carry_fault source target m (steps_of path)
-  pub carried : r.refusal ≡ 0 → r.path ≡ path_of (carry (tree source) (tree target) m (steps_of path)) path.leaf_rank
-  pub unaltered : r.refusal ≢ 0 → r.path ≡ path
+-- The answer: the refusal, or the carried path.
+pub record Carries (source target m : List ℕ) (path : Path) (r : Result Path Refusal) : Type 0 where
+  pub refusal : number_of r ≡ carry_fault source target m (steps_of path)
+  pub carried : IfOk r (λ p. p ≡ path_of (carry (tree source) (tree target) m (steps_of path)) path.leaf_rank)
 
 -- What holds of a carried path (`carried_steps` in proofs/Carries.antt): its steps are those of the definition, it has no fault in the target, and it
 -- has at most 8 steps.

@@ -1,6 +1,6 @@
 -- What a push along a carried path does on a well-formed state of the target's tree, by the queue tree's contract (`Serves`): `PushesLand`, proved in
 -- `proofs/PushesLand.antt`.
-use Rattle.std.specs.Prelude.{◌≡◌, ◌≢◌, ℕ, List, true}
+use Rattle.std.specs.Prelude.{◌≡◌, ◌≢◌, ℕ, List, true, Ok}
 use Rattle.topology.specs.Reader.{tree}
 use Rattle.pifo_model.specs.Machine.{Call, pushing, Answer, number_of}
 use Rattle.pair_model.specs.Simulation.{serve_carried}
@@ -10,7 +10,6 @@ use Rattle.queue_state.specs.declared.State.{State}
 use Rattle.queue_push.specs.Calls.{steps_of}
 use Rattle.queue_push.specs.declared.Path.{Path}
 use Rattle.translator.specs.Carry.{Carries}
-use Rattle.translator.specs.declared.Carried.{Carried}
 
 -- the machine's call for a push along the code's path
 abbrev pub push_along : Path → Packet → Call Packet
@@ -29,6 +28,6 @@ pub record Lands (source target m : List ℕ) (path : Path) (packet : Packet) (t
 -- This holds for every path that is carried without refusal, every well-formed state of the target's tree, and every answer that `Serves` allows.
 abbrev pub PushesLand : Type 0
 PushesLand =
-    (source target m : List ℕ) (path : Path) (c : Carried) → Carries source target m path c → c.refusal ≡ 0
+    (source target m : List ℕ) (path c : Path) → Carries source target m path (Ok c)
     → (t : State) → well_formed t ≡ true → bytes t ≡ target
-    → (packet : Packet) (b : Answer Packet) (y : State) → Serves t (push_along c.path packet) b y → Lands source target m path packet t b y
+    → (packet : Packet) (b : Answer Packet) (y : State) → Serves t (push_along c packet) b y → Lands source target m path packet t b y

@@ -1,7 +1,7 @@
 -- The calls on a tree by itself. Its drawing is that of its state, and `serve_own` is its server. So the contract of the call on the state (`Serves`)
 -- and the contracts of the functions on disciplines give the contract `OwnServes`.
 use mathlib.Core.Path.{◌≡◌, refl, sym, ap, ◌∙◌, subst}
-use Prim.Native.Nat.{ℕ}
+use Prim.Native.Nat.{ℕ, ◌≤◌}
 use native.Mathlib.Omega.{arith}
 use mathlib.Core.List.{List}
 use mathlib.Core.Bool.{Bool, true, false, cond}
@@ -12,29 +12,33 @@ use Rattle.topology.specs.Address.{addr}
 use Rattle.topology.specs.Reader.{fault, tree}
 use Rattle.pifo_model.specs.Queue.{Rank}
 use Rattle.pifo_model.specs.Tree.{Step, PTree, pop}
-use Rattle.pifo_model.specs.Machine.{Call, pushing, popping, Answer, accepted, refused, serve, serve_pop}
+use Rattle.pifo_model.specs.Machine.{Call, pushing, popping, Answer, accepted, departed, refused, full, serve, serve_pop}
 use Rattle.queue_state.specs.State.{Packet, bytes, tree_of, machine, well_formed}
 use Rattle.queue_state.specs.Calls.{Serves}
 use Rattle.queue_state.specs.declared.State.{State}
 use Rattle.queue_state.proofs.WellFormed.{formed}
-use Rattle.queue_state.specs.contracts.Answer
+use Rattle.std.specs.Prelude.{Some, None}
+use Rattle.refusal.specs.Numbers.{number}
+use Rattle.refusal.specs.declared.Refusal.{Refusal}
+use Rattle.refusal.specs.declared.Refusal.TheVariants as r
+use Rattle.base.proofs.Tests.{clash}
 use Rattle.queue_push.specs.Calls.{steps_of}
-use Rattle.discipline_model.specs.Figure.{kind_at, rank_by, steps_down, rule_fault}
+use Rattle.queue_push.specs.declared.Path.{Path}
+use Rattle.discipline_model.specs.Figure.{kind_at, rank_by, steps_down, finishes_down, fits_down, with_finishes, rule_fault}
 use Rattle.discipline_model.specs.Scheduler.{Request, calling, pushing_to, is_leaf, rank_at, serve_own}
 use Rattle.discipline_model.specs.declared.Disciplines.{Disciplines}
 use Rattle.queue_pop.specs.Way.{way_of}
-use Rattle.queue_pop.specs.declared.Way.{Way}
 use Rattle.discipline_clock.specs.Clock.{clocked, own_images}
 use Rattle.discipline_clock.proofs.Clock.{clock_own}
 use Rattle.discipline_clock.proofs.NoDeparture.{clock_ill, clock_idle}
 use Rattle.discipline_path.specs.Plans.{Planned}
 use Rattle.discipline_path.specs.declared.Plan.{Plan}
 use Rattle.discipline_path.proofs.PlannedPush.{planned_call}
-use Rattle.tree_state.specs.Calls.{own_refusal, OwnServes}
-use Rattle.tree_counts.specs.Sound.{SoundIn}
+use Rattle.tree_state.specs.Calls.{tree_with, drawing, own_refusal, OwnServes}
+use Rattle.tree_below.specs.Below.{PushesAlong, settled, PushesPlanned, Pops}
 use Rattle.tree_counts.proofs.AreSound.{exact}
 use Rattle.tree_state.specs.declared.Tree.{Tree}
-use Rattle.tree_state.proofs.Schedules.{tree_with, Below, learnt, ill_scheduled, called, no_leaf, late, taken, not_taken}
+use Rattle.tree_state.proofs.Schedules.{Below, learnt, ill_scheduled, called, no_leaf, late, taken, not_taken}
 use Rattle.tree_state.proofs.Below.{push-learnt, below_of, refused-accepted}
 use Rattle.tree_state.proofs.Own.{own_ill, own_kept, own_is, own_after}
 
@@ -49,7 +53,7 @@ module _ (t : Tree) where
   S = tree (bytes s)
 
   -- the code's test of the rules
-  module _ (b : Bool) (z : SoundIn s.frame.topology s.frame.nodes d.rules b) where
+  module _ (b : Bool) (z : s.frame.nodes ≤ 64 → fault 64 (bytes s) ≡ 0 → b ≡ eqb (rule_fault (drawing t) d.rules) 0) where
     -- refused by 18: the rules have a fault, or the state has one
     pub unsound : b ≡ false → (q : Request Packet) → OwnServes t q (refused 18) t
     unsound f q = by_form (well_formed s) refl
@@ -74,28 +78,40 @@ module _ (t : Tree) where
           rw (answer, same) (ill_scheduled own_refusal serve_own t q 18 (own_ill t n) (λ e. omega arith))
 
       -- a push by path
-      pub by_path : (ss : List Step) (l : Rank) (p : Packet) (a : Answer Packet) (r : State) → Serves s (pushing ss l p) a r
-          → OwnServes t (calling (pushing ss l p)) a (tree_with r d)
-      by_path ss l p a r v = by_form (well_formed s) refl
+      pub by_path : (path : Path) (p : Packet) (a : Answer Packet) (u : Tree) → PushesAlong t path p a u
+          → OwnServes t (calling (pushing (steps_of path) path.leaf_rank p)) a u
+      by_path path p a u o = rw o.after (by_form (well_formed s) refl)
         where
           c : Call Packet
-          c = pushing ss l p
+          c = pushing (steps_of path) path.leaf_rank p
+
+          r : State
+          r = o.state
 
           by_form : (w : Bool) → well_formed s ≡ w → OwnServes t (calling c) a (tree_with r d)
-          by_form false n = ill_call (calling c) c a r d n v refl
+          by_form false n = ill_call (calling c) c a r d n o.below refl
           by_form true y =
-              called S serve rank_at own_refusal serve_own t (own_ok y) (own_is t) c a r d (below_of s c a r y v)
-              (sym (ap (learnt S d (rank_at (machine s))) (v.answer y) ∙ push-learnt S d (rank_at (machine s)) (machine s) ss l p))
-              (own_after t c a r d y v (rules_sound y) refl)
+              called S serve rank_at own_refusal serve_own t (own_ok y) (own_is t) c a r d (below_of s c a r y o.below)
+              (sym (ap (learnt S d (rank_at (machine s))) (o.below.answer y)
+              ∙ push-learnt S d (rank_at (machine s)) (machine s) (steps_of path) path.leaf_rank p))
+              (own_after t c a r d y o.below (rules_sound y) refl)
 
       -- a pop, which also answers its way
-      pub by_pop : (a : Answer Packet) (r : State) (way : Way) (images : List ℕ) (after : Disciplines) → Serves s popping a r → way ≡ way_of s
-          → images ≡ own_images → after ≡ clocked d (bytes s) way images → OwnServes t (calling popping) a (tree_with r after)
+      pub by_pop : (a : Answer Packet) (u : Tree) → Pops t (bytes s) own_images a u → OwnServes t (calling popping) a u
       unfolding machine
-      by_pop a r way images after v f g h = by_form (well_formed s) refl
+      by_pop a u o = rw o.after (by_form (well_formed s) refl)
         where
+          r : State
+          r = o.state
+
+          v : Serves s popping a r
+          v = o.below
+
+          after : Disciplines
+          after = clocked d (bytes s) (way_of s) own_images
+
           k : after ≡ clocked d (bytes s) (way_of s) own_images
-          k = h ∙ (λ i. clocked d (bytes s) (f i) (g i))
+          k = refl
 
           learns : (y : well_formed s ≡ true) (o : Option (Packet × PTree Packet)) → pop (tree_of s) ≡ o
               → after ≡ learnt S d (rank_at (machine s)) (serve_pop (machine s) o).0
@@ -114,17 +130,18 @@ module _ (t : Tree) where
         abbrev q : Request Packet
         q = pushing_to leaf class len p
 
-        pub not_a_leaf : (l : Bool) → (fault 64 (bytes s) ≡ 0 → l ≡ is_leaf S leaf) → l ≡ false → OwnServes t q (refused (cond (well_formed s) 25 18)) t
-        not_a_leaf l e f = by_form (well_formed s) refl
+        -- refused by 25, tested after 18
+        pub not_a_leaf : (l : Bool) → (fault 64 (bytes s) ≡ 0 → l ≡ is_leaf S leaf) → l ≡ false
+            → (e : Refusal) → e ≡ cond (well_formed s) r.NoLeaf r.State → OwnServes t q (refused (number e)) t
+        not_a_leaf l is f e z = rw z (by_form (well_formed s) refl)
           where
-            by_form : (w : Bool) → well_formed s ≡ w → OwnServes t q (refused (cond w 25 18)) t
+            by_form : (w : Bool) → well_formed s ≡ w → OwnServes t q (refused (number (cond w r.NoLeaf r.State))) t
             by_form false n = ill_scheduled own_refusal serve_own t q 18 (own_ill t n) (λ e. omega arith)
             by_form true y =
-                no_leaf S serve rank_at own_refusal serve_own t (own_ok y) (own_is t) leaf class len p (sym (e (formed s y).valid) ∙ f)
+                no_leaf S serve rank_at own_refusal serve_own t (own_ok y) (own_is t) leaf class len p (sym (is (formed s y).valid) ∙ f)
 
         module _ (l : Bool) (is : fault 64 (bytes s) ≡ 0 → l ≡ is_leaf S leaf) (here : l ≡ true) (plan : Plan)
-            (planned : fault 64 (bytes s) ≡ 0 → is_leaf S leaf ≡ true → Planned S d leaf class len plan)
-            (a : Answer Packet) (r : State) (v : Serves s (pushing (steps_of plan.path) plan.path.leaf_rank p) a r) where
+            (planned : fault 64 (bytes s) ≡ 0 → is_leaf S leaf ≡ true → Planned S d leaf class len plan) where
           module _ (w : well_formed s ≡ true) where
             at_leaf : is_leaf S leaf ≡ true
             at_leaf = sym (is (formed s w).valid) ∙ here
@@ -135,40 +152,59 @@ module _ (t : Tree) where
             abbrev c : Call Packet
             c = pushing (steps_down S d class 0 (addr S leaf)) (rank_by (kind_at d.rules leaf) 0 class) p
 
-            as_planned : Serves s c a r
-            as_planned = subst (λ (x : Call Packet). Serves s x a r) (planned_call S d leaf class len plan p the_plan) v
+            finish_by : (b : Bool) → fits_down S d len 0 (addr S leaf) ≡ b
+                → plan.finish ≡ cond b (Some (finishes_down S d len 0 (addr S leaf) d.finish)) None
+            finish_by b e = the_plan.finish ∙ ap (λ (b : Bool). cond b (Some (finishes_down S d len 0 (addr S leaf) d.finish)) None) e
 
-            below : Below serve s c a r
-            below = below_of s c a r w as_planned
+          module _ (a : Answer Packet) (r : State) (v : Serves s (pushing (steps_of plan.path) plan.path.leaf_rank p) a r) where
+            as_planned : (w : well_formed s ≡ true) → Serves s (c w) a r
+            as_planned w = subst (λ (x : Call Packet). Serves s x a r) (planned_call S d leaf class len plan p (the_plan w)) v
 
-          -- it is accepted, so the state is well formed
-          taken-formed : (h : ℕ) → a ≡ accepted h → well_formed s ≡ true
-          taken-formed h e = by_form (well_formed s) refl
+            below : (w : well_formed s ≡ true) → Below serve s (c w) a r
+            below w = below_of s (c w) a r w (as_planned w)
+
+            -- it is accepted, so the state is well formed
+            accepted-formed : (h : ℕ) → a ≡ accepted h → well_formed s ≡ true
+            accepted-formed h e = by_form (well_formed s) refl
+              where
+                by_form : (w : Bool) → well_formed s ≡ w → w ≡ true
+                by_form true y = refl
+                by_form false n = absurd (refused-accepted (sym (v.ill n) ∙ e))
+
+            leaf_late : (h : ℕ) → a ≡ accepted h → (w : well_formed s ≡ true) → fits_down S d len 0 (addr S leaf) ≡ false → OwnServes t q (refused 23) t
+            leaf_late h e w f =
+                late S serve rank_at own_refusal serve_own t (own_ok w) (own_is t) leaf class len p (at_leaf w) a r (below w) h e f
+
+            leaf-taken : (h : ℕ) → a ≡ accepted h → (w : well_formed s ≡ true) → fits_down S d len 0 (addr S leaf) ≡ true
+                → OwnServes t q a (tree_with r (with_finishes d (finishes_down S d len 0 (addr S leaf) d.finish)))
+            leaf-taken h e w f =
+                let after = with_finishes d (finishes_down S d len 0 (addr S leaf) d.finish) in
+                taken S serve rank_at own_refusal serve_own t (own_ok w) (own_is t) leaf class len p (at_leaf w) a r (below w) h e f after refl
+                (own_after t (c w) a r after w (as_planned w) (rules_sound w) refl)
+
+            leaf_rest : ((h : ℕ) → a ≡ accepted h → ⊥) → OwnServes t q a (tree_with r d)
+            leaf_rest n = by_form (well_formed s) refl
+              where
+                by_form : (w : Bool) → well_formed s ≡ w → OwnServes t q a (tree_with r d)
+                by_form false i = ill_call q (pushing (steps_of plan.path) plan.path.leaf_rank p) a r d i v refl
+                by_form true w =
+                    not_taken S serve rank_at own_refusal serve_own t (own_ok w) (own_is t) leaf class len p (at_leaf w) a r (below w) n
+                    (own_after t (c w) a r d w (as_planned w) (rules_sound w) refl)
+
+          -- the push that the plan asks for, by the answer below
+          leaf_settled : (a : Answer Packet) (r : State) → Serves s (pushing (steps_of plan.path) plan.path.leaf_rank p) a r
+              → let v = settled t plan.finish a r in OwnServes t q v.0 v.1
+          leaf_settled (accepted h) r v = let w = accepted-formed (accepted h) r v h refl in by_fits w (fits_down S d len 0 (addr S leaf)) refl
             where
-              by_form : (w : Bool) → well_formed s ≡ w → w ≡ true
-              by_form true y = refl
-              by_form false n = absurd (refused-accepted (sym (v.ill n) ∙ e))
+              by_fits : (w : well_formed s ≡ true) (b : Bool) → fits_down S d len 0 (addr S leaf) ≡ b
+                  → let u = settled t plan.finish (accepted h) r in OwnServes t q u.0 u.1
+              by_fits w true e = rw (finish_by w true e) (leaf-taken (accepted h) r v h refl w e)
+              by_fits w false e = rw (finish_by w false e) (leaf_late (accepted h) r v h refl w e)
+          leaf_settled (departed x) r v = leaf_rest (departed x) r v (λ h e. clash (cc))
+          leaf_settled (refused x) r v = leaf_rest (refused x) r v (λ h e. clash (cc))
+          leaf_settled (full x k) r v = leaf_rest (full x k) r v (λ h e. clash (cc))
 
-          pub leaf_late : (h : ℕ) → a ≡ accepted h → plan.fits ≡ false → OwnServes t q (refused 23) t
-          leaf_late h e f =
-              let w = taken-formed h e in
-              late S serve rank_at own_refusal serve_own t (own_ok w) (own_is t) leaf class len p (at_leaf w) a r (below w) h e
-              (sym (the_plan w).fits ∙ f)
-
-          pub leaf-taken : (h : ℕ) → a ≡ accepted h → plan.fits ≡ true → (after : Disciplines)
-              → after ≡ record { rules = d.rules; virtual_time = d.virtual_time; finish = plan.finish } → OwnServes t q a (tree_with r after)
-          leaf-taken h e f after k =
-              let w = taken-formed h e in
-              let whole = k ∙ ap (λ (fs : List Rank). record { rules = d.rules; virtual_time = d.virtual_time; finish = fs }) ((the_plan w).finish f) in
-              taken S serve rank_at own_refusal serve_own t (own_ok w) (own_is t) leaf class len p (at_leaf w) a r (below w) h e
-              (sym (the_plan w).fits ∙ f) after whole
-              (own_after t (c w) a r after w (as_planned w) (rules_sound w) (ap (λ (x : Disciplines). x.rules) k))
-
-          pub leaf_rest : ((h : ℕ) → a ≡ accepted h → ⊥) → OwnServes t q a (tree_with r d)
-          leaf_rest n = by_form (well_formed s) refl
-            where
-              by_form : (w : Bool) → well_formed s ≡ w → OwnServes t q a (tree_with r d)
-              by_form false i = ill_call q (pushing (steps_of plan.path) plan.path.leaf_rank p) a r d i v refl
-              by_form true w =
-                  not_taken S serve rank_at own_refusal serve_own t (own_ok w) (own_is t) leaf class len p (at_leaf w) a r (below w) n
-                  (own_after t (c w) a r d w (as_planned w) (rules_sound w) refl)
+          pub by_leaf : (a : Answer Packet) (u : Tree) → PushesPlanned t plan.path plan.finish p a u → OwnServes t q a u
+          by_leaf a u o =
+              let v = leaf_settled o.answer o.state o.below in
+              subst (λ (x : Answer Packet × Tree). OwnServes t q x.0 x.1) (sym o.outcome) v

@@ -1,4 +1,4 @@
--- The test of a tree's rules (`are_sound`): its answer, and what follows for the whole tree.
+-- The test of a tree's rules (`test_rules`): what follows for the whole tree.
 use mathlib.Core.Path.{◌≡◌, refl, sym, ap, ◌∙◌}
 use Prim.Native.Nat.{ℕ, ◌≤◌, ◌<◌}
 use native.Mathlib.Omega.{arith}
@@ -6,31 +6,26 @@ use mathlib.Core.List.{List}
 use mathlib.Core.Bool.{Bool, true, false, ◌&&◌, false≢true}
 use lib.ListN.{take}
 use lib.Dec.{eqb}
+use Rattle.std.specs.Prelude.{Result, Ok, Err, is_ok}
+use Rattle.refusal.specs.Numbers.{number_of}
+use Rattle.refusal.proofs.Numbers.{is_ok-number}
+use Rattle.tree_counts.specs.Sound.{TestsRules}
+use Rattle.refusal.specs.declared.Refusal.{Refusal}
+use Rattle.refusal.specs.declared.Refusal.TheVariants as r
 use Rattle.topology.specs.Tree.{Topo}
 use Rattle.topology.specs.Reader.{fault, tree}
 use Rattle.queue_state.specs.State.{bytes, well_formed}
 use Rattle.queue_state.specs.declared.State.{State}
 use Rattle.queue_state.proofs.WellFormed.{formed}
 use Rattle.queue_counts.specs.Amounts.{amount}
-use Rattle.queue_counts.specs.declared.Amount.{Amount}
-use Rattle.queue_counts.specs.declared.Amount.TheVariants.{Refused}
 use Rattle.discipline_model.specs.Figure.{rule_fault}
 use Rattle.discipline_model.specs.declared.Disciplines.{Disciplines}
 use Rattle.discipline_model.specs.declared.Rule.{Rule}
-use Rattle.tree_state.specs.Calls.{well_formed_by}
+use Rattle.tree_state.specs.Calls.{drawing, well_formed_by}
 use Rattle.tree_state.specs.declared.Tree.{Tree}
-use Rattle.tree_counts.specs.Sound.{SoundIn}
-
-module _ (topology : List ℕ) (nodes : ℕ) (rules : List Rule) where
-  pub too_many : 64 < nodes → SoundIn topology nodes rules false
-  too_many h = record { within = λ e. absurd (false≢true e); exact = λ l. absurd (omega arith) }
-
-  pub judged : nodes ≤ 64 → (f : ℕ) → (fault 64 (take nodes topology) ≡ 0 → f ≡ rule_fault (tree (take nodes topology)) rules)
-      → SoundIn topology nodes rules (eqb f 0)
-  judged h f is = record { within = λ _. h; exact = λ _ z. ap (λ (k : ℕ). eqb k 0) (is z) }
 
 -- If the state is well formed, the test decides whether the tree is.
-module _ (t : Tree) (b : Bool) (z : SoundIn t.state.frame.topology t.state.frame.nodes t.disciplines.rules b) where
+module _ (t : Tree) (b : Bool) (z : t.state.frame.nodes ≤ 64 → fault 64 (bytes t.state) ≡ 0 → b ≡ eqb (rule_fault (drawing t) t.disciplines.rules) 0) where
   abbrev s : State
   s = t.state
 
@@ -41,8 +36,7 @@ module _ (t : Tree) (b : Bool) (z : SoundIn t.state.frame.topology t.state.frame
   S = tree (bytes s)
 
   pub exact : well_formed s ≡ true → b ≡ eqb (rule_fault S d.rules) 0
-  unfolding bytes
-  exact w = let f = formed s w in z.exact f.nodes f.valid
+  exact w = let f = formed s w in z f.nodes f.valid
 
   not_kept : b ≡ false → well_formed_by S t ≡ false
   unfolding well_formed_by
@@ -61,8 +55,20 @@ module _ (t : Tree) (b : Bool) (z : SoundIn t.state.frame.topology t.state.frame
       by_form true w = sym (exact w) ∙ y
 
   -- what `held` and `refusals` answer
-  pub unanswered : (n : ℕ) → b ≡ false → Refused 18 ≡ amount (well_formed_by S t) n
+  pub unanswered : (n : ℕ) → b ≡ false → Err r.State ≡ amount (well_formed_by S t) n
   unanswered n f = sym (ap (λ (w : Bool). amount w n) (not_kept f))
 
-  pub answered : (n : ℕ) → b ≡ true → (o : Amount) → o ≡ amount (well_formed s) n → o ≡ amount (well_formed_by S t) n
+  pub answered : (n : ℕ) → b ≡ true → (o : Result ℕ Refusal) → o ≡ amount (well_formed s) n → o ≡ amount (well_formed_by S t) n
   answered n y o e = e ∙ ap (λ (w : Bool). amount w n) (sym (kept-formed y))
+
+-- what the test of the rules by the tree's own bytes says
+module _ (t : Tree) (bs : List ℕ) (same : bs ≡ bytes t.state) (o : Result Unit Refusal)
+    (e : fault 64 bs ≡ 0 → number_of o ≡ rule_fault (tree bs) t.disciplines.rules) where
+  judged : fault 64 (bytes t.state) ≡ 0 → is_ok o ≡ eqb (rule_fault (drawing t) t.disciplines.rules) 0
+  judged v = is_ok-number o (rule_fault (drawing t) t.disciplines.rules) (rw (← same) (e (rw same v)))
+
+  pub rules_refused : is_ok o ≡ false → TestsRules t (Err r.State)
+  rules_refused n = record { within = λ y. absurd (false≢true y); passes = λ _ v. sym n ∙ judged v; refusal = refl }
+
+  pub rules_pass : is_ok o ≡ true → t.state.frame.nodes ≤ 64 → TestsRules t (Ok tt)
+  rules_pass y l = record { within = λ _. l; passes = λ _ v. sym y ∙ judged v; refusal = tt }

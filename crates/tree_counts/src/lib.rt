@@ -6,50 +6,38 @@ ghost use Rattle.pifo_model.specs.Tree.{held};
 ghost use Rattle.queue_state.specs.State.{tree_of};
 ghost use Rattle.queue_counts.specs.Amounts.{amount};
 ghost use Rattle.tree_state.specs.Calls.{drawing, well_formed_by};
-ghost use Rattle.tree_counts.specs.Sound.{SoundIn};
+ghost use Rattle.tree_counts.specs.Sound.{TestsRules};
 
-use discipline_check::fault;
-use discipline_model::Rule;
-use queue_counts::Amount;
+use discipline_check::check_rules;
+use refusal::Refusal;
+use topology::TARGET_NODES;
 use tree_state::Tree;
 
-// Whether the rules have no fault 24 in a state's own drawing. Unspecified: the answer if that drawing has a fault; a call is then refused by 18 in
-// any case.
-pub fn are_sound(topology: [u8; 64], nodes: usize, rules: [Rule; 64]) -> bool
-    ensures { SoundIn topology nodes rules result }
+// Tests a tree's rules in its own drawing: a fault 24 in them is 18 to a call, and so are more nodes than a tree can have. Unspecified: whether they
+// pass if that drawing has a fault; a call is then refused by 18 in any case.
+pub fn test_rules(tree: &Tree) -> Result<(), Refusal>
+    ensures { TestsRules tree.now result }
 {
-    if 64 < nodes {
-        return false;
+    if TARGET_NODES < tree.state.frame.nodes
+        || check_rules(tree.state.bytes(), tree.disciplines.rules).is_err()
+    {
+        return Err(Refusal::State);
     }
-    fault(&topology[..nodes], rules) == 0
+    Ok(())
 }
 
 // How many packets a tree holds.
-pub fn held(tree: Tree) -> Amount
+pub fn held(tree: Tree) -> Result<u32, Refusal>
     ensures { result ≡ amount (well_formed_by (drawing tree) tree) (held (tree_of tree.state)) }
 {
-    let state = tree.state;
-    let disciplines = tree.disciplines;
-    let frame = state.frame;
-    let topology = frame.topology;
-    let rules = disciplines.rules;
-    if !are_sound(topology, frame.nodes, rules) {
-        return Amount::Refused(18);
-    }
-    queue_counts::held(state)
+    test_rules(&tree)?;
+    queue_counts::held(tree.state)
 }
 
 // How many pushes a tree has refused because it was full.
-pub fn refusals(tree: Tree) -> Amount
+pub fn refusals(tree: Tree) -> Result<u32, Refusal>
     ensures { result ≡ amount (well_formed_by (drawing tree) tree) tree.state.refused }
 {
-    let state = tree.state;
-    let disciplines = tree.disciplines;
-    let frame = state.frame;
-    let topology = frame.topology;
-    let rules = disciplines.rules;
-    if are_sound(topology, frame.nodes, rules) {
-        return queue_counts::refusals(state);
-    }
-    Amount::Refused(18)
+    test_rules(&tree)?;
+    queue_counts::refusals(tree.state)
 }

@@ -2,11 +2,9 @@
 -- to a push is no departure, so that a push changes no virtual time.
 use mathlib.Core.Path.{◌≡◌, refl, ap, ◌∙◌}
 use Prim.Native.Nat.{ℕ, zero, suc}
-use mathlib.Core.List.{List, [], ◌∷◌}
+use mathlib.Core.List.{List}
 use mathlib.Core.Bool.{true}
 use mathlib.Core.Option.{Option, none, some}
-use types.Run.{OneOf, miss}
-use denote.Enum.Declared.{tag_of}
 use Rattle.base.proofs.Tests.{clash}
 use Rattle.topology.specs.Tree.{Topo}
 use Rattle.topology.specs.Reader.{tree}
@@ -18,7 +16,6 @@ use Rattle.queue_state.specs.Calls.{answer_of, Serves}
 use Rattle.queue_state.specs.declared.Answer.{Answer as CodeAnswer}
 use Rattle.queue_state.specs.declared.Answer.TheVariants.{Accepted, Departed, Refused, Full}
 use Rattle.queue_state.specs.declared.State.{State}
-use Rattle.queue_state.specs.contracts.Answer
 use Rattle.discipline_model.specs.declared.Disciplines.{Disciplines}
 use Rattle.tree_state.proofs.Schedules.{Below, learnt}
 
@@ -70,4 +67,4 @@ pub others_apart : (x : CodeAnswer) → ((k : ℕ) → x ≡ Accepted k → ⊥)
 others_apart (Accepted k) o h e = absurd (o k refl)
 others_apart (Departed p) o h e = clash (cc)
 others_apart (Refused n) o h e = refused-accepted e
-others_apart (Full n k) o h e = clash (cc)
+others_apart (Full r k) o h e = clash (cc)

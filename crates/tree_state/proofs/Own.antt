@@ -11,9 +11,8 @@ use Rattle.queue_state.specs.declared.State.{State}
 use Rattle.discipline_model.specs.Figure.{rule_fault}
 use Rattle.discipline_model.specs.Scheduler.{Request, rank_at, serve_by, serve_own}
 use Rattle.discipline_model.specs.declared.Disciplines.{Disciplines}
-use Rattle.tree_state.specs.Calls.{scheduler_of, well_formed_by, own_refusal}
+use Rattle.tree_state.specs.Calls.{tree_with, scheduler_of, well_formed_by, own_refusal}
 use Rattle.tree_state.specs.declared.Tree.{Tree}
-use Rattle.tree_state.proofs.Schedules.{tree_with}
 use Rattle.tree_state.proofs.Below.{same_drawing}
 
 module _ (t : Tree) where

@@ -17,9 +17,9 @@ use Rattle.queue_state.proofs.Satisfiable.{serves_some}
 use Rattle.discipline_model.specs.Figure.{rule_fault}
 use Rattle.discipline_model.specs.Scheduler.{Scheduler, Request, calling, pushing_to, is_leaf, rank_at, serve_by, serve_own}
 use Rattle.discipline_model.specs.declared.Disciplines.{Disciplines}
-use Rattle.tree_state.specs.Calls.{scheduler_of, well_formed_by, Schedules, drawing, own_refusal, OwnServes}
+use Rattle.tree_state.specs.Calls.{tree_with, scheduler_of, well_formed_by, Schedules, drawing, own_refusal, OwnServes}
 use Rattle.tree_state.specs.declared.Tree.{Tree}
-use Rattle.tree_state.proofs.Schedules.{tree_with, Below, learnt, ill_scheduled, called, push_to, kept_after, fits, no_leaf, late, taken, not_taken}
+use Rattle.tree_state.proofs.Schedules.{Below, learnt, ill_scheduled, called, push_to, kept_after, fits, no_leaf, late, taken, not_taken}
 use Rattle.tree_state.proofs.Below.{below_of}
 use Rattle.tree_state.proofs.Own.{own_is, own_after}
 

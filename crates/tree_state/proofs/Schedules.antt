@@ -18,11 +18,8 @@ use Rattle.queue_state.proofs.Serves.{apart}
 use Rattle.discipline_model.specs.Figure.{kind_at, rank_by, steps_down, finishes_down, fits_down, with_finishes, after_pop}
 use Rattle.discipline_model.specs.Scheduler.{Scheduler, Request, calling, pushing_to, is_leaf, with, pushed_by, called_by, serve_by}
 use Rattle.discipline_model.specs.declared.Disciplines.{Disciplines}
-use Rattle.tree_state.specs.Calls.{scheduler_of, counting, Schedules}
+use Rattle.tree_state.specs.Calls.{tree_with, scheduler_of, counting, Schedules}
 use Rattle.tree_state.specs.declared.Tree.{Tree}
-
-abbrev pub tree_with : State → Disciplines → Tree
-tree_with s d = record { state = s; disciplines = d }
 
 -- A call below from the state s: the call c, the answer a and the state r after it.
 pub record Below (server : Server Packet) (s : State) (c : Call Packet) (a : Answer Packet) (r : State) : Type 0 where

@@ -5,9 +5,15 @@ use Rattle.topology.specs.Reader.{tree}
 use Rattle.pifo_model.specs.Machine.{Answer, refused, full}
 use Rattle.queue_state.specs.State.{Packet, bytes, machine, well_formed}
 use Rattle.queue_state.specs.Calls.{counting as counting_state}
+use Rattle.queue_state.specs.declared.State.{State}
 use Rattle.discipline_model.specs.Figure.{rule_fault}
 use Rattle.discipline_model.specs.Scheduler.{Scheduler, Request, with, serve_own}
+use Rattle.discipline_model.specs.declared.Disciplines.{Disciplines}
 use Rattle.tree_state.specs.declared.Tree.{Tree}
+
+-- the tree of a state and disciplines
+abbrev pub tree_with : State → Disciplines → Tree
+tree_with s d = record { state = s; disciplines = d }
 
 -- the scheduler that a tree of the code stands for
 abbrev pub scheduler_of : Tree → Scheduler Packet

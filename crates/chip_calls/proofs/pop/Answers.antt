@@ -1,32 +1,18 @@
 -- `pop` meets its contract: one law for each answer (proofs/ChipServes).
-use native.Mathlib.Omega.{arith}
-use mathlib.Core.Path.{sym, ◌∙◌}
-use lib.Seq.{length-take-le}
-use Rattle.queue_state.specs.State.{bytes}
-use Rattle.tree_state.proofs.Arrays.{the_topology}
-use Rattle.chip_counts.proofs.FirstFault.{few_nodes}
-use Rattle.chip_calls.proofs.MapFault.{nothing_after}
+use Rattle.std.proofs.Common.{refl, sym}
+use Rattle.refusal.proofs.Numbers.{number-ne0}
 use Rattle.chip_calls.proofs.ChipServes.{first_refused, map-refused, by_pop}
 use Rattle.chip_calls.proofs.pop.Goals as goal
 
-pub returns-then-number-ne0 : goal.returns-then-number-ne0
-returns-then-number-ne0 c = first_refused _ _ _ _ c.first_fault-number.ensures c.if-number-ne0.true _
+pub returns-in-Err : goal.returns-in-Err
+returns-in-Err c = first_refused _ _ _ _ c.in-Err.ensures (number-ne0 _) _
 
-pub slice_bounds-topology-end : goal.slice_bounds-topology-end
-slice_bounds-topology-end c = omega (arith, few_nodes _ c.args.tree _ c.first_fault-number.ensures c.if-number-ne0.false, (the_topology c.args.tree _ c.well_formed.1.1.0))
+pub returns-in-Ok : goal.returns-in-Ok
+returns-in-Ok c =
+    let map = rw c.bytes.ensures at c.in-Ok.ensures in
+    by_pop _ _ _ _ c.in_default.ensures refl (sym map) _ _ c.pop.ensures
 
-pub slice_bounds-target-end : goal.slice_bounds-target-end
-slice_bounds-target-end c =
-    sym (length-take-le _ _ (omega (arith, few_nodes _ c.args.tree _ c.first_fault-number.ensures c.if-number-ne0.false, (the_topology c.args.tree _ c.well_formed.1.1.0))))
-
-pub returns-then-mapped-ne0 : goal.returns-then-mapped-ne0
-unfolding bytes
-returns-then-mapped-ne0 c =
-    rw c.refused.ensures
-    (map-refused _ _ _ _ c.first_fault-number.ensures c.if-number-ne0.false _ (nothing_after _ _ _ _ c.map_fault-mapped.ensures) c.if-mapped-ne0.true _)
-
-pub returns : goal.returns
-unfolding bytes
-returns c =
-    by_pop _ _ _ _ c.first_fault-number.ensures c.if-number-ne0.false (sym (nothing_after _ _ _ _ c.map_fault-mapped.ensures) ∙ c.if-mapped-ne0.false) _ _ _ _ c.pop-popped.ensures.0 c.pop-popped.ensures.1
-    c.after_pop.ensures
+pub returns-in-Err-check : goal.returns-in-Err-check
+returns-in-Err-check c =
+    let map = rw c.bytes.ensures at c.in-Err-check.ensures in
+    rw c.refuse.ensures (map-refused _ _ _ _ c.in_default.ensures refl _ map _)

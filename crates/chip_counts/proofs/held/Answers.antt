@@ -1,9 +1,12 @@
 -- `held` meets its contract.
+use Rattle.std.proofs.lemmas.Result.{err_from_is_err_and}
 use Rattle.chip_counts.proofs.Amounts.{unanswered, answered}
 use Rattle.chip_counts.proofs.held.Goals as goal
 
-pub returns-then-number-ne0 : goal.returns-then-number-ne0
-returns-then-number-ne0 c = unanswered _ _ _ c.first_fault-number.ensures _ c.if-number-ne0.true
+pub returns-in_err-test_first-clause-refusal : goal.returns-in_err-test_first-clause-refusal
+returns-in_err-test_first-clause-refusal c =
+    let p = err_from_is_err_and c.from_residual.result c.from_residual.ensures.1 in
+    rw (p.1, p.2) (unanswered _ _ _ c.in_err-test_first.ensures)
 
-pub returns : goal.returns
-returns c = answered _ _ _ c.first_fault-number.ensures _ c.if-number-ne0.false _ c.held.ensures
+pub returns-clause-refusal : goal.returns-clause-refusal
+returns-clause-refusal c = answered _ _ c.in_ok-test_first.ensures _ _ c.held.ensures

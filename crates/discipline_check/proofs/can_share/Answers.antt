@@ -1,39 +1,28 @@
-use borrow.Author.Rules.{rules}
-use native.Mathlib.Numerals.{add-one}
-use mathlib.Core.Path.{refl, ap, ◌∙◌}
-use mathlib.Core.Bool.{true}
-use Prim.Native.Nat.{◌-◌}
+use Rattle.std.proofs.Common.{arith, add-one, ap, ◌∙◌}
 use Rattle.topology.specs.Branch.{branch_end}
-use Rattle.discipline_check.proofs.RuleFault.{share_none, share_not_out, share_next, share_not, share_all}
-use borrow.Author.Rules.{rules}
+use Rattle.discipline_model.specs.Figure.{no_rule}
+use Rattle.discipline_model.specs.declared.Rule.{Rule}
+use Rattle.discipline_check.proofs.RuleFault.{share_within, share_next, share_not, share_all}
 use Rattle.discipline_check.proofs.can_share.Goals as goal
 
-pub returns-then-children-eq0 : goal.returns-then-children-eq0
-returns-then-children-eq0 c = λ e.
-    share_none _ e c.args.rules _ c.requires.0 c.requires.1 _ c.wide-children.ensures.0 c.if-children-eq0.true
+pub returns-in_default : goal.returns-in_default
+returns-in_default c = λ e.
+    let inside = share_within _ e c.args.rules _ c.requires.0 c.requires.1 _ c.loop-test.true _ c.loop.invariant.0 in
+    absurd (omega (arith, inside, c.in_default.ensures.lookup.3))
 
-pub loop-i-init : goal.loop-i-init
-loop-i-init c = (search rules, search rules, λ e. refl)
+pub returns-then-rule-eq0 : goal.returns-then-rule-eq0
+returns-then-rule-eq0 c = λ e.
+    let weight = ap (λ (r : Rule). r.weight) (c.in-Some.ensures.lookup.3.1 no_rule) in
+    share_not _ e c.args.rules _ c.requires.0 c.requires.1 _ c.loop-test.true _ c.loop.invariant.0 (omega (arith, weight))
 
-pub returns-then-child-ge-TARGET_NODES : goal.returns-then-child-ge-TARGET_NODES
-returns-then-child-ge-TARGET_NODES c = λ e.
-    absurd (share_not_out _ e c.args.rules _ c.requires.0 c.requires.1 _ c.wide-children.ensures.0 _ c.loop-i-test.true _ c.loop-i.invariant.1
-    c.if-child-ge-TARGET_NODES.true)
-
-pub returns-then-rules-child-eq0 : goal.returns-then-rules-child-eq0
-returns-then-rules-child-eq0 c = λ e.
-    share_not _ e c.args.rules _ c.requires.0 c.requires.1 _ c.wide-children.ensures.0 _ c.loop-i-test.true _ c.loop-i.invariant.1
-    c.if-rules-child-eq0.true
-
-pub loop-i-preserved : goal.loop-i-preserved
-loop-i-preserved c = (
-  search rules,
-  c.branch_end-child.ensures ∙ ap (branch_end _) c.loop-i.invariant.1 ∙ rw add-one,
-  λ e. share_next _ e c.args.rules _ c.requires.0 c.requires.1 _ c.wide-children.ensures.0 _ c.loop-i-test.true _
-      c.loop-i.invariant.1 c.if-rules-child-eq0.false (c.loop-i.invariant.2 e),
-)
+pub loop-preserved : goal.loop-preserved
+loop-preserved c =
+    let weight = ap (λ (r : Rule). r.weight) (c.in-Some.ensures.lookup.3.1 no_rule) in (
+      c.branch_end-child.ensures ∙ ap (branch_end _) c.loop.invariant.0 ∙ rw add-one,
+      λ e.
+          share_next _ e c.args.rules _ c.requires.0 c.requires.1 _ c.loop-test.true _ c.loop.invariant.0 (omega (arith, weight))
+          (c.loop.invariant.1 e),
+    )
 
 pub returns : goal.returns
-returns c = λ e.
-    share_all _ e c.args.rules _ c.requires.0 c.requires.1 _ c.wide-children.ensures.0 _ c.if-children-eq0.false c.loop-i.invariant.0 c.loop-i-test.false
-    (c.loop-i.invariant.2 e)
+returns c = λ e. share_all _ e c.args.rules _ c.requires.0 c.requires.1 c.loop.counter (omega arith) (c.loop.invariant.1 e)

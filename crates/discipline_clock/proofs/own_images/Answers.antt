@@ -1,22 +1,7 @@
-use borrow.Author.Rules.{rules}
-use native.Mathlib.Omega.{arith}
-use mathlib.Core.Path.{refl, ◌∙◌}
-use Prim.Native.Nat.{◌<◌, ◌-◌}
-use lib.ListN.{length-set}
-use Rattle.discipline_clock.proofs.Loops.{numbers_next, numbers_all}
-use borrow.Author.Rules.{rules}
+use Rattle.std.proofs.Common.{rules, ◌≡◌, get_or}
+use Rattle.std.proofs.lemmas.List.FromFn.{fill_by_all}
 use Rattle.discipline_clock.proofs.own_images.Goals as goal
 
-pub loop-n-init : goal.loop-n-init
-loop-n-init c = (search rules, refl, refl)
-
-pub loop-n-preserved : goal.loop-n-preserved
-loop-n-preserved c =
-    let loop = c.loop-n in
-    let place : loop.n < 64 = omega arith in
-    (search rules, length-set loop.images _ _ ∙ loop.invariant.1, numbers_next _ _ loop.invariant.1 place loop.invariant.2)
-
 pub returns : goal.returns
-returns c =
-    let loop = c.loop-n in
-    numbers_all _ _ loop.invariant.1 loop.invariant.0 c.loop-n-test.false loop.invariant.2
+returns c = fill_by_all (λ k. k) c.from_fn.result 64 0 c.from_fn.ensures.items.long
+    (λ k h. let w = c.from_fn.ensures.items.at k 0 h in let e : get_or c.from_fn.result k 0 ≡ k = search rules in e)

@@ -1,26 +1,16 @@
-use borrow.Author.Rules.{rules}
-use Prim.Native.Nat.{◌-◌}
-use mathlib.Core.Bool.{true}
-use borrow.Author.Tests.{not-true, not-false}
-use Rattle.embedding_check.proofs.Tests.{marks_none, marks_next, marks_stop, marks_end}
-use borrow.Author.Rules.{rules}
+use Rattle.std.proofs.Common.{◌∙◌, ℕ, rules, tests}
+use Rattle.std.proofs.lemmas.Iterator.{YieldsList-from_slice, YieldsList-from_zip}
+use Rattle.std.proofs.lemmas.Iterator.Search.{all_from_yields_List}
+use Rattle.embedding_model.specs.Check.{are_marked, marked}
+use Rattle.base.proofs.Chains.{list_all_zip}
 use Rattle.embedding_check.proofs.are_marked.Goals as goal
 
-pub loop-a-init : goal.loop-a-init
-loop-a-init c = (search rules, marks_none _ _)
-
-pub returns-then-not-is_marked : goal.returns-then-not-is_marked
-returns-then-not-is_marked c =
-    let is-marked = c.is_marked in
-    marks_stop _ _ _ _ (search rules) is-marked.ensures c.if-not-is_marked.true
-
-pub loop-a-preserved : goal.loop-a-preserved
-loop-a-preserved c =
-    let is-marked = c.is_marked in
-    let loop = c.loop-a in
-    (search rules, marks_next _ _ _ _ loop.invariant.1 is-marked.ensures c.if-not-is_marked.false)
-
 pub returns : goal.returns
+unfolding are_marked marked
 returns c =
-    let loop = c.loop-a in
-    marks_end _ _ _ loop.invariant.0 c.loop-a-test.false loop.invariant.1
+    let s = c.args.source.now in
+    let m = c.args.map.now in
+    let test = λ (p : ℕ × ℕ). marked p.0 p.1 in
+    all_from_yields_List test c.all.new.self _ _ c.all.ensures.ran
+    (YieldsList-from_zip (YieldsList-from_slice s cc) (YieldsList-from_slice m cc)) (λ x b q k. search (rules, tests))
+    ∙ list_all_zip s m c.requires test

@@ -1,33 +1,11 @@
--- `check` meets its contract: one law for each answer.
-use Rattle.embedding_check.proofs.Tests.{check_trees, trees_fit, check_passes, check-list}
+-- The accepted trees have no fault, so the target's nodes fit the table.
+use Rattle.std.proofs.Common.{sym}
+use Rattle.topology.specs.Reader.{fault}
+use Rattle.base.proofs.Refusals.{or_else_none}
+use Rattle.embedding_trees.proofs.TreesFault.{tree-fits}
 use Rattle.embedding_check.proofs.check.Goals as goal
 
-pub returns-then-refusal-ne0 : goal.returns-then-refusal-ne0
-returns-then-refusal-ne0 c =
-    let trees-fault = c.trees_fault-refusal in
-    let args = c.args in
-    check_trees args.source.now args.target.now args.map.now _ trees-fault.ensures c.if-refusal-ne0.true
-
-pub list_fault-number-requires : goal.list_fault-number-requires
-list_fault-number-requires c =
-    let trees-fault = c.trees_fault-refusal in
-    let args = c.args in
-    trees_fit args.source.now args.target.now args.map.now _ trees-fault.ensures c.if-refusal-ne0.false
-
-pub returns-then-number-eq0 : goal.returns-then-number-eq0
-returns-then-number-eq0 c =
-    let list-fault = c.list_fault-number in
-    let if1 = c.if-refusal-ne0 in
-    let trees-fault = c.trees_fault-refusal in
-    let args = c.args in
-    check_passes args.source.now args.target.now args.map.now _ trees-fault.ensures if1.false _
-    list-fault.ensures c.if-number-eq0.true
-
-pub returns-else-number-eq0 : goal.returns-else-number-eq0
-returns-else-number-eq0 c =
-    let list-fault = c.list_fault-number in
-    let if1 = c.if-refusal-ne0 in
-    let trees-fault = c.trees_fault-refusal in
-    let args = c.args in
-    check-list args.source.now args.target.now args.map.now _ trees-fault.ensures if1.false _
-    list-fault.ensures c.if-number-eq0.false
+pub check_list-requires : goal.check_list-requires
+check_list-requires c =
+    let both = or_else_none (fault 32 c.args.source.now) (fault 64 c.args.target.now) (sym c.in_ok-read_both.ensures) in
+    (both.0, (tree-fits 64 c.args.target.now both.1).1)

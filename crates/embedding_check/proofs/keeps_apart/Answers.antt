@@ -1,30 +1,15 @@
-use borrow.Author.Rules.{rules}
-use Prim.Native.Nat.{◌-◌}
-use mathlib.Core.Bool.{true}
-use borrow.Author.Tests.{not-true, not-false}
-use Rattle.embedding_check.proofs.Tests.{apart_none, apart_next, apart-stop, apart_end}
-use borrow.Author.Rules.{rules}
+use Rattle.std.proofs.Common.{◌∙◌, length, rules, tests, arith}
+use Rattle.std.proofs.lemmas.Iterator.{YieldsList-from_range}
+use Rattle.std.proofs.lemmas.Iterator.Search.{all_from_yields_List}
+use Rattle.embedding_model.specs.Check.{rule1}
+use Rattle.embedding_check.specs.InnerTests.{fresh}
+use Rattle.base.proofs.Chains.{list_all_range}
 use Rattle.embedding_check.proofs.keeps_apart.Goals as goal
 
-pub loop-a-init : goal.loop-a-init
-loop-a-init c = (search rules, apart_none _)
-
-pub returns-then-not-is_fresh : goal.returns-then-not-is_fresh
-returns-then-not-is_fresh c =
-    let is-fresh = c.is_fresh in
-    let loop-test = c.loop-a-test in
-    let args = c.args in
-    apart-stop args.map.now _ _ loop-test.true is-fresh.ensures c.if-not-is_fresh.true
-
-pub loop-a-preserved : goal.loop-a-preserved
-loop-a-preserved c =
-    let is-fresh = c.is_fresh in
-    let loop = c.loop-a in
-    let args = c.args in
-    (search rules, apart_next args.map.now _ _ loop.invariant.1 is-fresh.ensures c.if-not-is_fresh.false)
-
 pub returns : goal.returns
+unfolding rule1 fresh
 returns c =
-    let loop = c.loop-a in
-    let args = c.args in
-    apart_end args.map.now _ loop.invariant.0 c.loop-a-test.false loop.invariant.1
+    let m = c.args.map.now in
+    all_from_yields_List (fresh m) c.all.new.self _ _ c.all.ensures.ran
+    (YieldsList-from_range 0 (length m) (length m) (cc) (omega arith)) (λ x b q k. search (rules, tests))
+    ∙ list_all_range (fresh m) (length m)

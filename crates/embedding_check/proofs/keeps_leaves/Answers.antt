@@ -1,54 +1,31 @@
-use borrow.Author.Rules.{rules}
-use Prim.Native.Nat.{◌-◌}
-use mathlib.Core.Bool.{true}
-use native.Mathlib.Omega.{arith}
-use borrow.Author.Tests.{not-true, not-false}
-use Rattle.embedding_check.proofs.Tests.{node_at, leaves_none, leaves_next, leaves-stop, leaves_end}
-use borrow.Author.Rules.{rules}
+use Rattle.std.proofs.Common.{◌∙◌, ℕ, ◌<◌, length, get_or, eqb, not, ◌||◌, rules, tests, sym, ap, arith}
+use Rattle.std.proofs.lemmas.Iterator.{YieldsList-from_slice, YieldsList-from_zip}
+use Rattle.std.proofs.lemmas.Iterator.Adapters.{serves_from_places}
+use Rattle.std.proofs.lemmas.Iterator.Search.{all_from_yields_List}
+use Rattle.base.specs.Tests.{all}
+use Rattle.embedding_model.specs.Rules.{image}
+use Rattle.embedding_model.specs.Check.{rule3}
+use Rattle.base.proofs.Chains.{list_all_zip}
+use Rattle.embedding_check.proofs.Tests.{zip_second, node_at}
 use Rattle.embedding_check.proofs.keeps_leaves.Goals as goal
 
-pub loop-a-init : goal.loop-a-init
-loop-a-init c = (search rules, leaves_none _ _ _)
-
-pub overflow_cast-image : goal.overflow_cast-image
-overflow_cast-image c =
-    let loop = c.loop-a in
-    let shared-slice-known3 = c.shared_slice_known-3-1 in
-    omega (arith, shared-slice-known3.given loop.a)
-
-pub bounds-source-a : goal.bounds-source-a
-bounds-source-a c =
-    let loop-test = c.loop-a-test in
-    let pre = c.requires in
-    omega (arith, pre.0, loop-test.true)
-
-pub bounds-target-image : goal.bounds-target-image
-bounds-target-image c =
-    let loop-test = c.loop-a-test in
-    let args = c.args in
-    let pre = c.requires in
-    node_at args.target.now args.map.now _ pre.1 loop-test.true
-
-pub returns-then-not-keeps_leaf : goal.returns-then-not-keeps_leaf
-returns-then-not-keeps_leaf c =
-    let keeps-leaf = c.keeps_leaf in
-    let loop-test = c.loop-a-test in
-    let args = c.args in
-    leaves-stop args.source.now args.target.now args.map.now _ _ loop-test.true keeps-leaf.ensures
-    c.if-not-keeps_leaf.true
-
-pub loop-a-preserved : goal.loop-a-preserved
-loop-a-preserved c =
-    let keeps-leaf = c.keeps_leaf in
-    let loop = c.loop-a in
-    let args = c.args in (
-      search rules,
-      leaves_next args.source.now args.target.now args.map.now _ _ loop.invariant.1
-          keeps-leaf.ensures c.if-not-keeps_leaf.false,
-    )
+pub all-requires-clause-callable : goal.all-requires-clause-callable
+all-requires-clause-callable c =
+    let s = c.args.source.now in
+    let t = c.args.target.now in
+    let m = c.args.map.now in
+    serves_from_places (YieldsList-from_zip (YieldsList-from_slice s cc) (YieldsList-from_slice m cc)) (λ x q r. search rules)
+    (λ x k h e.
+    let second = zip_second s m c.requires.0 k (x.0.now, x.1.now) h e in
+    let inside : x.1.now < length t = omega (arith, node_at t m k c.requires.1 second.0, second.1) in
+    search rules)
 
 pub returns : goal.returns
+unfolding rule3
 returns c =
-    let loop = c.loop-a in
-    let args = c.args in
-    leaves_end args.source.now args.target.now args.map.now _ loop.invariant.0 c.loop-a-test.false loop.invariant.1
+    let s = c.args.source.now in
+    let m = c.args.map.now in
+    let test = λ (p : ℕ × ℕ). not (eqb p.0 0) || eqb (get_or c.args.target.now p.1 0) 0 in
+    all_from_yields_List test c.all.new.self _ _ c.all.ensures.ran
+    (YieldsList-from_zip (YieldsList-from_slice s cc) (YieldsList-from_slice m cc)) (λ x b q k. search (rules, tests))
+    ∙ list_all_zip s m c.requires.0 test ∙ ap (λ (n : ℕ). all n (λ a. test (get_or s a 0, image m a))) (sym c.requires.0)

@@ -1,16 +1,13 @@
-use Prim.Native.Nat.{◌-◌}
-use Rattle.topology_places.proofs.Counted.{counts_none, counts_next, counts_all}
-use Rattle.embedding_diagnosis.specs.Misfit.{kept_above}
+use Rattle.std.proofs.Common.{◌&&◌, rules, tests}
+use Rattle.topology.specs.Branch.{is_above}
+use Rattle.topology_places.proofs.Chains.{counted_all}
+use Rattle.embedding_diagnosis.specs.Misfit.{is_kept, kept_above}
 use Rattle.embedding_diagnosis.proofs.kept_above.Goals as goal
-
-pub loop-a-init : goal.loop-a-init
-loop-a-init c = counts_none _ _
-
-pub loop-a-preserved : goal.loop-a-preserved
-loop-a-preserved c =
-    counts_next _ _ _ _ _ _ c.loop-a-test.true c.loop-a.invariant c.is_kept_above.ensures
-    c.one_if-count.ensures
 
 pub returns : goal.returns
 unfolding kept_above
-returns c = counts_all _ _ _ _ c.loop-a-test.false c.loop-a.invariant
+returns c =
+    let source = c.args.source.now in
+    let filter = c.filter.ensures in
+    counted_all (λ a. is_kept source a && is_above source a c.args.node) c.args.node _ _ filter.source filter.closure c.count.ensures.ran
+    (λ x b q k. search (rules, tests))

@@ -1,40 +1,34 @@
-use Prim.Native.Nat.{◌-◌}
-use native.Mathlib.Omega.{arith}
+use Rattle.std.proofs.Common.{arith, rules}
 use Rattle.embedding_program.specs.InnerTables.{best_by}
-use Rattle.embedding_program.proofs.Images.{read-start, read_end}
+use Rattle.embedding_program.proofs.Nodes.{listed}
+use Rattle.embedding_program.proofs.Images.{read-start, read_small, read_next}
 use Rattle.embedding_least.proofs.read_off.Goals as goal
 
 pub loop-s-init : goal.loop-s-init
-loop-s-init c =
-    let args = c.args in
-    let pre = c.requires in
-    (omega arith, read-start args.source.now pre.0 (best_by args.best.now))
+loop-s-init c = read-start c.args.source.now c.requires.0 (best_by c.args.best.now)
 
-pub read_node-longer-requires : goal.read_node-longer-requires
-read_node-longer-requires c =
-    let loop = c.loop-s in
-    let pre = c.requires in
-    (pre.0, pre.1, pre.2, c.loop-s-test.true, loop.invariant.1)
+pub overflow_add-number : goal.overflow_add-number
+overflow_add-number c =
+    let small = read_small c.args.source.now c.requires.0 (best_by c.args.best.now) _ c.loop-s-test.true _ c.loop-s.invariant in
+    omega (arith, small, c.requires.0.fits, c.from.ensures)
 
-pub overflow_add-s : goal.overflow_add-s
-overflow_add-s c =
-    let loop-test = c.loop-s-test in
-    let pre = c.requires in
-    omega (arith, pre.0.fits, loop-test.true)
+pub offset_bounds-best-s : goal.offset_bounds-best-s
+offset_bounds-best-s c =
+    let small = read_small c.args.source.now c.requires.0 (best_by c.args.best.now) _ c.loop-s-test.true _ c.loop-s.invariant in
+    omega (arith, small, c.requires.0.fits, c.from.ensures)
 
-pub loop-s-smaller : goal.loop-s-smaller
-loop-s-smaller c =
-    let loop-test = c.loop-s-test in
-    omega (arith, loop-test.true)
+pub bounds-best-s : goal.bounds-best-s
+bounds-best-s c =
+    let small = read_small c.args.source.now c.requires.0 (best_by c.args.best.now) _ c.loop-s-test.true _ c.loop-s.invariant in
+    omega (arith, small, c.requires.0.fits, c.from.ensures)
+
+pub set_images-requires : goal.set_images-requires
+set_images-requires c =
+    let kids = listed c.args.source.now c.requires.0 _ c.loop-s-test.true _ c.kids_of-kids.ensures (search rules) _ c.from-in-loop-s.ensures in
+    kids.differ
 
 pub loop-s-preserved : goal.loop-s-preserved
 loop-s-preserved c =
-    let loop-test = c.loop-s-test in
-    (omega (arith, loop-test.true), c.read_node-longer.ensures)
-
-pub returns : goal.returns
-returns c =
-    let loop = c.loop-s in
-    let args = c.args in
-    let pre = c.requires in
-    read_end args.source.now pre.0 (best_by args.best.now) _ _ loop.invariant.1 loop.invariant.0 c.loop-s-test.false
+    let kids = listed c.args.source.now c.requires.0 _ c.loop-s-test.true _ c.kids_of-kids.ensures (search rules) _ c.from-in-loop-s.ensures in
+    read_next c.args.source.now c.requires.0 (best_by c.args.best.now) _ c.loop-s-test.true _ kids.are _ c.loop-s.invariant _
+    (rw (← kids.long, ← c.from.ensures) c.set_images.ensures)

@@ -1,24 +1,17 @@
--- `linduvar_search` meets its contract: one law for each of its three answers.
-use mathlib.Core.Path.{sym, ap, ◌∙◌}
-use Rattle.embedding_outcome.specs.Outcomes.{number_of}
-use Rattle.embedding_outcome.proofs.OutcomeNumber.{outcome-number}
-use Rattle.exports_maps.proofs.Maps.{search-refused, search_no_room, search-room}
+use Rattle.std.proofs.Common.{rules, refl, ◌∙◌}
+use Rattle.refusal.proofs.Numbers.{number-ne0}
+use Rattle.exports_maps.proofs.Search.{search-refused, search_no_room, search-room}
 use Rattle.exports_maps.proofs.linduvar_search.Goals as goal
 
-pub returns-then-number-ne0 : goal.returns-then-number-ne0
-returns-then-number-ne0 c =
-    let search = c.search-found in
-    let number = c.number_of-number.ensures ∙ ap number_of search.ensures.answer.outcome ∙ outcome-number _ _ in
-    search-refused _ _ _ _ number c.if-number-ne0.true
+pub returns-in-Some : goal.returns-in-Some
+returns-in-Some c =
+    let found = c.in-Ok.ensures.answer in
+    search-room _ _ _ found.number (search rules) _ _ found.map refl
 
-pub returns-then-out-lt32 : goal.returns-then-out-lt32
-returns-then-out-lt32 c =
-    let search = c.search-found in
-    let number = c.number_of-number.ensures ∙ ap number_of search.ensures.answer.outcome ∙ outcome-number _ _ in
-    search_no_room _ _ _ (sym number ∙ c.if-number-ne0.false) c.if-out-lt32.true
+pub returns-in-None : goal.returns-in-None
+returns-in-None c = search_no_room _ _ _ c.in-Ok.ensures.answer.number (search rules)
 
-pub returns : goal.returns
-returns c =
-    let search = c.search-found in
-    let number = c.number_of-number.ensures ∙ ap number_of search.ensures.answer.outcome ∙ outcome-number _ _ in
-    search-room _ _ _ (sym number ∙ c.if-number-ne0.false) c.if-out-lt32.false _ _ search.ensures.answer.map c.put_map.ensures
+pub returns-in-Err : goal.returns-in-Err
+returns-in-Err c =
+    let number = c.into.ensures ∙ c.in-Err.ensures.answer.number in
+    search-refused _ _ _ _ number (λ z. number-ne0 c.in-Err.refusal (search rules))

@@ -1,10 +1,9 @@
--- `linduvar_open` meets its contract: the opened state as plain numbers.
-use mathlib.Core.Path.{ap, ◌∙◌}
-use Rattle.exports_plain_state.specs.declared.PlainState.{PlainState}
-use Rattle.exports_queue_state.specs.Answers.{plain_opened}
+use Rattle.std.proofs.Common.{◌∙◌}
+use Rattle.refusal.proofs.Numbers.{plain_by_number}
+use Rattle.queue_state.specs.Opening.{no_tree}
+use Rattle.exports_queue_state.specs.Answers.{opened_with}
 use Rattle.exports_queue_state.proofs.linduvar_open.Goals as goal
 
 pub returns : goal.returns
 returns c =
-    let o = c.open-opened in
-    ap (λ (s : PlainState). record { state = s; refusal = o.result.refusal }) c.plain.ensures ∙ ap plain_opened o.ensures
+    c.into.ensures ∙ plain_by_number opened_with no_tree _ c.open.result _ c.open.ensures.refusal c.open.ensures.state

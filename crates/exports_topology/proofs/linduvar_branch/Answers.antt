@@ -1,7 +1,6 @@
--- `linduvar_branch` meets its contract: both parts are those of `branch`.
-use mathlib.Core.Path.{ap}
-use lib.ListN.{length}
+use Rattle.std.proofs.Common.{rules, ap, sym, length}
+use Rattle.exports_topology.proofs.NoPart.{no_part}
 use Rattle.exports_topology.proofs.linduvar_branch.Goals as goal
 
-pub returns : goal.returns
-returns c = (c.branch-part.ensures.refusal_after.0, ap length c.branch-part.ensures.refusal_after.1)
+pub returns-in_Err-part : goal.returns-in_Err-part
+returns-in_Err-part c = (search rules, ap length (sym (no_part _ _ _ c.in_Err-part.ensures.refusal)))

@@ -1,8 +1,5 @@
--- `linduvar_tree_push_to_leaf` meets its contract: the tree's contract, for plain numbers.
 use Rattle.exports_plain_tree.proofs.SchedulesPlain.{scheduled_plain}
 use Rattle.exports_tree_calls.proofs.linduvar_tree_push_to_leaf.Goals as goal
 
 pub returns : goal.returns
-returns c =
-    let call = c.push_to_leaf in
-    scheduled_plain _ _ _ _ _ call.result _ c.tree_of.ensures call.ensures c.answered.ensures
+returns c = scheduled_plain _ _ _ _ _ c.push_to_leaf.result _ c.into.ensures c.push_to_leaf.ensures c.into-2.ensures

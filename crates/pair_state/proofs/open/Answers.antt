@@ -1,24 +1,19 @@
 -- `open` meets its contract: the opening is refused by the search, refused for the limit, or not refused.
-use mathlib.Core.Path.{sym, ◌∙◌}
-use Rattle.pair_state.proofs.OpensBoth.{number_is, search-refused, limit_refused, both-opened}
+use Rattle.std.proofs.Common.{sym, ◌∙◌}
+use Rattle.std.proofs.lemmas.Result.{err_from_is_err_and}
+use Rattle.pair_state.proofs.OpensBoth.{search_refused, source_decides}
 use Rattle.pair_state.proofs.open.Goals as goal
 
-pub returns-then-number-ne0 : goal.returns-then-number-ne0
-returns-then-number-ne0 c =
-    let found = c.search-found.ensures.answer in
-    let number = number_is _ _ _ _ found.outcome c.number_of-number.ensures in
-    c.refused.ensures ∙ search-refused _ _ _ _ found.outcome _ number c.if-number-ne0.true
+pub returns-in_err-map-clause-refusal : goal.returns-in_err-map-clause-refusal
+returns-in_err-map-clause-refusal c =
+    let p = err_from_is_err_and c.from_residual.result c.from_residual.ensures.1 in
+    rw (p.1, p.2) (search_refused _ _ _ _ c.in_err-map.ensures.answer.number)
 
-pub returns-then-refusal-ne0 : goal.returns-then-refusal-ne0
-returns-then-refusal-ne0 c =
-    let found = c.search-found.ensures.answer in
-    let number = number_is _ _ _ _ found.outcome c.number_of-number.ensures in
-    c.refused-then-refusal-ne0.ensures
-    ∙ limit_refused _ _ _ _ found.outcome (sym number ∙ c.if-number-ne0.false) _ c.open-drawn.ensures c.if-refusal-ne0.true
+pub returns-in_err-drawn-clause-refusal : goal.returns-in_err-drawn-clause-refusal
+returns-in_err-drawn-clause-refusal c =
+    let r = c.from_residual-in_err-drawn in
+    let p = err_from_is_err_and r.result r.ensures.1 in
+    rw (p.1, p.2) (c.in_err-drawn.ensures.refusal ∙ source_decides _ _ _ (sym c.in_ok-map.ensures.answer.number))
 
-pub returns : goal.returns
-returns c =
-    let found = c.search-found.ensures.answer in
-    let number = number_is _ _ _ _ found.outcome c.number_of-number.ensures in
-    both-opened _ _ _ _ found.outcome (sym number ∙ c.if-number-ne0.false) _ c.open-drawn.ensures c.if-refusal-ne0.false _
-    c.open-chip.ensures _ found.map
+pub returns-clause-refusal : goal.returns-clause-refusal
+returns-clause-refusal c = c.in_ok-drawn.ensures.refusal ∙ source_decides _ _ _ (sym c.in_ok-map.ensures.answer.number)

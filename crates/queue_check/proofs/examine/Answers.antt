@@ -1,35 +1,23 @@
--- `examine` meets its contract: the tests in their order. A test that fails shows why the state is not well formed; the pass over the queues comes
--- last.
-use borrow.Author.Rules.{rules}
-use native.Mathlib.Omega.{arith}
-use mathlib.Core.Path.{sym, ◌∙◌}
-use lib.Seq.{length-take-le}
-use Rattle.queue_state.specs.State.{bytes}
-use Rattle.queue_state.proofs.OpenedState.{refused_none, none_refused}
-use Rattle.queue_state.proofs.Arrays.{the_arrays}
-use Rattle.queue_check.proofs.ExamineCases.{says_no, tally_tests}
-use borrow.Author.Rules.{rules}
+-- `examine` meets its contract: the number of nodes, the opening's test, and the pass over the queues.
+use Rattle.std.proofs.Common.{sym, ◌∙◌, arith, rules}
+use Rattle.queue_state.proofs.Arrays.{Arrays}
+use Rattle.queue_check.proofs.ExamineCases.{says_no, refused, valid, tests}
 use Rattle.queue_check.proofs.examine.Goals as goal
 
-pub returns-then-nodes-gt-TARGET_NODES : goal.returns-then-nodes-gt-TARGET_NODES
-returns-then-nodes-gt-TARGET_NODES c = says_no _ _ c.unsound.ensures (λ f. omega (arith, f.nodes, c.if-nodes-gt-TARGET_NODES.true))
+pub returns-in_err-bytes : goal.returns-in_err-bytes
+returns-in_err-bytes c =
+    let a : Arrays c.args.state = search rules in
+    rw c.from_residual.ensures (says_no _ (λ f. grind (arith, c.in_err-bytes.ensures.lookup, f.nodes)))
 
-pub slice_bounds-topology-end : goal.slice_bounds-topology-end
-slice_bounds-topology-end c = omega (arith, (the_arrays c.args.state _ c.well_formed.0).topology)
-
-pub slice_bounds-bytes-end : goal.slice_bounds-bytes-end
-slice_bounds-bytes-end c = sym (length-take-le _ _ (omega (arith, (the_arrays c.args.state _ c.well_formed.0).topology)))
-
-pub returns-then-refusal-ne0 : goal.returns-then-refusal-ne0
-unfolding bytes
-returns-then-refusal-ne0 c =
-    says_no _ _ c.unsound-then-refusal-ne0.ensures
-    (λ f. c.if-refusal-ne0.true (c.refusal.ensures ∙ none_refused _ _ f.valid f.least f.most))
+pub returns-in_err-ok : goal.returns-in_err-ok
+returns-in_err-ok c =
+    rw c.from_residual-in_err-ok.ensures
+    (refused _ _ c.in_ok-bytes.ensures.lookup.0.2 _ c.check_opening.ensures (sym c.ok.ensures.value ∙ c.in_err-ok.was))
 
 pub tally-requires : goal.tally-requires
-tally-requires c = (refused_none _ _ (sym c.refusal.ensures ∙ c.if-refusal-ne0.false)).0
+tally-requires c = valid c.args.state _ c.in_ok-bytes.ensures.lookup.0.2 _ c.check_opening.ensures _ (sym c.ok.ensures.value ∙ c.in_ok-ok.was)
 
 pub returns : goal.returns
 returns c =
-    let o = refused_none _ _ (sym c.refusal.ensures ∙ c.if-refusal-ne0.false) in
-    tally_tests _ (the_arrays c.args.state _ c.well_formed.0) (search rules) o.0 o.1 o.2 _ c.tally.ensures
+    let a : Arrays c.args.state = search rules in
+    tests _ _ c.in_ok-bytes.ensures.lookup.0.2 _ c.check_opening.ensures _ (sym c.ok.ensures.value ∙ c.in_ok-ok.was) a (omega (arith, c.in_ok-bytes.ensures.lookup.0.1)) _ c.tally.ensures

@@ -1,251 +1,54 @@
-use native.Mathlib.Omega.{arith}
-use mathlib.Core.Path.{refl, sym, ap, ◌∙◌, subst}
-use Prim.Native.Nat.{◌-◌}
-use lib.Seq.{length-take-le}
-use borrow.Author.Tests.{not-true, not-false}
-use Rattle.pifo_model.specs.Machine.{pushing}
-use Rattle.queue_state.specs.State.{bytes}
-use Rattle.queue_state.specs.Calls.{Serves}
-use Rattle.queue_state.specs.declared.State.{State}
-use Rattle.queue_state.proofs.WellFormed.{formed}
+use Rattle.std.proofs.Common.{◌≡◌, suc, ◌-◌, leb, arith, rules, refl}
+use Rattle.std.proofs.lemmas.List.Sorted.{IsPartitionPoint-from_clause, IsPartitionedBy-leb}
 use Rattle.queue_state.proofs.Arrays.{the_arrays}
-use Rattle.queue_state.proofs.Serves.{ill_served}
-use Rattle.queue_state.proofs.InPlace.{beside}
-use Rattle.queue_push.specs.Calls.{steps_of}
-use Rattle.queue_push.proofs.Insertion.{last_fits, begin, node_low, place_low, behind, move, first, node_pos, next_fits, next, opened_all}
-use Rattle.queue_push.proofs.PushCases.{fault-served, full-served, ready, accepted-served}
-use Rattle.queue_state.specs.InnerQueues.{with_queues}
+use Rattle.queue_state.specs.declared.Entry.{Entry}
+use Rattle.queue_push.proofs.Insertion.{rising, begin, own_rises, passed, entered, opened_all}
+use Rattle.queue_push.proofs.PushCases.{valid, limit_low, fault_served, full_served, ready, accepted_served}
 use Rattle.queue_push.proofs.push.Goals as goal
 
-pub returns-then-not-test : goal.returns-then-not-test
-returns-then-not-test c = ill_served _ _ (sym c.examine-test.ensures.sound ∙ not-true _ c.if-not-test.true)
+pub walk-requires : goal.walk-requires
+walk-requires c = valid _ _ c.in-Some.ensures _ c.bytes.ensures
 
-pub slice_bounds-topology-end : goal.slice_bounds-topology-end
-unfolding bytes
-slice_bounds-topology-end c =
-    let test = c.examine-test.ensures in
-    let yes = not-false _ c.if-not-test.false in
-    let t = sym test.sound ∙ yes in
-    let ar = the_arrays c.args.state _ c.well_formed.0 in
-    omega (arith, (formed _ t).nodes, ar.topology)
+pub returns-in-Err : goal.returns-in-Err
+returns-in-Err c = fault_served _ _ c.in-Some.ensures _ c.bytes.ensures _ _ _ _ c.in-Err.ensures
 
-pub slice_bounds-bytes-end : goal.slice_bounds-bytes-end
-unfolding bytes
-slice_bounds-bytes-end c =
-    let test = c.examine-test.ensures in
-    let yes = not-false _ c.if-not-test.false in
-    let t = sym test.sound ∙ yes in
-    let ar = the_arrays c.args.state _ c.well_formed.0 in
-    sym (length-take-le _ _ (omega (arith, (formed _ t).nodes, ar.topology)))
+pub returns-then-state-test : goal.returns-then-state-test
+returns-then-state-test c = full_served _ _ c.in-Some.ensures _ c.bytes.ensures _ _ _ _ c.in-Ok.ensures c.if-state-test.true _ (search rules)
 
-pub walk-added-requires : goal.walk-added-requires
-unfolding bytes
-walk-added-requires c =
-    let test = c.examine-test.ensures in
-    let yes = not-false _ c.if-not-test.false in
-    let t = sym test.sound ∙ yes in
-    (formed _ t).valid
+pub loop-node-init : goal.loop-node-init
+loop-node-init c = (
+  begin _ _ _ _ _ _
+      (ready _ _ c.in-Some.ensures _ c.bytes.ensures _ _ _ _ c.in-Ok.ensures (the_arrays c.args.state _ c.well_formed.0) c.if-state-test.false),
+  refl,
+  refl,
+)
 
-pub returns-then-fault-ne0 : goal.returns-then-fault-ne0
-unfolding bytes
-returns-then-fault-ne0 c =
-    let test = c.examine-test.ensures in
-    let yes = not-false _ c.if-not-test.false in
-    let t = sym test.sound ∙ yes in
-    fault-served _ t _ _ _ _ c.if-fault-ne0.true c.walk-added.ensures.fault
+pub loop-node-preserved-in-Some-entries : goal.loop-node-preserved-in-Some-entries
+loop-node-preserved-in-Some-entries c =
+    let last : c.loop-node.node ≡ suc (c.loop-node.node - 1) = omega arith in
+    let w = rw last at c.loop-node.invariant.0 in
+    let x = c.in-Some-entries.entry in
+    let rises = rising 0 _ (own_rises _ _ _ _ _ _ _ _ _ _ _ _ w _ c.from-begin.ensures) in
+    let parted =
+    IsPartitionPoint-from_clause (λ (old : Entry). leb old.rank x.rank) _ _ c.partition_point.ensures.partitioned
+    (IsPartitionedBy-leb (λ (old : Entry). old.rank) _ x.rank rises) (λ a r f k. search rules) in (
+      entered _ _ _ _ _ _ _ _ _ _ _ _ w _ c.from-begin.ensures x c.in-Some-entries.is _ c.partition_point.ensures.bound parted
+          _ c.copy_within.ensures.len c.copy_within.ensures.after,
+      c.loop-node.invariant.1,
+      c.loop-node.invariant.2,
+    )
 
-pub returns-then-number-ne0 : goal.returns-then-number-ne0
-unfolding bytes
-returns-then-number-ne0 c =
-    let test = c.examine-test.ensures in
-    let yes = not-false _ c.if-not-test.false in
-    let t = sym test.sound ∙ yes in
-    let z = c.if-fault-ne0.false in
-    let walked = c.walk-added.ensures in
-    full-served _ t _ _ _ (sym z ∙ walked.fault) _ c.if-number-ne0.true (rw (test.count yes) at c.room-number.ensures) _ c.counted-count.ensures
-
-pub raised-raised-requires : goal.raised-raised-requires
-raised-raised-requires c =
-    let test = c.examine-test.ensures in
-    let yes = not-false _ c.if-not-test.false in
-    let t = sym test.sound ∙ yes in
-    let z = c.if-fault-ne0.false in
-    let walked = c.walk-added.ensures in
-    ((formed _ t).nodes, (formed _ t).used, walked.ones)
-
-pub overflow_sub-node : goal.overflow_sub-node
-unfolding bytes
-overflow_sub-node c =
-    let test = c.examine-test.ensures in
-    let yes = not-false _ c.if-not-test.false in
-    let t = sym test.sound ∙ yes in
-    let ar = the_arrays c.args.state _ c.well_formed.0 in
-    let z = c.if-fault-ne0.false in
-    let walked = c.walk-added.ensures in
-    let fits = sym c.if-number-ne0.false ∙ (rw (test.count yes) at c.room-number.ensures) in
-    let set = ready _ t _ _ _ ar (sym z ∙ walked.fault) fits _ walked z _ (test.used yes) in
-    omega (arith, set.some)
-
-pub offset_bounds-lengths-node : goal.offset_bounds-lengths-node
-unfolding bytes
-offset_bounds-lengths-node c =
-    let test = c.examine-test.ensures in
-    let yes = not-false _ c.if-not-test.false in
-    let t = sym test.sound ∙ yes in
-    let ar = the_arrays c.args.state _ c.well_formed.0 in
-    let z = c.if-fault-ne0.false in
-    let walked = c.walk-added.ensures in
-    let fits = sym c.if-number-ne0.false ∙ (rw (test.count yes) at c.room-number.ensures) in
-    let set = ready _ t _ _ _ ar (sym z ∙ walked.fault) fits _ walked z _ (test.used yes) in
-    omega (arith, set.some, set.few)
-
-pub bounds-lengths-node : goal.bounds-lengths-node
-unfolding bytes
-bounds-lengths-node c =
-    let test = c.examine-test.ensures in
-    let yes = not-false _ c.if-not-test.false in
-    let t = sym test.sound ∙ yes in
-    let ar = the_arrays c.args.state _ c.well_formed.0 in
-    let z = c.if-fault-ne0.false in
-    let walked = c.walk-added.ensures in
-    let fits = sym c.if-number-ne0.false ∙ (rw (test.count yes) at c.room-number.ensures) in
-    let set = ready _ t _ _ _ ar (sym z ∙ walked.fault) fits _ walked z _ (test.used yes) in
-    omega (arith, set.some, set.few)
-
-pub overflow_sub-begin : goal.overflow_sub-begin
-unfolding bytes
-overflow_sub-begin c =
-    let test = c.examine-test.ensures in
-    let yes = not-false _ c.if-not-test.false in
-    let t = sym test.sound ∙ yes in
-    let ar = the_arrays c.args.state _ c.well_formed.0 in
-    let z = c.if-fault-ne0.false in
-    let walked = c.walk-added.ensures in
-    let fits = sym c.if-number-ne0.false ∙ (rw (test.count yes) at c.room-number.ensures) in
-    let set = ready _ t _ _ _ ar (sym z ∙ walked.fault) fits _ walked z _ (test.used yes) in
-    last_fits _ _ _ _ _ _ _ set _ c.wide16.ensures.0
-
-pub loop-left-init : goal.loop-left-init
-unfolding bytes
-loop-left-init c =
-    let test = c.examine-test.ensures in
-    let yes = not-false _ c.if-not-test.false in
-    let t = sym test.sound ∙ yes in
-    let ar = the_arrays c.args.state _ c.well_formed.0 in
-    let z = c.if-fault-ne0.false in
-    let walked = c.walk-added.ensures in
-    let fits = sym c.if-number-ne0.false ∙ (rw (test.count yes) at c.room-number.ensures) in
-    let set = ready _ t _ _ _ ar (sym z ∙ walked.fault) fits _ walked z _ (test.used yes) in
-    (begin _ _ _ _ _ _ _ set ar.entries _ c.wide16.ensures.0, refl)
-
-pub offset_bounds-new-node : goal.offset_bounds-new-node
-offset_bounds-new-node c = omega (arith, node_low _ _ _ _ _ _ _ _ _ _ _ _ _ c.loop-left.invariant.0)
-
-pub bounds-new-node : goal.bounds-new-node
-bounds-new-node c = omega (arith, node_low _ _ _ _ _ _ _ _ _ _ _ _ _ c.loop-left.invariant.0)
-
-pub offset_bounds-after-i : goal.offset_bounds-after-i
-offset_bounds-after-i c = omega (arith, place_low _ _ _ _ _ _ _ _ _ _ _ _ _ c.loop-left.invariant.0)
-
-pub bounds-after-i : goal.bounds-after-i
-bounds-after-i c = omega (arith, place_low _ _ _ _ _ _ _ _ _ _ _ _ _ c.loop-left.invariant.0, c.loop-left.invariant.0.long)
-
-pub bounds-pending-node : goal.bounds-pending-node
-bounds-pending-node c = omega (arith, node_low _ _ _ _ _ _ _ _ _ _ _ _ _ c.loop-left.invariant.0)
-
-pub bounds-pending-node-then-goes_behind : goal.bounds-pending-node-then-goes_behind
-bounds-pending-node-then-goes_behind c = omega (arith, node_low _ _ _ _ _ _ _ _ _ _ _ _ _ c.loop-left.invariant.0)
-
-pub overflow_add-fresh : goal.overflow_add-fresh
-overflow_add-fresh c = omega (arith, place_low _ _ _ _ _ _ _ _ _ _ _ _ _ c.loop-left.invariant.0)
-
-pub offset_bounds-after-i-then-goes_behind : goal.offset_bounds-after-i-then-goes_behind
-offset_bounds-after-i-then-goes_behind c = omega (arith, place_low _ _ _ _ _ _ _ _ _ _ _ _ _ c.loop-left.invariant.0)
-
-pub bounds-after-i-then-goes_behind : goal.bounds-after-i-then-goes_behind
-bounds-after-i-then-goes_behind c = omega (arith, place_low _ _ _ _ _ _ _ _ _ _ _ _ _ c.loop-left.invariant.0, c.loop-left.invariant.0.long)
-
-pub loop-left-preserved-then-goes_behind : goal.loop-left-preserved-then-goes_behind
-loop-left-preserved-then-goes_behind c = (behind _ _ _ _ _ _ _ _ _ _ _ _ _ c.loop-left.invariant.0 c.loop-left-test.true c.if-begin-i.true (c.goes_behind.ensures.if_true c.if-goes_behind.true).0 (c.goes_behind.ensures.if_true c.if-goes_behind.true).1, beside c.args.state c.loop-left.after _ c.loop-left.invariant.1)
-
-pub overflow_add-entry : goal.overflow_add-entry
-overflow_add-entry c = omega (arith, place_low _ _ _ _ _ _ _ _ _ _ _ _ _ c.loop-left.invariant.0)
-
-pub offset_bounds-after-i-else-goes_behind : goal.offset_bounds-after-i-else-goes_behind
-offset_bounds-after-i-else-goes_behind c = omega (arith, place_low _ _ _ _ _ _ _ _ _ _ _ _ _ c.loop-left.invariant.0)
-
-pub bounds-after-i-else-goes_behind : goal.bounds-after-i-else-goes_behind
-bounds-after-i-else-goes_behind c = omega (arith, place_low _ _ _ _ _ _ _ _ _ _ _ _ _ c.loop-left.invariant.0, c.loop-left.invariant.0.long)
-
-pub loop-left-preserved-else-goes_behind : goal.loop-left-preserved-else-goes_behind
-loop-left-preserved-else-goes_behind c = (move _ _ _ _ _ _ _ _ _ _ _ _ _ c.loop-left.invariant.0 c.loop-left-test.true c.if-begin-i.true (c.goes_behind.ensures.if_false c.if-goes_behind.false), beside c.args.state c.loop-left.after _ c.loop-left.invariant.1)
-
-pub bounds-pending-node-else-begin-i : goal.bounds-pending-node-else-begin-i
-bounds-pending-node-else-begin-i c = omega (arith, node_low _ _ _ _ _ _ _ _ _ _ _ _ _ c.loop-left.invariant.0)
-
-pub bounds-pending-node-then-pending-node-ne0 : goal.bounds-pending-node-then-pending-node-ne0
-bounds-pending-node-then-pending-node-ne0 c = omega (arith, node_low _ _ _ _ _ _ _ _ _ _ _ _ _ c.loop-left.invariant.0)
-
-pub overflow_add-fresh-then-pending-node-ne0 : goal.overflow_add-fresh-then-pending-node-ne0
-overflow_add-fresh-then-pending-node-ne0 c = omega (arith, place_low _ _ _ _ _ _ _ _ _ _ _ _ _ c.loop-left.invariant.0)
-
-pub offset_bounds-after-i-then-pending-node-ne0 : goal.offset_bounds-after-i-then-pending-node-ne0
-offset_bounds-after-i-then-pending-node-ne0 c = omega (arith, place_low _ _ _ _ _ _ _ _ _ _ _ _ _ c.loop-left.invariant.0)
-
-pub bounds-after-i-then-pending-node-ne0 : goal.bounds-after-i-then-pending-node-ne0
-bounds-after-i-then-pending-node-ne0 c = omega (arith, place_low _ _ _ _ _ _ _ _ _ _ _ _ _ c.loop-left.invariant.0, c.loop-left.invariant.0.long)
-
-pub loop-left-preserved-then-pending-node-ne0 : goal.loop-left-preserved-then-pending-node-ne0
-loop-left-preserved-then-pending-node-ne0 c = (first _ _ _ _ _ _ _ _ _ _ _ _ _ c.loop-left.invariant.0 c.loop-left-test.true c.if-begin-i.false c.if-pending-node-ne0.true, beside c.args.state c.loop-left.after _ c.loop-left.invariant.1)
-
-pub overflow_sub-node-else-pending-node-ne0 : goal.overflow_sub-node-else-pending-node-ne0
-overflow_sub-node-else-pending-node-ne0 c = node_pos _ _ _ _ _ _ _ _ _ _ _ _ _ c.loop-left.invariant.0 c.loop-left-test.true c.if-begin-i.false c.if-pending-node-ne0.false
-
-pub offset_bounds-lengths-node-else-pending-node-ne0 : goal.offset_bounds-lengths-node-else-pending-node-ne0
-offset_bounds-lengths-node-else-pending-node-ne0 c = omega (arith, node_low _ _ _ _ _ _ _ _ _ _ _ _ _ c.loop-left.invariant.0)
-
-pub bounds-lengths-node-else-pending-node-ne0 : goal.bounds-lengths-node-else-pending-node-ne0
-bounds-lengths-node-else-pending-node-ne0 c = omega (arith, node_low _ _ _ _ _ _ _ _ _ _ _ _ _ c.loop-left.invariant.0)
-
-pub overflow_sub-begin-else-pending-node-ne0 : goal.overflow_sub-begin-else-pending-node-ne0
-overflow_sub-begin-else-pending-node-ne0 c = next_fits _ _ _ _ _ _ _ _ _ _ _ _ _ c.loop-left.invariant.0 c.loop-left-test.true c.if-begin-i.false c.if-pending-node-ne0.false _ c.wide16-begin.ensures.0
-
-pub loop-left-smaller : goal.loop-left-smaller
-loop-left-smaller c =
-    let p = node_pos _ _ _ _ _ _ _ _ _ _ _ _ _ c.loop-left.invariant.0 c.loop-left-test.true c.if-begin-i.false c.if-pending-node-ne0.false in
-    omega arith
-
-pub loop-left-preserved : goal.loop-left-preserved
-loop-left-preserved c = (next _ _ _ _ _ _ _ _ _ _ _ _ _ c.loop-left.invariant.0 c.loop-left-test.true c.if-begin-i.false c.if-pending-node-ne0.false _ c.wide16-begin.ensures.0, c.loop-left.invariant.1)
-
-pub overflow_add-result : goal.overflow_add-result
-unfolding bytes
-overflow_add-result c =
-    let test = c.examine-test.ensures in
-    let yes = not-false _ c.if-not-test.false in
-    let t = sym test.sound ∙ yes in
-    omega (arith, test.count yes, (formed _ t).room, (formed _ t).most)
+pub loop-node-preserved : goal.loop-node-preserved
+loop-node-preserved c =
+    let last : c.loop-node.node ≡ suc (c.loop-node.node - 1) = omega arith in
+    let w = rw last at c.loop-node.invariant.0 in
+    (passed _ _ _ _ _ _ _ _ _ _ _ _ w _ c.from-begin.ensures c.in_default-entries.is, c.loop-node.invariant.1, c.loop-node.invariant.2)
 
 pub overflow_cast-result : goal.overflow_cast-result
-unfolding bytes
-overflow_cast-result c =
-    let test = c.examine-test.ensures in
-    let yes = not-false _ c.if-not-test.false in
-    let t = sym test.sound ∙ yes in
-    omega (arith, test.count yes, (formed _ t).room, (formed _ t).most)
+overflow_cast-result c = omega (arith, limit_low _ _ c.in-Some.ensures _ c.bytes.ensures)
 
 pub returns : goal.returns
-unfolding bytes
 returns c =
-    let test = c.examine-test.ensures in
-    let yes = not-false _ c.if-not-test.false in
-    let t = sym test.sound ∙ yes in
-    let ar = the_arrays c.args.state _ c.well_formed.0 in
-    let z = c.if-fault-ne0.false in
-    let walked = c.walk-added.ensures in
-    let fits = sym c.if-number-ne0.false ∙ (rw (test.count yes) at c.room-number.ensures) in
-    let set = ready _ t _ _ _ ar (sym z ∙ walked.fault) fits _ walked z _ (test.used yes) in
-    let opened = opened_all _ _ _ _ _ _ _ _ _ _ _ _ _ c.loop-left.invariant.0 c.loop-left-test.false in
-    let entered = ap (λ (s : State). with_queues s c.raised-raised.result c.loop-left.after.entries) c.loop-left.invariant.1 in
-    subst (Serves c.args.state (pushing (steps_of c.args.path) c.args.path.leaf_rank c.args.packet) _) (sym entered)
-    (accepted-served _ t _ _ _ ar (sym z ∙ walked.fault) fits _ walked z _ _ c.raised-raised.ensures opened _ (omega (arith, test.count yes)))
+    let none : c.loop-node.node ≡ 0 = omega arith in
+    accepted_served _ _ c.in-Some.ensures _ c.bytes.ensures _ _ _ _ c.in-Ok.ensures (the_arrays c.args.state _ c.well_formed.0) c.if-state-test.false
+    _ c.loop-node.invariant.1 c.loop-node.invariant.2 (opened_all _ _ _ _ _ _ _ _ _ _ _ (rw none at c.loop-node.invariant.0))

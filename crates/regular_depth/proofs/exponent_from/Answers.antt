@@ -1,23 +1,19 @@
-use Prim.Native.Nat.{◌-◌}
-use native.Mathlib.Nat.{mul-le-mul_left}
-use native.Mathlib.Omega.{arith}
-use Rattle.regular_depth.proofs.Powers.{reached_none, reached-above, reached-more, reached_next, reached_end}
+use Rattle.std.proofs.Common.{arith}
+use Rattle.regular_model.proofs.Enough.{power-above, enough-least}
+use Rattle.regular_depth.proofs.Powers.{before_enough, power_most}
 use Rattle.regular_depth.proofs.exponent_from.Goals as goal
 
-pub loop-reached-init : goal.loop-reached-init
-loop-reached-init c = reached_none _ _
-
-pub overflow_mul-reached : goal.overflow_mul-reached
-overflow_mul-reached c = omega (arith, mul-le-mul_left {m = c.args.d} {n = 8} c.loop-reached.reached (omega arith))
+pub pow-requires : goal.pow-requires
+pow-requires c = omega (arith, power_most c.args.d c.args.number (omega arith) (omega arith) c.loop-exponent.exponent c.loop-exponent.invariant)
 
 pub overflow_add-exponent : goal.overflow_add-exponent
-overflow_add-exponent c = omega (arith, reached-above _ _ (omega arith) _ _ c.loop-reached.invariant)
+overflow_add-exponent c = omega (arith, power-above c.args.d c.loop-exponent.exponent (omega arith))
 
-pub loop-reached-smaller : goal.loop-reached-smaller
-loop-reached-smaller c = omega (arith, reached-more _ _ (omega arith) _ _ c.loop-reached.invariant)
+pub loop-exponent-smaller : goal.loop-exponent-smaller
+loop-exponent-smaller c = omega (arith, before_enough c.args.d c.args.number (omega arith) c.loop-exponent.exponent (omega arith))
 
-pub loop-reached-preserved : goal.loop-reached-preserved
-loop-reached-preserved c = reached_next _ _ (omega arith) _ _ c.loop-reached.invariant (omega arith)
+pub loop-exponent-preserved : goal.loop-exponent-preserved
+loop-exponent-preserved c = omega (arith, before_enough c.args.d c.args.number (omega arith) c.loop-exponent.exponent (omega arith))
 
 pub returns : goal.returns
-returns c = reached_end _ _ (omega arith) _ _ c.loop-reached.invariant (omega arith)
+returns c = omega (arith, enough-least c.args.d (omega arith) c.args.number c.loop-exponent.exponent (omega arith))

@@ -1,10 +1,10 @@
--- `exponent_from` meets its contract. The power is that of the exponent, which is at most the least that is enough.
-use Prim.Native.Nat.{◌-◌}
-use Rattle.regular_depth.proofs.Powers.{Reached}
+-- `exponent_from` meets its contract. The exponent is at most the least that is enough.
+use Rattle.std.proofs.Common.{◌≤◌, ◌-◌}
+use Rattle.regular_model.specs.InnerNeed.{enough}
 use Rattle.regular_depth.proofs.exponent_from.Given as goal
 
-abbrev pub invariant-loop-reached : goal.invariant-loop-reached
-invariant-loop-reached l = Reached l.d l.number l.reached l.exponent
+abbrev pub invariant-loop-exponent : goal.invariant-loop-exponent
+invariant-loop-exponent l = l.exponent ≤ enough l.d l.number
 
-abbrev pub decreases-loop-reached : goal.decreases-loop-reached
-decreases-loop-reached l = l.number - l.reached
+abbrev pub decreases-loop-exponent : goal.decreases-loop-exponent
+decreases-loop-exponent l = enough l.d l.number - l.exponent

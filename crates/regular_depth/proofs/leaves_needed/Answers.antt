@@ -1,50 +1,34 @@
-use mathlib.Core.Path.{refl}
-use Prim.Native.Nat.{◌-◌}
-use native.Mathlib.Omega.{arith}
-use Rattle.regular_depth.proofs.LeavesNeeded.{stacked_none, children_there, children_sum, stacked_next, root_there, stacked_end}
+use Rattle.std.proofs.Common.{◌-◌, length, refl, ap, arith}
+use Rattle.std.proofs.lemmas.List.{take_rest}
+use Rattle.regular_depth.proofs.LeavesNeeded.{stacked_none, children_most, stacked_next, stacked_end}
 use Rattle.regular_depth.proofs.leaves_needed.Goals as goal
 
 pub loop-i-init : goal.loop-i-init
-loop-i-init c = stacked_none _ _ c.requires _ refl
+loop-i-init c = rw c.new-leaves.ensures (stacked_none c.requires)
 
-pub overflow_cast-end : goal.overflow_cast-end
-overflow_cast-end c = omega (arith, c.shared_slice_known-in-loop-i-1.given (c.loop-i.i - 1))
+pub overflow_sub-others : goal.overflow_sub-others
+overflow_sub-others c =
+    omega (arith, children_most c.requires c.loop-i.invariant (omega arith) (omega arith) c.from.ensures _ refl)
 
-pub overflow_add-end : goal.overflow_add-end
-overflow_add-end c = omega (arith, c.shared_slice_known-in-loop-i-1.given (c.loop-i.i - 1))
-
-pub slice_bounds-sum_of-end : goal.slice_bounds-sum_of-end
-slice_bounds-sum_of-end c =
-    let loop = c.loop-i in
-    omega (arith, children_there _ _ c.requires _ _ _ (loop.i - 1) (omega arith) loop.invariant)
-
-pub sum_of-together-requires : goal.sum_of-together-requires
-sum_of-together-requires c =
-    let loop = c.loop-i in
-    children_sum _ _ c.requires _ _ _ (loop.i - 1) (omega arith) loop.invariant
-
-pub power_from-requires : goal.power_from-requires
-power_from-requires c =
-    let loop = c.loop-i in
-    (c.requires.1, c.requires.2, omega (arith, c.sum_of-together.ensures, children_sum _ _ c.requires _ _ _ (loop.i - 1) (omega arith) loop.invariant))
-
-pub offset_bounds-leaves-top-in-loop-i : goal.offset_bounds-leaves-top-in-loop-i
-offset_bounds-leaves-top-in-loop-i c =
-    let loop = c.loop-i in
-    omega (arith, children_there _ _ c.requires _ _ _ (loop.i - 1) (omega arith) loop.invariant)
-
-pub bounds-leaves-top : goal.bounds-leaves-top
-bounds-leaves-top c =
-    let loop = c.loop-i in
-    omega (arith, children_there _ _ c.requires _ _ _ (loop.i - 1) (omega arith) loop.invariant)
+pub node_leaves-node-requires : goal.node_leaves-node-requires
+node_leaves-node-requires c =
+    let others = c.len.result - c.from.result in
+    let most = children_most c.requires c.loop-i.invariant (omega arith) (omega arith) c.from.ensures others (omega arith) in
+    rw (take_rest, c.deref.ensures.0) (c.requires.1, c.requires.2, most.1)
 
 pub loop-i-preserved : goal.loop-i-preserved
 loop-i-preserved c =
-    let loop = c.loop-i in
-    stacked_next _ _ c.requires _ _ _ (loop.i - 1) (omega arith) loop.invariant _ _ c.sum_of-together.ensures c.power_from.ensures
+    let others = c.len.result - c.from.result in
+    let next = stacked_next c.requires c.loop-i.invariant (omega arith) (omega arith) c.from.ensures others (omega arith) in
+    let node = rw (take_rest, c.deref.ensures.0) at c.node_leaves-node.ensures in
+    rw (c.push.ensures.items, c.truncate.ensures.items, node) next
 
-pub bounds-leaves-top-2 : goal.bounds-leaves-top-2
-bounds-leaves-top-2 c = root_there _ _ c.requires _ _ _ (omega arith) c.loop-i.invariant
+pub bounds-deref-0 : goal.bounds-deref-0
+bounds-deref-0 c =
+    let e = stacked_end c.requires c.loop-i.invariant (omega arith) in
+    omega (arith, ap length e, ap length c.deref-2.ensures.0)
 
 pub returns : goal.returns
-returns c = stacked_end _ _ c.requires _ _ _ (omega arith) c.loop-i.invariant
+returns c =
+    let e = stacked_end c.requires c.loop-i.invariant (omega arith) in
+    rw (c.deref-2.ensures.0, e) refl

@@ -1,31 +1,47 @@
--- The setup and 04 begin the invariant (`begins`), one batch is one turn of it (`turn_on`), and at the end the text written is the output (`over`).
-use mathlib.Core.Path.{refl}
-use Rattle.script_run.proofs.RunLoop.{over, begins, turn_on}
+-- The setup and 04 begin the text; one batch is one turn of the invariant; and at the end the text put is the output.
+use Rattle.std.proofs.Common.{None, Some, refl, rules}
+use Rattle.text.proofs.Appending.{puts_all, appends_none}
+use Rattle.script_run.proofs.RunLoop.{begins, turn, over, whole}
 use Rattle.script_run.proofs.run.Goals as goal
 
-pub loop-progress-init : goal.loop-progress-init
-loop-progress-init c =
+pub returns-in_default : goal.returns-in_default
+returns-in_default c =
     let reader = c.reader_at-reader.ensures in
-    let setup = c.gather-gathered.ensures in
-    record {
-      same = rw (setup.1, reader.0) refl;
-      written = begins _ _ _ _ (rw (reader.0, reader.1) at setup.0) (rw (reader.0, reader.1) at setup.2) _ _ c.start-progress.ensures;
-    }
+    let gathers = rw (reader.script, reader.at) at c.gather-gathered.ensures.gathers in
+    let left = rw (reader.script, reader.at) at c.gather-gathered.ensures.left in
+    let out = whole _ _ _ gathers left None c.in_default.ensures (appends_none _) in
+    puts_all c.new-text.ensures out (search rules) c.place.ensures
 
-pub loop-progress-smaller : goal.loop-progress-smaller
-loop-progress-smaller c =
-    let loop = c.loop-progress.invariant in
-    let batch = c.next_batch-batch.ensures in
-    (turn_on c.args.script.now c.args.out.now _ _ _ c.loop-progress-test.true loop.written _ (rw loop.same at batch.0) _ _ c.serve-progress.ensures.0 c.serve-progress.ensures.1 _ (rw loop.same at batch.2)).1
+pub loop-next-init : goal.loop-next-init
+loop-next-init c = record {
+  same = rw (c.gather-gathered.ensures.script, c.reader_at-reader.ensures.script) refl;
+  put = begins _ _ _ _ c.in-Some.ensures.ready;
+}
 
-pub loop-progress-preserved : goal.loop-progress-preserved
-loop-progress-preserved c =
-    let loop = c.loop-progress.invariant in
-    let batch = c.next_batch-batch.ensures in
+pub loop-next-smaller : goal.loop-next-smaller
+loop-next-smaller c =
+    let loop = c.loop-next.invariant in
+    let batch = c.next_batch.ensures in
+    let at = rw loop.same at batch.at in
+    rw at ((turn _ loop.put (rw loop.same at batch.reads) _ c.serve.ensures.comes _ c.in-Some-serve.is c.in-Some-serve.ensures.commands).1)
+
+pub loop-next-preserved : goal.loop-next-preserved
+loop-next-preserved c =
+    let loop = c.loop-next.invariant in
+    let batch = c.next_batch.ensures in
+    let at = rw loop.same at batch.at in
     record {
-      same = rw batch.1 loop.same;
-      written = (turn_on c.args.script.now c.args.out.now _ _ _ c.loop-progress-test.true loop.written _ (rw loop.same at batch.0) _ _ c.serve-progress.ensures.0 c.serve-progress.ensures.1 _ (rw loop.same at batch.2)).0;
+      same = rw batch.script loop.same;
+      put = rw at ((turn _ loop.put (rw loop.same at batch.reads) _ c.serve.ensures.comes _ c.in-Some-serve.is c.in-Some-serve.ensures.commands).0);
     }
 
 pub returns : goal.returns
-returns c = over _ _ _ _ _ _ c.loop-progress.invariant.written c.loop-progress-test.false
+returns c =
+    let reader = c.reader_at-reader.ensures in
+    let setup = c.gather-gathered.ensures in
+    let loop = c.loop-next.invariant in
+    puts_all c.new-text.ensures
+    (whole _ _ _ (rw (reader.script, reader.at) at setup.gathers) (rw (reader.script, reader.at) at setup.left)
+    (Some c.in-Some.session) c.in-Some.ensures
+    (over _ loop.put (rw loop.same at c.next_batch.ensures.reads) _ c.serve.ensures.comes c.in_default-serve.is))
+    (search rules) c.place-2.ensures

@@ -1,16 +1,13 @@
--- `run` meets its contract. While the loop runs, `Inv` says what the code has and what it has written; the reader has the same script.
-use mathlib.Core.Path.{◌≡◌}
-use Prim.Native.Nat.{◌+◌, ◌-◌}
-use lib.ListN.{length}
-use Rattle.script_commands.proofs.ReadsFrom.{to_come}
+-- `run` meets its contract. While the loop runs, `Inv` says what the code has and what it has put; the reader has the same script.
+use Rattle.std.proofs.Common.{◌≡◌, ◌-◌, length}
 use Rattle.script_run.proofs.RunLoop.{Inv}
 use Rattle.script_run.proofs.run.Given as goal
 
-abbrev pub invariant-loop-progress : goal.invariant-loop-progress
-invariant-loop-progress l = record {
+abbrev pub invariant-loop-next : goal.invariant-loop-next
+invariant-loop-next l = record {
   same : l.reader.script.now ≡ l.script;
-  written : Inv l.script l.fn.out (length l.script - l.reader.at + 1) l.reader.at l.progress l.out;
+  put : Inv l.script l.initial.text l.initial.reader.at l.initial.session l.reader.at l.session l.text;
 }
 
-abbrev pub decreases-loop-progress : goal.decreases-loop-progress
-decreases-loop-progress l = to_come l.script l.reader.at l.progress.printed.going
+abbrev pub decreases-loop-next : goal.decreases-loop-next
+decreases-loop-next l = length l.script - l.reader.at

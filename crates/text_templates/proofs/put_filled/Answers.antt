@@ -1,31 +1,29 @@
-use mathlib.Core.Path.{◌∙◌}
-use Prim.Native.Nat.{◌-◌}
-use Rattle.text.proofs.Written.{puts_length, puts_still, puts_then}
-use Rattle.text_templates.proofs.Filled.{filling_none, filling_next, filling_all}
+use Rattle.std.proofs.Common.{◌≡◌, get_or, arith}
+use Rattle.std.proofs.lemmas.Grind.{common_steps}
+use Rattle.text.proofs.Appending.{appends_none, appends_then}
+use Rattle.text_templates.proofs.Filled.{filled_hole, filled_byte, filled_end}
 use Rattle.text_templates.proofs.put_filled.Goals as goal
+use Rattle.text_templates.proofs.put_filled.Goals.{then-byte-eq35, else-byte-eq35}
 
-pub loop-i-init : goal.loop-i-init
-loop-i-init c = filling_none _ _ (puts_still c.put_word-place.ensures)
-
-pub loop-i-preserved : goal.loop-i-preserved
-loop-i-preserved c =
-    filling_next
-    _
-    _
-    _
-    _
-    _
-    _
-    c.loop-i-test.true
-    c.loop-i.invariant
-    c.number_at.ensures
-    c.put_part-place.ensures
-    c.used_after-n.ensures
-
-pub shape_of-out : goal.shape_of-out
-shape_of-out c =
-    puts_length c.loop-i.invariant.puts ∙ puts_length c.put_word-place.ensures
+pub loop-byte-preserved : goal.loop-byte-preserved
+loop-byte-preserved c =
+    let loop = c.loop-byte.invariant in
+    let within = c.loop-byte-test.true in
+    elim c.if-byte-eq35.branch [
+      | then-byte-eq35 w ↦
+          let e : w.unwrap_or.result ≡ get_or c.args.numbers.now c.loop-byte.n 0 = grind (arith, common_steps) in
+          rw (w.text-is, w.n-is)
+          record {
+            few = omega arith;
+            rest = λ after p. loop.rest after (rw (filled_hole _ _ _ _ _ within w.if-byte-eq35.true e) (appends_then w.put_decimal.ensures p));
+          }
+      | else-byte-eq35 w ↦
+          rw (w.text-is, w.n-is)
+          record {
+            few = omega arith;
+            rest = λ after p. loop.rest after (rw (filled_byte _ _ _ _ within w.if-byte-eq35.false) (appends_then w.put.ensures p));
+          }
+    ]
 
 pub returns : goal.returns
-returns c =
-    puts_then c.put_word-place.ensures (filling_all _ _ _ _ c.loop-i-test.false c.loop-i.invariant)
+returns c = c.loop-byte.invariant.rest _ (rw (filled_end _ _ _ _ c.loop-byte-test.false) (appends_none _))

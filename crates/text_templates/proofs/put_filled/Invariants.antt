@@ -1,11 +1,14 @@
--- `put_filled` meets its contract. The bytes before i are written, with n numbers.
-use Prim.Native.Nat.{◌-◌}
-use lib.ListN.{length}
-use Rattle.text_templates.proofs.Filled.{Filling}
+-- `put_filled` meets its contract. What puts the rest of the template behind the text puts the whole of it.
+use Rattle.std.proofs.Common.{◌≤◌, drop}
+use Rattle.text.specs.Appending.{Appends}
+use Rattle.text.specs.declared.Text.{Text}
+use Rattle.text_templates.specs.Template.{filled}
 use Rattle.text_templates.proofs.put_filled.Given as goal
 
-abbrev pub invariant-loop-i : goal.invariant-loop-i
-invariant-loop-i l = Filling l.initial.out l.initial.place l.template l.numbers l.out l.place l.i l.n
-
-abbrev pub decreases-loop-i : goal.decreases-loop-i
-decreases-loop-i l = length l.template - l.i
+abbrev pub invariant-loop-byte : goal.invariant-loop-byte
+invariant-loop-byte l = record {
+  few : l.n ≤ l.byte-index;
+  rest :
+      (after : Text) → Appends l.text (filled (drop l.byte-index l.template) l.numbers l.n) after
+      → Appends l.fn.text (filled l.template l.numbers 0) after;
+}

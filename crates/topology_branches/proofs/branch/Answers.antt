@@ -1,49 +1,35 @@
 -- `branch` meets its contract: each answer is one law of `Cases`; the part stays within the bytes by `end_bounds`.
-use mathlib.Core.Path.{refl}
-use native.Mathlib.Omega.{arith}
-use borrow.Author.Rules.{rules}
+use Rattle.std.proofs.Common.{rules}
+use Rattle.std.proofs.lemmas.Result.{err_from_is_err_and}
 use Rattle.topology.proofs.BranchEnd.{end_bounds}
-use Rattle.topology.proofs.Cases.{refused_by_lem, branch-refused, branch_missing, branch_there}
-use borrow.Author.Rules.{rules}
+use Rattle.topology.proofs.Cases.{branch-refused, branch_missing, branch_there}
 use Rattle.topology_branches.proofs.branch.Goals as goal
+
+pub returns-in_err-read-clause-refusal : goal.returns-in_err-read-clause-refusal
+returns-in_err-read-clause-refusal c =
+    let p = err_from_is_err_and c.from_residual.result c.from_residual.ensures.1 in
+    rw (p.1, p.2) (branch-refused _ _ _ c.in_err-read.ensures)
+
+pub returns-then-bytes-node-clause-refusal : goal.returns-then-bytes-node-clause-refusal
+returns-then-bytes-node-clause-refusal c = branch_missing _ _ c.in_ok-read.ensures c.if-bytes-node.true
 
 pub slice_bounds-result-count : goal.slice_bounds-result-count
 slice_bounds-result-count c =
     let b = end_bounds c.args.bytes.now c.args.node (search rules) in
-    let e = c.branch_end-end.ensures in
-    search rules
+    search (rules, c.branch_end.ensures)
 
 pub slice_bounds-result-start : goal.slice_bounds-result-start
 slice_bounds-result-start c =
     let b = end_bounds c.args.bytes.now c.args.node (search rules) in
-    let e = c.branch_end-end.ensures in
-    search rules
+    search (rules, c.branch_end.ensures)
 
-pub slice_bounds-result-end-then-node-bytes : goal.slice_bounds-result-end-then-node-bytes
-slice_bounds-result-end-then-node-bytes c =
+pub slice_bounds-result-end : goal.slice_bounds-result-end
+slice_bounds-result-end c =
     let b = end_bounds c.args.bytes.now c.args.node (search rules) in
-    let e = c.branch_end-end.ensures in
-    search rules
+    search (rules, c.branch_end.ensures)
 
-pub returns-in-Refused : goal.returns-in-Refused
-returns-in-Refused c =
-    let read = c.read.ensures in
-    let number = c.in-Refused.is in
-    record {
-      refusal_after = branch-refused _ _ _ read _ number;
-      ref_ptr_value = λ none. absurd (refused_by_lem _ _ _ read _ number none);
-    }
+pub returns-clause-refusal : goal.returns-clause-refusal
+returns-clause-refusal c = (branch_there _ _ c.in_ok-read.ensures c.if-bytes-node.false _ c.branch_end.ensures).0
 
-pub returns-then-node-bytes : goal.returns-then-node-bytes
-returns-then-node-bytes c =
-    record {
-      refusal_after = branch_there _ _ _ c.read.ensures c.in-Tree.is c.if-node-bytes.true _ c.branch_end-end.ensures;
-      ref_ptr_value = λ none. refl;
-    }
-
-pub returns-else-node-bytes : goal.returns-else-node-bytes
-returns-else-node-bytes c =
-    record {
-      refusal_after = branch_missing _ _ _ c.read.ensures c.in-Tree.is c.if-node-bytes.false;
-      ref_ptr_value = λ none. absurd (omega (arith, none));
-    }
+pub returns-clause-part : goal.returns-clause-part
+returns-clause-part c = (branch_there _ _ c.in_ok-read.ensures c.if-bytes-node.false _ c.branch_end.ensures).1

@@ -1,11 +1,7 @@
--- `child` meets its contract. The loop is where the branch of child k starts.
-use mathlib.Core.Path.{◌≡◌}
-use Prim.Native.Nat.{◌≤◌, ◌-◌}
+-- `child` meets its contract. The loop is where the branch of the next child starts.
+use Rattle.std.proofs.Common.{◌≡◌, ◌-◌}
 use Rattle.topology.specs.Branch.{start}
 use Rattle.topology_branches.proofs.child.Given as goal
 
-abbrev pub invariant-loop-k : goal.invariant-loop-k
-invariant-loop-k l = (1 ≤ l.k) × (l.k ≤ l.index) × (l.at ≡ start l.bytes l.node (l.k - 1))
-
-abbrev pub decreases-loop-k : goal.decreases-loop-k
-decreases-loop-k l = l.index - l.k
+abbrev pub invariant-loop : goal.invariant-loop
+invariant-loop l = l.at ≡ start l.bytes l.node (l.counter - 1)

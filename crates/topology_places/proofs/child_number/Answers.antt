@@ -1,16 +1,14 @@
-use Prim.Native.Nat.{◌-◌}
-use Rattle.topology_places.specs.Places.{parent, child_number}
-use Rattle.topology_places.proofs.Counted.{counts_none, counts_next, counts_all, same_test}
+-- `child_number` meets its contract: of the nodes from 1 to it those that have its parent are counted.
+use Rattle.std.proofs.Common.{◌∙◌, ℕ, ◌+◌, eqb, ap, rules, tests}
+use Rattle.topology_places.specs.Places.{child_number, parent, counted}
+use Rattle.topology_places.proofs.Chains.{counted_all}
 use Rattle.topology_places.proofs.child_number.Goals as goal
-
-pub loop-j-init : goal.loop-j-init
-loop-j-init c = counts_none _ _
-
-pub loop-j-preserved : goal.loop-j-preserved
-loop-j-preserved c =
-    let same = same_test c.parent.ensures c.parent-above.ensures in
-    counts_next _ _ _ _ _ _ c.loop-j-test.true c.loop-j.invariant same c.one_if-count.ensures
 
 pub returns : goal.returns
 unfolding child_number
-returns c = counts_all _ _ _ _ c.loop-j-test.false c.loop-j.invariant
+returns c =
+    let bytes = c.args.bytes.now in
+    let filter = c.filter.ensures in
+    counted_all (λ j. eqb (parent bytes (j + 1)) c.parent-above.result) c.args.node _ _ filter.source filter.closure c.count.ensures.ran
+    (λ x b q k. search (rules, tests))
+    ∙ ap (λ (a : ℕ). counted (λ j. eqb (parent bytes (j + 1)) a) c.args.node) c.parent-above.ensures

@@ -1,16 +1,13 @@
-use Prim.Native.Nat.{◌-◌}
+-- `depth` meets its contract: the nodes above are counted.
+use Rattle.std.proofs.Common.{rules, tests}
 use Rattle.topology.specs.Branch.{is_above}
 use Rattle.topology_places.specs.Places.{depth}
-use Rattle.topology_places.proofs.Counted.{counts_none, counts_next, counts_all}
+use Rattle.topology_places.proofs.Chains.{counted_all}
 use Rattle.topology_places.proofs.depth.Goals as goal
-
-pub loop-a-init : goal.loop-a-init
-loop-a-init c = counts_none _ _
-
-pub loop-a-preserved : goal.loop-a-preserved
-loop-a-preserved c =
-    counts_next _ _ _ _ _ _ c.loop-a-test.true c.loop-a.invariant c.is_above.ensures c.one_if-count.ensures
 
 pub returns : goal.returns
 unfolding depth
-returns c = counts_all _ _ _ _ c.loop-a-test.false c.loop-a.invariant
+returns c =
+    let filter = c.filter.ensures in
+    counted_all (λ a. is_above c.args.bytes.now a c.args.node) c.args.node _ _ filter.source filter.closure c.count.ensures.ran
+    (λ x b q k. search (rules, tests))

@@ -1,16 +1,12 @@
-use Prim.Native.Nat.{◌-◌}
+-- `parent` meets its contract: the last of the nodes above is found.
+use Rattle.std.proofs.Common.{◌∙◌, refl, rules, tests}
 use Rattle.topology.specs.Branch.{is_above}
 use Rattle.topology_places.specs.Places.{parent}
-use Rattle.topology_places.proofs.Counted.{tries_none, tries_next, tries_all}
+use Rattle.topology_places.proofs.Chains.{last_found}
 use Rattle.topology_places.proofs.parent.Goals as goal
-
-pub loop-a-init : goal.loop-a-init
-loop-a-init c = tries_none _ _
-
-pub loop-a-preserved : goal.loop-a-preserved
-loop-a-preserved c =
-    tries_next _ _ _ _ _ _ c.loop-a-test.true c.loop-a.invariant c.is_above.ensures c.choose-found.ensures
 
 pub returns : goal.returns
 unfolding parent
-returns c = tries_all _ _ _ _ c.loop-a-test.false c.loop-a.invariant
+returns c =
+    c.unwrap_or.ensures
+    ∙ last_found (λ a. is_above c.args.bytes.now a c.args.node) c.args.node _ _ _ _ refl c.rfind.ensures.ran (λ x b q k. search (rules, tests))

@@ -1,18 +1,13 @@
-use mathlib.Core.Path.{ap, ◌∙◌}
-use Prim.Native.Nat.{ℕ, ◌-◌}
-use Rattle.topology_places.specs.Places.{on_trunk, trunk_from}
-use Rattle.topology_places.proofs.Counted.{tries_none, tries_next, tries_all}
+-- `trunk_from` meets its contract: the last of the nodes on the trunk is found.
+use Rattle.std.proofs.Common.{◌∙◌, refl, ap, ℕ, rules, tests}
+use Rattle.topology_places.specs.Places.{on_trunk, trunk_from, last_of}
+use Rattle.topology_places.proofs.Chains.{last_found}
 use Rattle.topology_places.proofs.trunk_from.Goals as goal
-
-pub loop-j-init : goal.loop-j-init
-loop-j-init c = tries_none _ _
-
-pub loop-j-preserved : goal.loop-j-preserved
-loop-j-preserved c =
-    let bytes = c.args.bytes.now in
-    let tested = c.on_trunk.ensures ∙ ap (λ (a : ℕ). on_trunk bytes a c.loop-j.j) c.parent-above.ensures in
-    tries_next _ _ _ _ _ _ c.loop-j-test.true c.loop-j.invariant tested c.choose-found.ensures
 
 pub returns : goal.returns
 unfolding trunk_from
-returns c = tries_all _ _ _ _ c.loop-j-test.false c.loop-j.invariant
+returns c =
+    c.unwrap_or.ensures
+    ∙ last_found (on_trunk c.args.bytes.now c.parent-above.result) c.args.node _ _ _ _ refl c.rfind.ensures.ran
+    (λ x b q k. search (rules, tests))
+    ∙ ap (λ (a : ℕ). last_of (on_trunk c.args.bytes.now a) c.args.node) c.parent-above.ensures

@@ -8,9 +8,9 @@ use Rattle.queue_push.specs.Calls.{steps_of}
 use Rattle.translator.proofs.DescendLoop.{Descending}
 use Rattle.translator.proofs.descend.Given as goal
 
-abbrev pub invariant-loop-node : goal.invariant-loop-node
-invariant-loop-node l =
+abbrev pub invariant-loop-next : goal.invariant-loop-next
+invariant-loop-next l =
     Descending l.bytes (steps_of l.initial.extending ++ steps l.rank (route (tree l.bytes) l.from l.to)) l.initial.extending.leaf_rank l.to l.rank l.extending l.node
 
-abbrev pub decreases-loop-node : goal.decreases-loop-node
-decreases-loop-node l = l.to - l.node
+abbrev pub decreases-loop-next : goal.decreases-loop-next
+decreases-loop-next l = l.to - l.node

@@ -1,10 +1,6 @@
 -- `walk` meets its contract. The loop has walked the first i steps of the path and carried them (`Walking` in proofs/WalkLoop.antt).
-use Prim.Native.Nat.{◌-◌}
 use Rattle.translator.proofs.WalkLoop.{Walking}
 use Rattle.translator.proofs.walk.Given as goal
 
 abbrev pub invariant-loop-i : goal.invariant-loop-i
 invariant-loop-i l = Walking l.source l.target l.map l.path l.carried l.from l.node l.i
-
-abbrev pub decreases-loop-i : goal.decreases-loop-i
-decreases-loop-i l = l.count - l.i

@@ -1,10 +1,14 @@
 -- `held` meets its contract.
-use borrow.Author.Tests.{not-true, not-false}
+use Rattle.std.proofs.Common.{refl}
+use Rattle.std.proofs.lemmas.Result.{err_from_is_err_and}
 use Rattle.tree_counts.proofs.AreSound.{unanswered, answered}
 use Rattle.tree_counts.proofs.held.Goals as goal
 
-pub returns-then-not-are_sound : goal.returns-then-not-are_sound
-returns-then-not-are_sound c = unanswered _ _ c.are_sound.ensures _ c.if-not-are_sound.true
+pub returns-in_err-test_rules : goal.returns-in_err-test_rules
+returns-in_err-test_rules c =
+    let p = err_from_is_err_and c.from_residual.result c.from_residual.ensures.1 in
+    let test = c.in_err-test_rules.ensures in
+    rw (p.1, p.2, test.refusal) (unanswered _ _ test.passes _ refl)
 
 pub returns : goal.returns
-returns c = answered _ _ c.are_sound.ensures _ c.if-not-are_sound.false _ c.held.ensures
+returns c = answered _ _ c.in_ok-test_rules.ensures.passes _ refl _ c.held.ensures

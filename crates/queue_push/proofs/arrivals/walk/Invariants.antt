@@ -1,10 +1,8 @@
--- `walk` meets its contract. The loop has walked the first i steps and noted their entries (`Way` in proofs/WalkLoop.antt).
-use Prim.Native.Nat.{◌-◌}
-use Rattle.queue_push.proofs.WalkLoop.{Way}
+-- `walk` meets its contract. The loop has walked the first i steps and noted their entries (`Walking` in proofs/WalkLoop.antt).
+use Rattle.topology.specs.Reader.{tree}
+use Rattle.queue_push.specs.Calls.{steps_of}
+use Rattle.queue_push.proofs.WalkLoop.{Walking}
 use Rattle.queue_push.proofs.arrivals.walk.Given as goal
 
 abbrev pub invariant-loop-i : goal.invariant-loop-i
-invariant-loop-i l = Way l.bytes l.path l.packet l.node l.i l.pending l.entries
-
-abbrev pub decreases-loop-i : goal.decreases-loop-i
-decreases-loop-i l = l.count - l.i
+invariant-loop-i l = Walking (tree l.bytes) (steps_of l.path) l.path.leaf_rank l.packet l.node l.i l.entries

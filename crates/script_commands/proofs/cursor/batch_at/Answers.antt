@@ -1,13 +1,13 @@
-use mathlib.Core.Path.{refl}
-use native.Mathlib.Omega.{arith}
-use Rattle.script_commands.proofs.Batches.{filled_none, filled_more, filled_all}
+use Rattle.std.proofs.Common.{◌≡◌, suc, ◌+◌, ◌-◌, length-set, append_assoc, refl, arith}
+use Rattle.std.proofs.lemmas.List.{take_more_set}
 use Rattle.script_commands.proofs.cursor.batch_at.Goals as goal
 
-pub loop-i-init : goal.loop-i-init
-loop-i-init c = (filled_none _ _ _ refl, omega arith)
-
 pub loop-i-preserved : goal.loop-i-preserved
-loop-i-preserved c = (filled_more _ _ _ _ _ c.loop-i.invariant.0 (omega arith) _ _ c.read_at-found.ensures.0 c.read_at-found.ensures.1, omega arith)
-
-pub returns : goal.returns
-returns c = filled_all _ _ _ _ _ c.loop-i.invariant.0 (omega arith)
+loop-i-preserved c =
+    let l = c.loop-i in
+    let read = c.read_at.ensures in
+    let left : 256 - l.i ≡ suc (256 - (l.i + 1)) = omega arith in
+    let reads = rw left at l.invariant.1 in
+    let after = rw left at l.invariant.2 in
+    let more = take_more_set l.reads l.i c.read_at.result.0 (omega arith) in
+    (rw (length-set, l.invariant.0) refl, rw (more, append_assoc, read.read, read.next) reads, rw read.next after)

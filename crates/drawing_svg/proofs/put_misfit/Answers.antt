@@ -1,0 +1,10 @@
+-- `put_misfit` meets its contract: the parts of the sheet joined.
+use Rattle.text.proofs.Appending.{appends_then}
+use Rattle.drawing_svg.specs.Sheet.{misfit_of}
+use Rattle.drawing_svg.proofs.put_misfit.Goals as goal
+
+pub returns : goal.returns
+unfolding misfit_of
+returns c =
+    rw (← c.branch_end.ensures)
+    (appends_then c.put_pair.ensures (appends_then c.put_note.ensures (appends_then c.put_lack.ensures c.put_note_end.ensures)))
