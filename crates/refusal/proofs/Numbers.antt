@@ -8,7 +8,7 @@ use Rattle.base.proofs.Refusals.{or_else_first}
 use Rattle.std.specs.Prelude.{Result, Ok, Err, is_ok, IfOk}
 use lib.Dec.{eqb}
 use borrow.Author.Tests.{ne_eqb}
-use Rattle.refusal.specs.Numbers.{number, refusal_of, number_of, as_plain}
+use Rattle.refusal.specs.Numbers.{number, in_order, refusal_of, number_of, as_plain}
 use Rattle.refusal.specs.declared.Refusal.{Refusal}
 use Rattle.refusal.specs.declared.Refusal.TheVariants as r
 
@@ -91,22 +91,11 @@ plain_by_number g none a (Ok v) f h e = rw (← h, e) refl
 plain_by_number g none a (Err r) zero h e = absurd (number-ne0 r h)
 plain_by_number g none a (Err r) (suc f) h e = rw h refl
 
--- ---- a number stands for one refusal, and each number from 1 to 27 for some refusal
-
--- the refusals in the order of their numbers
-refusals : List Refusal
-refusals =
-    r.Incomplete ∷ r.Excess ∷ r.TooManyNodes ∷ r.TooManyChildren ∷ r.TooDeep ∷ r.MapLength ∷ r.NoSuchImage ∷ r.SharedImage ∷ r.RootMoved ∷ r.LeafMoved
-    ∷ r.OrderBroken ∷ r.NoMap ∷ r.NoSuchChild ∷ r.EndsAboveLeaf ∷ r.Full ∷ r.Empty ∷ r.Limit ∷ r.State ∷ r.NoSuchBranch
-    ∷ r.UnknownCommand ∷ r.CutShort ∷ r.OutOfTurn ∷ r.LateFinish ∷ r.Rules ∷ r.NoLeaf ∷ r.PassedNode ∷ r.Degree ∷ []
-
-of_number : (e : Refusal) → get_or refusals (number e - 1) r.Degree ≡ e
-unfolding refusals
-of_number e = grind (arith, common_steps)
-
+-- a number stands for one refusal
 pub number-injective : (e f : Refusal) → number e ≡ number f → e ≡ f
-number-injective e f h = sym (of_number e) ∙ ap (λ (n : ℕ). get_or refusals (n - 1) r.Degree) h ∙ of_number f
+number-injective e f h = sym (refusal_back e) ∙ ap refusal_of h ∙ refusal_back f
 
+-- each number from 1 to 27 is that of some refusal
 pub numbered : (n : ℕ) → n < 27 → (e : Refusal) × (number e ≡ suc n)
-unfolding refusals
-numbered n h = (get_or refusals n r.Degree, sym (get_or-map number refusals n r.Degree 0 h) ∙ get_or-range_with_len 1 27 n 0 h ∙ one-add n)
+numbered n h =
+    (get_or in_order n r.Degree, sym (get_or-map number in_order n r.Degree 0 h) ∙ get_or-range_with_len 1 27 n 0 h ∙ one-add n)

@@ -33,7 +33,7 @@ number r.PassedNode = 26
 number r.Degree = 27
 
 -- the refusals in the order of their numbers
-abbrev in_order : List Refusal
+abbrev pub in_order : List Refusal
 in_order =
     r.Incomplete ∷ r.Excess ∷ r.TooManyNodes ∷ r.TooManyChildren ∷ r.TooDeep ∷ r.MapLength ∷ r.NoSuchImage ∷ r.SharedImage ∷ r.RootMoved ∷
     r.LeafMoved ∷ r.OrderBroken ∷ r.NoMap ∷ r.NoSuchChild ∷ r.EndsAboveLeaf ∷ r.Full ∷ r.Empty ∷ r.Limit ∷ r.State ∷ r.NoSuchBranch ∷
