@@ -3,8 +3,8 @@ use mathlib.Core.Path.{◌≡◌, refl, sym, ap, ◌∙◌}
 use Prim.Native.Nat.{ℕ, suc, ◌+◌, ◌-◌, ◌≤◌, ◌<◌}
 use native.Mathlib.Omega.{arith}
 use mathlib.Core.List.{List, [], ◌∷◌, ◌++◌, map}
-use lib.ListN.{length, take, drop, get_or, set, replicate, length-append, length-take}
-use lib.Seq.{drop-cons, get_or-take}
+use lib.ListN.{length, take, drop, get_or, set, replicate, length-append, drop_of_length-le}
+use lib.Seq.{drop-cons}
 use borrow.Author.Tests.{lt-ltb}
 use Rattle.base.proofs.Map.{length-map, get_d_map}
 use Rattle.pifo_model.specs.Tree.{Step, step}
@@ -12,16 +12,16 @@ use Rattle.queue_push.specs.Calls.{step_of, steps_of, code_step, no_step, path_o
 use Rattle.queue_push.specs.declared.Path.{Path}
 use Rattle.queue_push.specs.declared.Step.{Step as CodeStep}
 
-pub step_at : (path : Path) (i : ℕ) (d : CodeStep) → i < path.count → i < length path.steps
-    → drop i (steps_of path) ≡ step_of (get_or path.steps i d) ∷ drop (suc i) (steps_of path)
-step_at path i d h g =
-    let l : i < length (take path.count path.steps) = omega (arith, length-take path.count path.steps) in
-    drop-cons (steps_of path) i (step_of d) (omega (arith, length-map step_of (take path.count path.steps)))
-    ∙ ap (λ (s : Step). s ∷ drop (suc i) (steps_of path))
-    (get_d_map step_of (take path.count path.steps) i d (step_of d) l ∙ ap step_of (get_or-take path.count path.steps i d h))
+-- of the list that `Path::steps` answers
+module _ (path : Path) (steps : List CodeStep) (i : ℕ) (e : steps ≡ take path.count path.steps) where
+  pub step_at : i < length steps → drop i (steps_of path) ≡ step_of (get_or steps i no_step) ∷ drop (suc i) (steps_of path)
+  step_at h =
+      rw (← e)
+      (drop-cons (map step_of steps) i (step_of no_step) (omega (arith, length-map step_of steps))
+      ∙ ap (λ (s : Step). s ∷ drop (suc i) (map step_of steps)) (get_d_map step_of steps i no_step (step_of no_step) h))
 
-pub steps_end : (path : Path) (i : ℕ) → path.count ≤ i → length (steps_of path) ≤ i
-steps_end path i h = omega (arith, length-map step_of (take path.count path.steps), length-take path.count path.steps)
+  pub steps_end : length steps ≤ i → drop i (steps_of path) ≡ []
+  steps_end h = rw (← e) (drop_of_length-le (map step_of steps) (omega (arith, length-map step_of steps)))
 
 -- ---- paths of given steps
 

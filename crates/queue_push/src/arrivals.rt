@@ -21,9 +21,9 @@ pub(crate) fn walk(bytes: &[u8], path: Path, packet: Packet) -> Result<Added, Re
     ensures { Walked (tree bytes.now) (length bytes.now) (steps_of path) path.leaf_rank packet result }
 {
     let mut entries = [None; 64];
+    let steps = path.steps();
     let mut node = 0;
-    for i in 0..path.count {
-        let step = path.steps[i];
+    for step in steps {
         let child = topology_branches::child(bytes, node, usize::from(step.child)).ok_or(
             Refusal::NoSuchChild,
         )?;
@@ -42,6 +42,6 @@ pub(crate) fn walk(bytes: &[u8], path: Path, packet: Packet) -> Result<Added, Re
     });
     Ok(Added {
         entries,
-        count: path.count + 1,
+        count: steps.len() + 1,
     })
 }

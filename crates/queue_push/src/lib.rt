@@ -4,7 +4,7 @@
 
 mod arrivals;
 
-ghost use Rattle.std.specs.Prelude.{◌≡◌, suc, min};
+ghost use Rattle.std.specs.Prelude.{◌≡◌, suc, min, take};
 ghost use Rattle.pifo_model.specs.Machine.{pushing, most};
 ghost use Rattle.queue_state.specs.Calls.{answer_of, Serves};
 ghost use Rattle.queue_push.specs.Calls.{steps_of, extended_by};
@@ -28,6 +28,15 @@ pub struct Path {
     pub steps: [Step; 9],
     pub count: usize,
     pub leaf_rank: Rank,
+}
+
+impl Path {
+    // The steps; a count above nine reads as nine.
+    pub fn steps(&self) -> &[Step]
+        ensures { result.now ≡ take self.now.count self.now.steps }
+    {
+        &self.steps[..self.count.min(9)]
+    }
 }
 
 // The path with one more step; unchanged if its nine places are full.

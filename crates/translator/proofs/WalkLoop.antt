@@ -1,11 +1,11 @@
 -- The carrying of a path: after i of its steps the walk is at a source node, and the carried path has reached that node's image or, for a passed node,
 -- the image of the next kept node below it.
 use mathlib.Core.Path.{◌≡◌, refl, sym, ap, ap₂, ◌∙◌}
-use Prim.Native.Nat.{ℕ, suc, ◌+◌, ◌≤◌, ◌<◌}
+use Prim.Native.Nat.{ℕ, suc, ◌+◌, ◌<◌}
 use native.Mathlib.Numerals.{add-one}
 use native.Mathlib.Omega.{arith}
-use mathlib.Core.List.{List, [], ◌++◌, append-nil, append_assoc}
-use lib.ListN.{length, drop, get_or, length-append, length-drop}
+use mathlib.Core.List.{List, [], ◌∷◌, ◌++◌, append-nil, append_assoc}
+use lib.ListN.{length, drop, length-append, length-drop}
 use Rattle.base.proofs.Map.{length-map}
 use Rattle.topology.specs.Tree.{Topo, size}
 use Rattle.topology.specs.Address.{Above, addr, depth, route}
@@ -26,18 +26,18 @@ use Rattle.embedding_model.specs.Check.{map_fault}
 use Rattle.embedding_model.proofs.MapFault.{map_fault_none}
 use Rattle.pair_model.specs.Carrying.{steps, carry}
 use Rattle.pair_model.proofs.CarryNodes.{image-below, carry-nodes}
-use Rattle.queue_push.specs.Calls.{steps_of, no_step, path_of, Plain}
+use Rattle.queue_push.specs.Calls.{step_of, steps_of, path_of, Plain}
 use Rattle.queue_push.specs.declared.Step.{Step as CodeStep}
 use Rattle.queue_push.specs.declared.Path.{Path}
 use Rattle.queue_push.proofs.PathSteps.{steps_path, path_plain}
 use Rattle.translator.specs.InnerWays.{Over}
-use Rattle.translator.proofs.Standing.{Standing, standing_start, standing_few, standing_first, standing_lost, standing_child, standing_next, standing_ended}
+use Rattle.translator.proofs.Standing.{Standing, standing_start, standing_lost, standing_child, standing_next}
 use Rattle.topology_reduction.specs.InnerNodes.{kept_node}
 use Rattle.pair_model.specs.InnerCarryNodes.{carry_nodes, carry_root}
 
 -- The steps carried so far, followed by the carried rest of the path, are the carried path (`rest`).
 pub record Walking (source target m : List ℕ) (path carried : Path) (from node i : ℕ) : Type 0 where
-  pub standing : Standing source path node i
+  pub standing : Standing source (steps_of path) node i
   pub image : from ≡ image m (kept_node (tree source) node)
   pub plain : Plain carried
   pub leaf : carried.leaf_rank ≡ path.leaf_rank
@@ -133,7 +133,7 @@ module _ (source target m : List ℕ) (z : map_fault source target m ≡ 0) wher
       walking_start carried is =
           let none : Path = path_of [] path.leaf_rank in
           record {
-            standing = standing_start source valid_source path;
+            standing = standing_start source valid_source ss;
             image = ap (image m) (kept_found 0 k (size_pos S) e);
             plain = more_plain target none 0 0 (image m k) refl walking_none first_above carried is;
             leaf = ap (λ (p : Path). p.leaf_rank) is;
@@ -144,21 +144,15 @@ module _ (source target m : List ℕ) (z : map_fault source target m ≡ 0) wher
           }
 
     module _ (carried : Path) (from node i : ℕ) (w : Walking source target m path carried from node i) where
-      pub walking_few : i ≤ 8
-      walking_few = standing_few source valid_source path node i w.standing
-
       -- ---- one more step
 
-      module _ (h : i < path.count) (g : length path.steps ≡ 9) (r : Option ℕ) (e : r ≡ child_at source node (get_or path.steps i no_step).child) where
-        abbrev s : CodeStep
-        s = get_or path.steps i no_step
-
+      module _ (s : CodeStep) (d : drop i ss ≡ step_of s ∷ drop (suc i) ss) (r : Option ℕ) (e : r ≡ child_at source node s.child) where
         pub walking_lost : path_fault S ss ≡ 0 → r ≡ None → ⊥
-        walking_lost none q = omega (arith, none, standing_lost source valid_source path node i w.standing h g r e q)
+        walking_lost none q = omega (arith, none, standing_lost source valid_source ss node i w.standing s d r e q)
 
         module _ (next : ℕ) (q : r ≡ Some next) where
-          stands : Standing source path next (i + 1)
-          stands = standing_next source valid_source path node i w.standing h g r e next q
+          stands : Standing source ss next (i + 1)
+          stands = standing_next source valid_source ss node i w.standing s d r e next q
 
           module _ (k : ℕ) (f : k ≡ next_kept source next) where
             pub walking_child : k < length m
@@ -169,7 +163,7 @@ module _ (source target m : List ℕ) (z : map_fault source target m ≡ 0) wher
 
             pub walking_over : Over target from (image m k)
             walking_over =
-                let c = standing_child source valid_source path node i w.standing h g r e next q in
+                let c = standing_child source valid_source ss node i w.standing s d r e next q in
                 record {
                   valid = valid_target;
                   upper = omega (arith, w.image, kept-image node (next_kept source node) w.standing.there refl);
@@ -182,8 +176,7 @@ module _ (source target m : List ℕ) (z : map_fault source target m ≡ 0) wher
                 → more ≡ path_of (steps_of carried ++ steps s.rank (route T from (image m k))) carried.leaf_rank
                 → Walking source target m path more (image m k) next (i + 1)
             walking_next more is =
-                let at = (standing_child source valid_source path node i w.standing h g r e next q).1 in
-                let first = standing_first source valid_source path node i w.standing h g in
+                let at = (standing_child source valid_source ss node i w.standing s d r e next q).1 in
                 let others : List Step = drop (suc i) ss in
                 let under = walking_over.above in
                 record {
@@ -199,17 +192,17 @@ module _ (source target m : List ℕ) (z : map_fault source target m ≡ 0) wher
                       ∙ append_assoc (steps_of carried) (steps s.rank (route T from (image m k))) (carry_nodes S T m next others)
                       ∙ ap₂ (λ (x y : ℕ). steps_of carried ++ (steps s.rank (route T x y) ++ carry_nodes S T m next others)) w.image found
                       ∙ ap (λ (c : ℕ). steps_of carried ++ (steps s.rank (route T (image m (kept_node S node)) (image m (kept_node S c))) ++ carry_nodes S T m c others)) at
-                      ∙ ap (λ (l : List Step). steps_of carried ++ carry_nodes S T m node l) (sym first)
+                      ∙ ap (λ (l : List Step). steps_of carried ++ carry_nodes S T m node l) (sym d)
                       ∙ w.rest);
                 }
 
       -- ---- the end of the path
 
-      pub walking_end : path.count ≤ i → path_fault S ss ≡ 0 → carried ≡ path_of (carry S T m ss) path.leaf_rank
-      walking_end h none =
+      pub walking_end : drop i ss ≡ [] → path_fault S ss ≡ 0 → carried ≡ path_of (carry S T m ss) path.leaf_rank
+      walking_end d none =
           let all : steps_of carried ≡ carry S T m ss =
           sym (append-nil (steps_of carried))
-          ∙ ap (λ (l : List Step). steps_of carried ++ carry_nodes S T m node l) (sym (standing_ended source valid_source path node i w.standing h))
+          ∙ ap (λ (l : List Step). steps_of carried ++ carry_nodes S T m node l) (sym d)
           ∙ w.rest
           ∙ carry-nodes S T m ss none in
           w.plain ∙ ap₂ path_of all w.leaf

@@ -43,11 +43,8 @@ fn check_path(source: &[u8], path: Path) -> Result<(), Refusal>
     ensures { number_of result ≡ path_fault (tree source.now) (steps_of path) }
 {
     let mut node = 0;
-    for i in 0..path.count {
-        let Some(next) = child(source, node, usize::from(path.steps[i].child)) else {
-            return Err(Refusal::NoSuchChild);
-        };
-        node = next;
+    for step in path.steps() {
+        node = child(source, node, usize::from(step.child)).ok_or(Refusal::NoSuchChild)?;
     }
     if source[node] != 0 {
         return Err(Refusal::EndsAboveLeaf);
@@ -68,8 +65,7 @@ fn walk(source: &[u8], target: &[u8], map: &[u8], path: Path) -> Path
     let mut from = usize::from(map[next_kept(source, 0)]);
     let mut carried = descend(target, empty, 0, from, 0);
     let mut node = 0;
-    for i in 0..path.count {
-        let step = path.steps[i];
+    for step in path.steps() {
         let Some(next) = child(source, node, usize::from(step.child)) else {
             return carried;
         };

@@ -1,28 +1,41 @@
-use Rattle.std.proofs.Common.{arith, rules, sym, ap, ◌∙◌}
+use Rattle.std.proofs.Common.{arith, sym, ap, ◌∙◌, ◌≡◌}
+use Rattle.std.proofs.lemmas.Result.{err_from_is_err_and}
+use Rattle.refusal.specs.declared.Refusal.TheVariants.{NoSuchChild}
 use Rattle.topology.specs.Branch.{child_at}
-use Rattle.translator.proofs.Standing.{standing_start, standing_few, standing_in, standing_lost, standing_next, standing_above, standing_leaf}
+use Rattle.queue_push.proofs.PathSteps.{step_at, steps_end}
+use Rattle.translator.proofs.Standing.{standing_start, standing_in, standing_lost, standing_next, standing_above, standing_leaf}
 use Rattle.translator.proofs.check_path.Goals as goal
 
-pub loop-i-init : goal.loop-i-init
-loop-i-init c = standing_start _ c.requires _
+pub loop-step-init : goal.loop-step-init
+loop-step-init c = standing_start _ c.requires _
 
-pub offset_bounds-path-i : goal.offset_bounds-path-i
-offset_bounds-path-i c = omega (arith, standing_few _ c.requires _ _ _ c.loop-i.invariant)
+pub returns-in_err-node : goal.returns-in_err-node
+returns-in_err-node c =
+    let p = err_from_is_err_and c.from_residual.result c.from_residual.ensures.1 in
+    let e : c.in_err-node.field-0.0 ≡ NoSuchChild = grind (arith, c.in_err-node.ensures.value) in
+    let found = c.child.ensures ∙ ap (child_at c.args.source.now c.loop-step.node) c.from.ensures in
+    rw (p.1, p.2, e)
+    (sym
+    (standing_lost _ c.requires _ _ _ c.loop-step.invariant _ (step_at c.args.path _ _ c.steps-step-items.ensures c.loop-step-test.true) _ found
+    c.in_err-node.ensures.ok_part))
 
-pub bounds-path-i : goal.bounds-path-i
-bounds-path-i c = omega (arith, standing_few _ c.requires _ _ _ c.loop-i.invariant)
-
-pub returns-in_default : goal.returns-in_default
-returns-in_default c = sym (standing_lost _ c.requires _ _ _ c.loop-i.invariant c.loop-i-test.true (search rules) _ (c.child.ensures ∙ ap (child_at c.args.source.now c.loop-i.node) c.from.ensures) c.in_default.is)
-
-pub loop-i-preserved : goal.loop-i-preserved
-loop-i-preserved c = standing_next _ c.requires _ _ _ c.loop-i.invariant c.loop-i-test.true (search rules) _ (c.child.ensures ∙ ap (child_at c.args.source.now c.loop-i.node) c.from.ensures) _ c.in-Some.is
+pub loop-step-preserved : goal.loop-step-preserved
+loop-step-preserved c =
+    let found = c.child.ensures ∙ ap (child_at c.args.source.now c.loop-step.node) c.from.ensures in
+    standing_next _ c.requires _ _ _ c.loop-step.invariant _ (step_at c.args.path _ _ c.steps-step-items.ensures c.loop-step-test.true) _ found _
+    c.in_ok-node.ensures.ok_part
 
 pub bounds-source-node : goal.bounds-source-node
-bounds-source-node c = standing_in _ c.requires _ _ _ c.loop-i.invariant
+bounds-source-node c = standing_in _ c.requires _ _ _ c.loop-step.invariant
 
 pub returns-then-source-node-ne0 : goal.returns-then-source-node-ne0
-returns-then-source-node-ne0 c = sym (standing_above _ c.requires _ _ _ c.loop-i.invariant c.loop-i-test.false c.if-source-node-ne0.true)
+returns-then-source-node-ne0 c =
+    sym
+    (standing_above _ c.requires _ _ _ c.loop-step.invariant (steps_end c.args.path _ _ c.steps-step-items.ensures c.loop-step-test.false)
+    c.if-source-node-ne0.true)
 
 pub returns : goal.returns
-returns c = sym (standing_leaf _ c.requires _ _ _ c.loop-i.invariant c.loop-i-test.false c.if-source-node-ne0.false)
+returns c =
+    sym
+    (standing_leaf _ c.requires _ _ _ c.loop-step.invariant (steps_end c.args.path _ _ c.steps-step-items.ensures c.loop-step-test.false)
+    c.if-source-node-ne0.false)

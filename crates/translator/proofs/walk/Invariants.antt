@@ -2,5 +2,5 @@
 use Rattle.translator.proofs.WalkLoop.{Walking}
 use Rattle.translator.proofs.walk.Given as goal
 
-abbrev pub invariant-loop-i : goal.invariant-loop-i
-invariant-loop-i l = Walking l.source l.target l.map l.path l.carried l.from l.node l.i
+abbrev pub invariant-loop-step : goal.invariant-loop-step
+invariant-loop-step l = Walking l.source l.target l.map l.fn.path l.carried l.from l.node l.step-index

@@ -4,5 +4,5 @@ use Rattle.queue_push.specs.Calls.{steps_of}
 use Rattle.queue_push.proofs.WalkLoop.{Walking}
 use Rattle.queue_push.proofs.arrivals.walk.Given as goal
 
-abbrev pub invariant-loop-i : goal.invariant-loop-i
-invariant-loop-i l = Walking (tree l.bytes) (steps_of l.path) l.path.leaf_rank l.packet l.node l.i l.entries
+abbrev pub invariant-loop-step : goal.invariant-loop-step
+invariant-loop-step l = Walking (tree l.bytes) (steps_of l.fn.path) l.fn.path.leaf_rank l.packet l.node l.step-index l.entries
