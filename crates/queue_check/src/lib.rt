@@ -10,7 +10,7 @@ use queue_state::{Entry, State};
 // What the test of a well-formed state finds: how many packets (`held`) and entries (`used`) it holds, and the head of each queue.
 #[derive(Clone, Copy)]
 pub struct Test {
-    pub held: usize,
+    pub held: u16,
     pub used: usize,
     pub heads: [Option<Entry>; 64],
 }

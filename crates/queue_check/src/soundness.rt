@@ -83,8 +83,8 @@ pub(crate) fn tally(
         }
         start += queue.len();
     }
-    let held = usize::from(lengths[0]);
-    if limit < held {
+    let held = lengths[0];
+    if limit < usize::from(held) {
         return None;
     }
     Some(Test {

@@ -46,9 +46,6 @@ module _ (s : State) (test : Test) (x : Tests s (Some test)) (b : List ℕ) (is 
   pub valid : fault 64 b ≡ 0
   valid = rw is (formed s sound).valid
 
-  pub limit_low : s.frame.limit ≤ 256
-  limit_low = (formed s sound).most
-
   module _ (ss : List Step) (l p : ℕ) where
     -- the path has a fault
     pub fault_served : (r : Refusal) → Walked (tree b) (length b) ss l p (Err r) → Serves s (pushing ss l p) (refused (number r)) s

@@ -77,7 +77,7 @@ pub fn push(state: State, path: Path, packet: Packet) -> Served
             };
         }
     };
-    if state.frame.limit <= test.held {
+    if state.frame.limit <= usize::from(test.held) {
         after.refused = state.refused.saturating_add(1);
         return Served {
             state: after,
@@ -100,9 +100,8 @@ pub fn push(state: State, path: Path, packet: Packet) -> Served
             end = place;
         }
     }
-    // The cast loses nothing, and a `try_from` would give a Result that is never an error.
     Served {
         state: after,
-        answer: Answer::Accepted((test.held + 1) as u32),
+        answer: Answer::Accepted(u32::from(test.held) + 1),
     }
 }

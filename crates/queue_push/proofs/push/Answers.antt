@@ -3,7 +3,7 @@ use Rattle.std.proofs.lemmas.List.Sorted.{IsPartitionPoint-from_clause, IsPartit
 use Rattle.queue_state.proofs.Arrays.{the_arrays}
 use Rattle.queue_state.specs.declared.Entry.{Entry}
 use Rattle.queue_push.proofs.Insertion.{rising, begin, own_rises, passed, entered, opened_all}
-use Rattle.queue_push.proofs.PushCases.{valid, limit_low, fault_served, full_served, ready, accepted_served}
+use Rattle.queue_push.proofs.PushCases.{valid, fault_served, full_served, ready, accepted_served}
 use Rattle.queue_push.proofs.push.Goals as goal
 
 pub walk-requires : goal.walk-requires
@@ -12,13 +12,13 @@ walk-requires c = valid _ _ c.in-Some.ensures _ c.bytes.ensures
 pub returns-in-Err : goal.returns-in-Err
 returns-in-Err c = fault_served _ _ c.in-Some.ensures _ c.bytes.ensures _ _ _ _ c.in-Err.ensures
 
-pub returns-then-state-test : goal.returns-then-state-test
-returns-then-state-test c = full_served _ _ c.in-Some.ensures _ c.bytes.ensures _ _ _ _ c.in-Ok.ensures c.if-state-test.true _ (search rules)
+pub returns-then-state-from : goal.returns-then-state-from
+returns-then-state-from c = full_served _ _ c.in-Some.ensures _ c.bytes.ensures _ _ _ _ c.in-Ok.ensures (omega (arith, c.from.ensures)) _ (search rules)
 
 pub loop-node-init : goal.loop-node-init
 loop-node-init c = (
   begin _ _ _ _ _ _
-      (ready _ _ c.in-Some.ensures _ c.bytes.ensures _ _ _ _ c.in-Ok.ensures (the_arrays c.args.state _ c.well_formed.0) c.if-state-test.false),
+      (ready _ _ c.in-Some.ensures _ c.bytes.ensures _ _ _ _ c.in-Ok.ensures (the_arrays c.args.state _ c.well_formed.0) (omega (arith, c.from.ensures))),
   refl,
   refl,
 )
@@ -44,11 +44,10 @@ loop-node-preserved c =
     let w = rw last at c.loop-node.invariant.0 in
     (passed _ _ _ _ _ _ _ _ _ _ _ _ w _ c.from-begin.ensures c.in_default-entries.is, c.loop-node.invariant.1, c.loop-node.invariant.2)
 
-pub overflow_cast-result : goal.overflow_cast-result
-overflow_cast-result c = omega (arith, limit_low _ _ c.in-Some.ensures _ c.bytes.ensures)
-
 pub returns : goal.returns
 returns c =
     let none : c.loop-node.node ≡ 0 = omega arith in
-    accepted_served _ _ c.in-Some.ensures _ c.bytes.ensures _ _ _ _ c.in-Ok.ensures (the_arrays c.args.state _ c.well_formed.0) c.if-state-test.false
-    _ c.loop-node.invariant.1 c.loop-node.invariant.2 (opened_all _ _ _ _ _ _ _ _ _ _ _ (rw none at c.loop-node.invariant.0))
+    rw c.from-2.ensures
+    (accepted_served _ _ c.in-Some.ensures _ c.bytes.ensures _ _ _ _ c.in-Ok.ensures (the_arrays c.args.state _ c.well_formed.0)
+    (omega (arith, c.from.ensures)) _ c.loop-node.invariant.1 c.loop-node.invariant.2
+    (opened_all _ _ _ _ _ _ _ _ _ _ _ (rw none at c.loop-node.invariant.0)))
