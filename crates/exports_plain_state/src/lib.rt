@@ -1,5 +1,7 @@
 // A state of a queue tree as plain numbers. An exported function cannot take or return a struct that holds an enum, so `State` itself cannot be
 // passed to or from a program in C or Rust.
+//
+// The entries are converted by a loop over an index: by `array::map` a call takes a megabyte of stack, and C programs give it 832 KB.
 #![tactic(auto)]
 
 use queue_state::{Entry, Frame, Item, Packet, Rank, State};
@@ -76,7 +78,13 @@ impl From<PlainState> for State {
     fn from(plain: PlainState) -> State {
         // A variable: the borrow checker does not cover a field that is an array and is made part of a literal straight.
         let lengths = plain.lengths;
-        let entries = plain.entries.map(Entry::from);
+        let mut entries = [Entry {
+            rank: 0,
+            item: Item::Child(0),
+        }; 2304];
+        for i in 0..2304 {
+            entries[i] = plain.entries[i].into();
+        }
         State {
             frame: plain.frame,
             lengths,
@@ -96,7 +104,15 @@ impl From<State> for PlainState {
     fn from(state: State) -> PlainState {
         // A variable: the borrow checker does not cover a field that is an array and is made part of a literal straight.
         let lengths = state.lengths;
-        let entries = state.entries.map(PlainEntry::from);
+        let mut entries = [PlainEntry {
+            rank: 0,
+            tag: 0,
+            child: 0,
+            packet: 0,
+        }; 2304];
+        for i in 0..2304 {
+            entries[i] = state.entries[i].into();
+        }
         PlainState {
             frame: state.frame,
             lengths,

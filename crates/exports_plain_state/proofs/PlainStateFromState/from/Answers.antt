@@ -1,19 +1,19 @@
-use Rattle.std.proofs.Common.{rules, refl, ◌≡◌, get_or, length, map, sym, ◌∙◌, arith}
+use Rattle.std.proofs.Common.{◌≡◌, length, refl, arith, rules}
 use Rattle.queue_state.specs.Entries.{no_entry}
 use Rattle.exports_plain_state.specs.Plain.{plain_entry, plain_of}
-use Rattle.exports_plain_state.proofs.Entries.{mapped_by}
+use Rattle.exports_plain_state.proofs.Entries.{fill_more, fill_all}
 use Rattle.exports_plain_state.proofs.PlainStateFromState.from.Goals as goal
+
+pub loop-i-init : goal.loop-i-init
+loop-i-init c = record { long = search rules; front = λ j h. absurd (omega arith) }
+
+pub loop-i-preserved : goal.loop-i-preserved
+loop-i-preserved c =
+    let long : length c.args.state.entries ≡ 2304 = search rules in
+    fill_more plain_entry no_entry (plain_entry no_entry) _ _ _ _ c.loop-i.invariant (omega (arith, long, c.loop-i-test.true)) c.into.ensures
 
 pub returns : goal.returns
 unfolding plain_of
 returns c =
-    let s = c.args.state in
-    let items = c.map-entries.ensures.items in
-    let long : length s.entries ≡ 2304 = search rules in
-    let entries : c.map-entries.result ≡ map plain_entry s.entries =
-    mapped_by plain_entry no_entry (plain_entry no_entry) s.entries c.map-entries.result (items.long ∙ sym long)
-    (λ i h.
-    let w = items.at i no_entry (plain_entry no_entry) (omega (arith, long)) in
-    let e : get_or c.map-entries.result i (plain_entry no_entry) ≡ plain_entry (get_or s.entries i no_entry) = search rules in
-    e) in
-    rw entries refl
+    let long : length c.args.state.entries ≡ 2304 = search rules in
+    rw (fill_all plain_entry no_entry (plain_entry no_entry) _ _ _ c.loop-i.invariant (omega (arith, long, c.loop-i-test.false))) refl
