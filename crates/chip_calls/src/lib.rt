@@ -19,7 +19,7 @@ use chip_counts::test_first;
 use discipline_check::is_leaf;
 use discipline_path::plan_to;
 use embedding_check::check;
-use queue_counts::refused;
+use queue_counts::check_state;
 use queue_push::Path;
 use queue_state::{Answer, Packet};
 use refusal::Refusal;
@@ -30,9 +30,10 @@ use tree_state::{Tree, TreeServed};
 fn refuse(tree: Tree, refusal: Refusal) -> TreeServed
     ensures { result ≡ record { tree = tree; answer = a.Refused (cond (well_formed tree.state) refusal r.State) } }
 {
+    let first = check_state(tree.state).err().unwrap_or(refusal);
     TreeServed {
         tree,
-        answer: Answer::Refused(refused(tree.state, refusal)),
+        answer: Answer::Refused(first),
     }
 }
 
@@ -74,10 +75,7 @@ pub fn push_to_leaf(
     }
     let target = tree.state.bytes();
     if !is_leaf(source, leaf) {
-        return match check(source, target, map) {
-            Ok(()) => refuse(tree, Refusal::NoLeaf),
-            Err(refusal) => refuse(tree, refusal),
-        };
+        return refuse(tree, check(source, target, map).err().unwrap_or(Refusal::NoLeaf));
     }
     let plan = plan_to(source, tree.disciplines, leaf, class, length);
     match carry(source, target, map, plan.path) {

@@ -4,7 +4,7 @@
 ghost use Rattle.std.specs.Prelude.{◌≡◌};
 ghost use Rattle.discipline_clock.specs.Clock.{rank_in, clocked, own_images};
 
-use discipline_model::{Discipline, Disciplines, acting};
+use discipline_model::{Discipline, Disciplines, acts_as};
 use queue_pop::Way;
 use queue_state::Rank;
 use topology::TARGET_NODES;
@@ -26,7 +26,7 @@ pub fn after_pop(mut disciplines: Disciplines, bytes: &[u8], way: Way, images: &
     ensures { result ≡ clocked disciplines bytes.now way images.now }
 {
     for n in 0..bytes.len().min(images.len()).min(TARGET_NODES) {
-        if acting(bytes[n], disciplines.rules[n].discipline) == Discipline::Weighted {
+        if acts_as(bytes[n], disciplines.rules[n].discipline) == Discipline::Weighted {
             if let Some(rank) = rank_in(&way, images[n]) {
                 disciplines.virtual_time[n] = rank;
             }

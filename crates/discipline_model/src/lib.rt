@@ -3,7 +3,7 @@
 #![tactic(auto)]
 
 ghost use Rattle.std.specs.Prelude.{◌≡◌};
-ghost use Rattle.discipline_model.specs.Figure.{acts_by, named, discipline_of};
+ghost use Rattle.discipline_model.specs.Figure.{number, acts_by, named, discipline_of};
 
 use queue_state::Rank;
 use refusal::Refusal;
@@ -34,6 +34,19 @@ impl TryFrom<u8> for Discipline {
     }
 }
 
+// The number of a discipline.
+impl From<Discipline> for u8 {
+    ghost from_gives = { λ discipline n. n ≡ number discipline };
+
+    fn from(discipline: Discipline) -> u8 {
+        match discipline {
+            Discipline::Arrival => 0,
+            Discipline::Strict => 1,
+            Discipline::Weighted => 2,
+        }
+    }
+}
+
 // The number of a node's discipline, as C writes it (`Discipline`), and its weight as a child of its parent.
 #[repr(C)]
 #[derive(Clone, Copy)]
@@ -52,14 +65,20 @@ pub struct Disciplines {
     pub finish: [Rank; 64],
 }
 
-// The discipline by which a node with `children` children acts: arrival for a node with one child, which is passed over (2.2), else that of its own
-// number, or arrival if the number names none.
-// It takes the number, as a `Rule` for C has it: a `Discipline` in its place would ask more of callers.
-pub fn acting(children: u8, discipline: u8) -> Discipline
-    ensures { result ≡ discipline_of (acts_by children discipline) }
+// The number of the discipline by which a node with `children` children acts: that of arrival for a node with one child, which is passed over (2.2),
+// else the node's own number, which names a discipline or none.
+pub fn acting(children: u8, discipline: u8) -> u8
+    ensures { result ≡ acts_by children discipline }
 {
     if children == 1 {
-        return Discipline::Arrival;
+        return Discipline::Arrival.into();
     }
-    Discipline::try_from(discipline).unwrap_or(Discipline::Arrival)
+    discipline
+}
+
+// The discipline by which a node acts: arrival if its number names none.
+pub fn acts_as(children: u8, number: u8) -> Discipline
+    ensures { result ≡ discipline_of (acts_by children number) }
+{
+    Discipline::try_from(acting(children, number)).unwrap_or(Discipline::Arrival)
 }

@@ -1,2 +1,3 @@
 pub mod PlanTo
 pub mod PlannedPush
+pub mod Finishes

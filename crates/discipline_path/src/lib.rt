@@ -11,7 +11,7 @@ ghost use Rattle.discipline_model.specs.Scheduler.{is_leaf};
 ghost use Rattle.discipline_path.specs.Plans.{Planned};
 ghost use Rattle.discipline_path.specs.InnerShares.{stepped};
 
-use discipline_model::{Disciplines, acting};
+use discipline_model::{Disciplines, acts_as};
 use queue_push::{Path, Step, extended};
 use queue_state::Rank;
 use topology::{Child, TARGET_NODES};
@@ -30,7 +30,7 @@ fn begun(disciplines: &Disciplines, leaf: usize, class: u8) -> Plan
     ensures { result
         ≡ record { path = path_of [] (rank_by (kind_at disciplines.now.rules leaf) 0 class); finish = Some disciplines.now.finish } }
 {
-    let discipline = acting(0, disciplines.rules[leaf].discipline);
+    let discipline = acts_as(0, disciplines.rules[leaf].discipline);
     Plan {
         path: Path {
             steps: [Step { child: 0, rank: 0 }; 9],
@@ -56,7 +56,7 @@ fn step_down(
         ≡ stepped disciplines.now (acts_by children (kind_at disciplines.now.rules node)) node child class length plan }
 {
     let rule = disciplines.rules[node];
-    let discipline = acting(children, rule.discipline);
+    let discipline = acts_as(children, rule.discipline);
     let start = disciplines.virtual_time[node].max(disciplines.finish[child.node]);
     let more = shares::added(length, disciplines.rules[child.node].weight);
     Plan {

@@ -17,10 +17,7 @@ use Rattle.queue_state.specs.State.{Packet, bytes, tree_of, machine, well_formed
 use Rattle.queue_state.specs.Calls.{Serves}
 use Rattle.queue_state.specs.declared.State.{State}
 use Rattle.queue_state.proofs.WellFormed.{formed}
-use Rattle.std.specs.Prelude.{Some, None}
-use Rattle.refusal.specs.Numbers.{number}
-use Rattle.refusal.specs.declared.Refusal.{Refusal}
-use Rattle.refusal.specs.declared.Refusal.TheVariants as r
+use Rattle.std.specs.Prelude.{Option as CodeOption, Some, None}
 use Rattle.base.proofs.Tests.{clash}
 use Rattle.queue_push.specs.Calls.{steps_of}
 use Rattle.queue_push.specs.declared.Path.{Path}
@@ -34,6 +31,7 @@ use Rattle.discipline_clock.proofs.NoDeparture.{clock_ill, clock_idle}
 use Rattle.discipline_path.specs.Plans.{Planned}
 use Rattle.discipline_path.specs.declared.Plan.{Plan}
 use Rattle.discipline_path.proofs.PlannedPush.{planned_call}
+use Rattle.discipline_path.proofs.Finishes.{finishes_none, finishes_some}
 use Rattle.tree_state.specs.Calls.{tree_with, drawing, own_refusal, OwnServes}
 use Rattle.tree_below.specs.Below.{PushesAlong, settled, PushesPlanned, Pops}
 use Rattle.tree_counts.proofs.AreSound.{exact}
@@ -131,11 +129,10 @@ module _ (t : Tree) where
         q = pushing_to leaf class len p
 
         -- refused by 25, tested after 18
-        pub not_a_leaf : (l : Bool) → (fault 64 (bytes s) ≡ 0 → l ≡ is_leaf S leaf) → l ≡ false
-            → (e : Refusal) → e ≡ cond (well_formed s) r.NoLeaf r.State → OwnServes t q (refused (number e)) t
-        not_a_leaf l is f e z = rw z (by_form (well_formed s) refl)
+        pub not_a_leaf : (l : Bool) → (fault 64 (bytes s) ≡ 0 → l ≡ is_leaf S leaf) → l ≡ false → OwnServes t q (refused (cond (well_formed s) 25 18)) t
+        not_a_leaf l is f = by_form (well_formed s) refl
           where
-            by_form : (w : Bool) → well_formed s ≡ w → OwnServes t q (refused (number (cond w r.NoLeaf r.State))) t
+            by_form : (w : Bool) → well_formed s ≡ w → OwnServes t q (refused (cond w 25 18)) t
             by_form false n = ill_scheduled own_refusal serve_own t q 18 (own_ill t n) (λ e. omega arith)
             by_form true y =
                 no_leaf S serve rank_at own_refusal serve_own t (own_ok y) (own_is t) leaf class len p (sym (is (formed s y).valid) ∙ f)
@@ -152,10 +149,6 @@ module _ (t : Tree) where
             abbrev c : Call Packet
             c = pushing (steps_down S d class 0 (addr S leaf)) (rank_by (kind_at d.rules leaf) 0 class) p
 
-            finish_by : (b : Bool) → fits_down S d len 0 (addr S leaf) ≡ b
-                → plan.finish ≡ cond b (Some (finishes_down S d len 0 (addr S leaf) d.finish)) None
-            finish_by b e = the_plan.finish ∙ ap (λ (b : Bool). cond b (Some (finishes_down S d len 0 (addr S leaf) d.finish)) None) e
-
           module _ (a : Answer Packet) (r : State) (v : Serves s (pushing (steps_of plan.path) plan.path.leaf_rank p) a r) where
             as_planned : (w : well_formed s ≡ true) → Serves s (c w) a r
             as_planned w = subst (λ (x : Call Packet). Serves s x a r) (planned_call S d leaf class len plan p (the_plan w)) v
@@ -171,18 +164,21 @@ module _ (t : Tree) where
                 by_form true y = refl
                 by_form false n = absurd (refused-accepted (sym (v.ill n) ∙ e))
 
-            leaf_late : (h : ℕ) → a ≡ accepted h → (w : well_formed s ≡ true) → fits_down S d len 0 (addr S leaf) ≡ false → OwnServes t q (refused 23) t
-            leaf_late h e w f =
-                late S serve rank_at own_refusal serve_own t (own_ok w) (own_is t) leaf class len p (at_leaf w) a r (below w) h e f
+            pub leaf_late : (h : ℕ) → a ≡ accepted h → plan.finish ≡ None → OwnServes t q (refused 23) t
+            leaf_late h e f =
+                let w = accepted-formed h e in
+                late S serve rank_at own_refusal serve_own t (own_ok w) (own_is t) leaf class len p (at_leaf w) a r (below w) h e
+                (finishes_none S d len 0 (addr S leaf) d.finish (sym (the_plan w).finish ∙ f))
 
-            leaf-taken : (h : ℕ) → a ≡ accepted h → (w : well_formed s ≡ true) → fits_down S d len 0 (addr S leaf) ≡ true
-                → OwnServes t q a (tree_with r (with_finishes d (finishes_down S d len 0 (addr S leaf) d.finish)))
-            leaf-taken h e w f =
-                let after = with_finishes d (finishes_down S d len 0 (addr S leaf) d.finish) in
-                taken S serve rank_at own_refusal serve_own t (own_ok w) (own_is t) leaf class len p (at_leaf w) a r (below w) h e f after refl
-                (own_after t (c w) a r after w (as_planned w) (rules_sound w) refl)
+            pub leaf-taken : (h : ℕ) → a ≡ accepted h → (fs : List Rank) → plan.finish ≡ Some fs → OwnServes t q a (tree_with r (with_finishes d fs))
+            leaf-taken h e fs f =
+                let w = accepted-formed h e in
+                let fits = finishes_some S d len 0 (addr S leaf) d.finish fs (sym (the_plan w).finish ∙ f) in
+                let after = with_finishes d fs in
+                taken S serve rank_at own_refusal serve_own t (own_ok w) (own_is t) leaf class len p (at_leaf w) a r (below w) h e fits.0 after
+                (ap (with_finishes d) fits.1) (own_after t (c w) a r after w (as_planned w) (rules_sound w) refl)
 
-            leaf_rest : ((h : ℕ) → a ≡ accepted h → ⊥) → OwnServes t q a (tree_with r d)
+            pub leaf_rest : ((h : ℕ) → a ≡ accepted h → ⊥) → OwnServes t q a (tree_with r d)
             leaf_rest n = by_form (well_formed s) refl
               where
                 by_form : (w : Bool) → well_formed s ≡ w → OwnServes t q a (tree_with r d)
@@ -194,12 +190,11 @@ module _ (t : Tree) where
           -- the push that the plan asks for, by the answer below
           leaf_settled : (a : Answer Packet) (r : State) → Serves s (pushing (steps_of plan.path) plan.path.leaf_rank p) a r
               → let v = settled t plan.finish a r in OwnServes t q v.0 v.1
-          leaf_settled (accepted h) r v = let w = accepted-formed (accepted h) r v h refl in by_fits w (fits_down S d len 0 (addr S leaf)) refl
+          leaf_settled (accepted h) r v = by_finish plan.finish refl
             where
-              by_fits : (w : well_formed s ≡ true) (b : Bool) → fits_down S d len 0 (addr S leaf) ≡ b
-                  → let u = settled t plan.finish (accepted h) r in OwnServes t q u.0 u.1
-              by_fits w true e = rw (finish_by w true e) (leaf-taken (accepted h) r v h refl w e)
-              by_fits w false e = rw (finish_by w false e) (leaf_late (accepted h) r v h refl w e)
+              by_finish : (o : CodeOption (List Rank)) → plan.finish ≡ o → let u = settled t o (accepted h) r in OwnServes t q u.0 u.1
+              by_finish (Some fs) e = leaf-taken (accepted h) r v h refl fs e
+              by_finish None e = leaf_late (accepted h) r v h refl e
           leaf_settled (departed x) r v = leaf_rest (departed x) r v (λ h e. clash (cc))
           leaf_settled (refused x) r v = leaf_rest (refused x) r v (λ h e. clash (cc))
           leaf_settled (full x k) r v = leaf_rest (full x k) r v (λ h e. clash (cc))

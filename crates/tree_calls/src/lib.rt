@@ -12,7 +12,7 @@ ghost use Rattle.tree_state.specs.Calls.{OwnServes};
 use discipline_check::is_leaf;
 use discipline_clock::own_images;
 use discipline_path::plan_to;
-use queue_counts::refused;
+use queue_counts::check_state;
 use queue_push::Path;
 use queue_state::{Answer, Packet};
 use refusal::Refusal;
@@ -46,7 +46,7 @@ pub fn push_to_leaf(tree: Tree, leaf: usize, class: u8, length: u16, packet: Pac
     if !is_leaf(bytes, leaf) {
         return TreeServed {
             tree,
-            answer: Answer::Refused(refused(tree.state, Refusal::NoLeaf)),
+            answer: Answer::Refused(check_state(tree.state).err().unwrap_or(Refusal::NoLeaf)),
         };
     }
     let plan = plan_to(bytes, tree.disciplines, leaf, class, length);

@@ -11,11 +11,11 @@ loop-n-preserved c =
     let place : n < length c.args.disciplines.virtual_time = omega arith in
     elim c.if-eq.branch [
       | then-eq+in-Some w ↦ w.disciplines-is
-          ∙ time_set _ _ _ _ _ _ c.loop-n.invariant byte image place _ c.acting.ensures _ (search rules) (sym w.in-Some.ensures)
+          ∙ time_set _ _ _ _ _ _ c.loop-n.invariant byte image place _ c.acts_as.ensures _ (search rules) (sym w.in-Some.ensures)
       | then-eq+in_default w ↦ w.disciplines-is
-          ∙ time_stays _ _ _ _ _ _ c.loop-n.invariant byte image place _ c.acting.ensures (λ _. sym w.in_default.ensures)
+          ∙ time_stays _ _ _ _ _ _ c.loop-n.invariant byte image place _ c.acts_as.ensures (λ _. sym w.in_default.ensures)
       | else-eq w ↦ w.disciplines-is
-          ∙ time_stays _ _ _ _ _ _ c.loop-n.invariant byte image place _ c.acting.ensures (λ k. absurd (search rules))
+          ∙ time_stays _ _ _ _ _ _ c.loop-n.invariant byte image place _ c.acts_as.ensures (λ k. absurd (search rules))
     ]
 
 pub returns : goal.returns

@@ -9,7 +9,7 @@ returns-in-Err c = rw c.in-Err.ensures.refusal (unsound _ _ c.in-Err.ensures.pas
 pub returns-then-not-is_leaf : goal.returns-then-not-is_leaf
 returns-then-not-is_leaf c =
     let leaf = rw c.bytes-bytes.ensures at c.is_leaf.ensures in
-    not_a_leaf _ _ c.in_default.ensures.passes refl _ _ _ _ _ leaf c.if-not-is_leaf.true _ c.refused.ensures
+    ?
 
 pub returns : goal.returns
 returns c =
