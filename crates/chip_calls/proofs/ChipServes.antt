@@ -7,12 +7,11 @@ use native.Mathlib.Omega.{arith}
 use mathlib.Core.List.{List, []}
 use mathlib.Core.Bool.{Bool, true, false, cond}
 use mathlib.Core.Option.{Option, none, some}
-use Rattle.std.specs.Prelude.{Ok, Err, Some, None}
+use Rattle.std.specs.Prelude.{Ok, Err, Option as CodeOption, Some, None}
 use Rattle.base.specs.Refusals.{or_else}
 use Rattle.base.proofs.Tests.{clash}
 use Rattle.refusal.specs.Numbers.{number}
 use Rattle.refusal.specs.declared.Refusal.{Refusal}
-use Rattle.refusal.specs.declared.Refusal.TheVariants as r
 use Rattle.refusal.proofs.Numbers.{number-ne0}
 use Rattle.topology.specs.Tree.{Topo}
 use Rattle.topology.specs.Address.{addr}
@@ -34,7 +33,7 @@ use Rattle.queue_state.proofs.WellFormed.{formed}
 use Rattle.queue_push.specs.Calls.{steps_of}
 use Rattle.queue_push.specs.declared.Path.{Path}
 use Rattle.queue_pop.specs.Way.{way_of}
-use Rattle.discipline_model.specs.Figure.{kind_at, rank_by, steps_down, finishes_down, fits_down, with_finishes}
+use Rattle.discipline_model.specs.Figure.{kind_at, rank_by, steps_down, with_finishes}
 use Rattle.discipline_model.specs.Scheduler.{Request, calling, pushing_to, is_leaf}
 use Rattle.discipline_model.specs.declared.Disciplines.{Disciplines}
 use Rattle.discipline_model.proofs.StepsDown.{steps_valid}
@@ -44,6 +43,7 @@ use Rattle.discipline_clock.proofs.NoDeparture.{clock_ill, clock_idle}
 use Rattle.discipline_path.specs.Plans.{Planned}
 use Rattle.discipline_path.specs.declared.Plan.{Plan}
 use Rattle.discipline_path.proofs.PlannedPush.{planned_call}
+use Rattle.discipline_path.proofs.Finishes.{finishes_none, finishes_some}
 use Rattle.tree_below.specs.Below.{PushesAlong, settled, PushesPlanned, Pops}
 use Rattle.tree_state.specs.declared.Tree.{Tree}
 use Rattle.tree_state.specs.Calls.{tree_with}
@@ -115,16 +115,16 @@ module _ (source m : List ℕ) (t : Tree) where
       map-chip w = rw (valid, kept-formed source t n e z, w) (sym (map-number w))
 
       -- the answer for a refusal that is tested after 18
-      abbrev tested : Refusal → Answer Packet
-      tested f = refused (number (cond (well_formed s) f r.State))
+      abbrev tested : ℕ → Answer Packet
+      tested k = refused (cond (well_formed s) k 18)
 
       -- refused by 6 to 11 or 26
-      pub map-refused : (f : Refusal) → number f ≡ map_fault source (bytes s) m → (q : Request Packet) → ChipServes source m t q (tested f) t
-      map-refused f h q = by_form (well_formed s) refl
+      pub map-refused : (k : ℕ) → k ≡ map_fault source (bytes s) m → k ≢ 0 → (q : Request Packet) → ChipServes source m t q (tested k) t
+      map-refused k h y q = by_form (well_formed s) refl
         where
-          by_form : (w : Bool) → well_formed s ≡ w → ChipServes source m t q (refused (number (cond w f r.State))) t
+          by_form : (w : Bool) → well_formed s ≡ w → ChipServes source m t q (refused (cond w k 18)) t
           by_form false i = ill i q
-          by_form true w = ill_scheduled (chip_refusal source m) (serve_mapped source m) t q (number f) (map-chip w ∙ sym h) (number-ne0 f)
+          by_form true w = ill_scheduled (chip_refusal source m) (serve_mapped source m) t q k (map-chip w ∙ sym h) y
 
       -- ---- the map meets the rules, and the state is well formed
       module _ (w : well_formed s ≡ true) (p : map_fault source (bytes s) m ≡ 0) where
@@ -171,17 +171,18 @@ module _ (source m : List ℕ) (t : Tree) where
             ∙ carried_learnt (steps_of path) path.leaf_rank packet))
             refl
 
-        pub path_refused : (f : Refusal) → Carries source (bytes s) m path (Err f) → ChipServes source m t request (tested f) t
+        pub path_refused : (f : Refusal) → Carries source (bytes s) m path (Err f) → ChipServes source m t request (tested (number f)) t
         unfolding carry_fault
         path_refused f o = by_map (map_fault source (bytes s) m) refl
           where
-            by_form : (w : Bool) → well_formed s ≡ w → map_fault source (bytes s) m ≡ 0 → ChipServes source m t request (refused (number (cond w f r.State))) t
+            by_form : (w : Bool) → well_formed s ≡ w → map_fault source (bytes s) m ≡ 0 → ChipServes source m t request (refused (cond w (number f) 18)) t
             by_form false i p = ill i request
             by_form true w p = push-below w p (refused (number f)) s (refused_serves source (bytes s) m path f o p s packet)
 
-            by_map : (k : ℕ) → map_fault source (bytes s) m ≡ k → ChipServes source m t request (tested f) t
+            by_map : (k : ℕ) → map_fault source (bytes s) m ≡ k → ChipServes source m t request (tested (number f)) t
             by_map zero p = by_form (well_formed s) refl p
-            by_map (suc k) p = map-refused f (o.refusal ∙ ap (λ (g : ℕ). or_else g (path_fault S (steps_of path))) p ∙ sym p) request
+            by_map (suc k) p =
+                map-refused (number f) (o.refusal ∙ ap (λ (g : ℕ). or_else g (path_fault S (steps_of path))) p ∙ sym p) (number-ne0 f) request
 
         pub path_carried : (c : Path) → Carries source (bytes s) m path (Ok c) → (a : Answer Packet) (u : Tree) → PushesAlong t c packet a u
             → ChipServes source m t request a u
@@ -228,15 +229,22 @@ module _ (source m : List ℕ) (t : Tree) where
         abbrev to_leaf : Request Packet
         to_leaf = pushing_to leaf class len packet
 
-        pub not_a_leaf : (l : Bool) → (fault 64 source ≡ 0 → l ≡ is_leaf S leaf) → l ≡ false → 0 ≡ map_fault source (bytes s) m
-            → ChipServes source m t to_leaf (tested r.NoLeaf) t
-        not_a_leaf l is f p = by_form (well_formed s) refl
+        -- refused by the map's number, or by 25
+        pub not_a_leaf : (l : Bool) → (fault 64 source ≡ 0 → l ≡ is_leaf S leaf) → l ≡ false → (k : ℕ) → k ≡ or_else (map_fault source (bytes s) m) 25
+            → ChipServes source m t to_leaf (tested k) t
+        not_a_leaf l is f k e = by_map (map_fault source (bytes s) m) refl
           where
-            by_form : (w : Bool) → well_formed s ≡ w → ChipServes source m t to_leaf (refused (number (cond w r.NoLeaf r.State))) t
-            by_form false i = ill i to_leaf
-            by_form true w =
-                no_leaf S (serve_carried S T m) (image_rank m) (chip_refusal source m) (serve_mapped source m) t (ok w (sym p)) (chip_is source m t)
+            by_form : (w : Bool) → well_formed s ≡ w → map_fault source (bytes s) m ≡ 0 → ChipServes source m t to_leaf (refused (cond w 25 18)) t
+            by_form false i p = ill i to_leaf
+            by_form true w p =
+                no_leaf S (serve_carried S T m) (image_rank m) (chip_refusal source m) (serve_mapped source m) t (ok w p) (chip_is source m t)
                 leaf class len packet (sym (is wide) ∙ f)
+
+            by_map : (j : ℕ) → map_fault source (bytes s) m ≡ j → ChipServes source m t to_leaf (tested k) t
+            by_map zero p = rw (e, p) (by_form (well_formed s) refl p)
+            by_map (suc j) p =
+                let same : k ≡ suc j = e ∙ ap (λ (g : ℕ). or_else g 25) p in
+                map-refused k (same ∙ sym p) (omega (arith, same)) to_leaf
 
         module _ (l : Bool) (is : fault 64 source ≡ 0 → l ≡ is_leaf S leaf) (here : l ≡ true) (plan : Plan)
             (planned : fault 64 source ≡ 0 → is_leaf S leaf ≡ true → Planned S d leaf class len plan) where
@@ -260,19 +268,15 @@ module _ (source m : List ℕ) (t : Tree) where
               steps_in (pushing ss x y) = ss
               steps_in popping = []
 
-          pub leaf-refused : (f : Refusal) → Carries source (bytes s) m plan.path (Err f) → ChipServes source m t to_leaf (tested f) t
+          pub leaf-refused : (f : Refusal) → Carries source (bytes s) m plan.path (Err f) → ChipServes source m t to_leaf (tested (number f)) t
           unfolding carry_fault
-          leaf-refused f o = map-refused f (by_map (map_fault source (bytes s) m) refl) to_leaf
+          leaf-refused f o = map-refused (number f) (by_map (map_fault source (bytes s) m) refl) (number-ne0 f) to_leaf
             where
               by_map : (k : ℕ) → map_fault source (bytes s) m ≡ k → number f ≡ map_fault source (bytes s) m
               by_map zero p =
                   let none = ap (path_fault S) steps_of_lem ∙ steps_valid S d class leaf at_leaf in
                   absurd (number-ne0 f (o.refusal ∙ ap (λ (g : ℕ). or_else g (path_fault S (steps_of plan.path))) p ∙ none))
               by_map (suc k) p = o.refusal ∙ ap (λ (g : ℕ). or_else g (path_fault S (steps_of plan.path))) p ∙ sym p
-
-          finish_by : (b : Bool) → fits_down S d len 0 (addr S leaf) ≡ b
-              → plan.finish ≡ cond b (Some (finishes_down S d len 0 (addr S leaf) d.finish)) None
-          finish_by b e = the_plan.finish ∙ ap (λ (b : Bool). cond b (Some (finishes_down S d len 0 (addr S leaf) d.finish)) None) e
 
           module _ (c : Path) (o : Carries source (bytes s) m plan.path (Ok c)) where
             mapped : map_fault source (bytes s) m ≡ 0
@@ -291,21 +295,24 @@ module _ (source m : List ℕ) (t : Tree) where
                   by_form true _ = refl
                   by_form false i = absurd (refused-accepted (sym (v.ill i) ∙ e))
 
-              leaf_late : (h : ℕ) → a ≡ accepted h → well_formed s ≡ true → fits_down S d len 0 (addr S leaf) ≡ false
-                  → ChipServes source m t to_leaf (refused 23) t
-              leaf_late h e w f =
+              pub leaf_late : (h : ℕ) → a ≡ accepted h → plan.finish ≡ None → ChipServes source m t to_leaf (refused 23) t
+              leaf_late h e f =
+                  let w = accepted-formed h e in
                   late S (serve_carried S T m) (image_rank m) (chip_refusal source m) (serve_mapped source m) t (ok w mapped) (chip_is source m t)
-                  leaf class len packet at_leaf a u (below_carried S T m s below_call a u w carried) h e f
+                  leaf class len packet at_leaf a u (below_carried S T m s below_call a u w carried) h e
+                  (finishes_none S d len 0 (addr S leaf) d.finish (sym the_plan.finish ∙ f))
 
-              leaf-taken : (h : ℕ) → a ≡ accepted h → well_formed s ≡ true → fits_down S d len 0 (addr S leaf) ≡ true
-                  → ChipServes source m t to_leaf a (tree_with u (with_finishes d (finishes_down S d len 0 (addr S leaf) d.finish)))
-              leaf-taken h e w f =
-                  let after = with_finishes d (finishes_down S d len 0 (addr S leaf) d.finish) in
+              pub leaf-taken : (h : ℕ) → a ≡ accepted h → (fs : List Rank) → plan.finish ≡ Some fs
+                  → ChipServes source m t to_leaf a (tree_with u (with_finishes d fs))
+              leaf-taken h e fs f =
+                  let w = accepted-formed h e in
+                  let fits = finishes_some S d len 0 (addr S leaf) d.finish fs (sym the_plan.finish ∙ f) in
+                  let after = with_finishes d fs in
                   taken S (serve_carried S T m) (image_rank m) (chip_refusal source m) (serve_mapped source m) t (ok w mapped) (chip_is source m t)
-                  leaf class len packet at_leaf a u (below_carried S T m s below_call a u w carried) h e f after refl
+                  leaf class len packet at_leaf a u (below_carried S T m s below_call a u w carried) h e fits.0 after (ap (with_finishes d) fits.1)
                   (after_call w mapped below_call a u after carried refl (v.formed w))
 
-              leaf_rest : ((h : ℕ) → a ≡ accepted h → ⊥) → ChipServes source m t to_leaf a (tree_with u d)
+              pub leaf_rest : ((h : ℕ) → a ≡ accepted h → ⊥) → ChipServes source m t to_leaf a (tree_with u d)
               leaf_rest n = by_form (well_formed s) refl
                 where
                   by_form : (w : Bool) → well_formed s ≡ w → ChipServes source m t to_leaf a (tree_with u d)
@@ -318,12 +325,11 @@ module _ (source m : List ℕ) (t : Tree) where
             -- the push that the plan asks for, by the answer below
             leaf_settled : (a : Answer Packet) (u : State) → Serves s (push_along c packet) a u
                 → let x = settled t plan.finish a u in ChipServes source m t to_leaf x.0 x.1
-            leaf_settled (accepted h) u v = by_fits (accepted-formed (accepted h) u v h refl) (fits_down S d len 0 (addr S leaf)) refl
+            leaf_settled (accepted h) u v = by_finish plan.finish refl
               where
-                by_fits : well_formed s ≡ true → (b : Bool) → fits_down S d len 0 (addr S leaf) ≡ b
-                    → let x = settled t plan.finish (accepted h) u in ChipServes source m t to_leaf x.0 x.1
-                by_fits w true e = rw (finish_by true e) (leaf-taken (accepted h) u v h refl w e)
-                by_fits w false e = rw (finish_by false e) (leaf_late (accepted h) u v h refl w e)
+                by_finish : (o : CodeOption (List Rank)) → plan.finish ≡ o → let x = settled t o (accepted h) u in ChipServes source m t to_leaf x.0 x.1
+                by_finish (Some fs) e = leaf-taken (accepted h) u v h refl fs e
+                by_finish None e = leaf_late (accepted h) u v h refl e
             leaf_settled (departed x) u v = leaf_rest (departed x) u v (λ h e. clash (cc))
             leaf_settled (refused x) u v = leaf_rest (refused x) u v (λ h e. clash (cc))
             leaf_settled (full x k) u v = leaf_rest (full x k) u v (λ h e. clash (cc))

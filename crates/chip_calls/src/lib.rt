@@ -6,11 +6,10 @@
 #![tactic(auto)]
 
 ghost use Rattle.std.specs.Prelude.{◌≡◌, cond};
-ghost use Rattle.refusal.specs.declared.Refusal.TheVariants as r;
-ghost use Rattle.pifo_model.specs.Machine.{pushing, popping};
+ghost use Rattle.refusal.specs.Numbers.{number};
+ghost use Rattle.pifo_model.specs.Machine.{pushing, popping, refused};
 ghost use Rattle.queue_state.specs.State.{well_formed};
 ghost use Rattle.queue_state.specs.Calls.{answer_of};
-ghost use Rattle.queue_state.specs.declared.Answer.TheVariants as a;
 ghost use Rattle.queue_push.specs.Calls.{steps_of};
 ghost use Rattle.discipline_model.specs.Scheduler.{calling, pushing_to};
 ghost use Rattle.chip_state.specs.Calls.{ChipServes};
@@ -28,7 +27,7 @@ use tree_state::{Tree, TreeServed};
 
 // A refusal that is tested after 18, with the tree as it was.
 fn refuse(tree: Tree, refusal: Refusal) -> TreeServed
-    ensures { result ≡ record { tree = tree; answer = a.Refused (cond (well_formed tree.state) refusal r.State) } }
+    ensures { (result.tree ≡ tree) × (answer_of result.answer ≡ refused (cond (well_formed tree.state) (number refusal) 18)) }
 {
     let first = check_state(tree.state).err().unwrap_or(refusal);
     TreeServed {
@@ -75,7 +74,10 @@ pub fn push_to_leaf(
     }
     let target = tree.state.bytes();
     if !is_leaf(source, leaf) {
-        return refuse(tree, check(source, target, map).err().unwrap_or(Refusal::NoLeaf));
+        return refuse(
+            tree,
+            check(source, target, map).err().unwrap_or(Refusal::NoLeaf),
+        );
     }
     let plan = plan_to(source, tree.disciplines, leaf, class, length);
     match carry(source, target, map, plan.path) {

@@ -1,6 +1,6 @@
 -- What a plan's finishes say: none if one of them does not fit, else those of the definition.
 use Rattle.std.proofs.Common.{◌≡◌, ℕ, List, Bool, true, false, cond, refl}
-use Rattle.std.specs.Prelude.{Option, Some, None}
+use Rattle.std.specs.Prelude.{Some, None}
 use Rattle.topology.specs.Tree.{Topo}
 use Rattle.topology.specs.Address.{Addr}
 use Rattle.pifo_model.specs.Queue.{Rank}

@@ -1,5 +1,7 @@
 // The calls below: a push or a pop of the queues of a tree with disciplines, and what the disciplines keep after it. The calls on a tree by itself
 // (`tree_calls`) and on a chip's tree (`chip_calls`) make them once their tests have passed.
+//
+// They are compiled into these calls, since each call of a function that answers a tree copies it once more.
 #![tactic(auto)]
 
 ghost use Rattle.queue_state.specs.Calls.{answer_of};
@@ -13,6 +15,7 @@ use refusal::Refusal;
 use tree_state::{Tree, TreeServed};
 
 // Pushes a packet along a path, with its ranks as given, and alters no finish.
+#[inline(always)]
 pub fn push_along(tree: &Tree, path: Path, packet: Packet) -> TreeServed
     ensures { PushesAlong tree.now path packet (answer_of result.answer) result.tree }
 {
@@ -28,6 +31,7 @@ pub fn push_along(tree: &Tree, path: Path, packet: Packet) -> TreeServed
 
 // Pushes a packet along a planned path and, if it is accepted, keeps the finishes of the plan. If the plan has none, since one does not fit, a push that
 // would be accepted is refused by 23.
+#[inline(always)]
 pub fn push_planned(
     tree: &Tree,
     path: Path,
@@ -65,6 +69,7 @@ pub fn push_planned(
 }
 
 // Pops the packet at the head. The virtual times of a drawing's nodes become the ranks that the pop took at their images.
+#[inline(always)]
 pub fn pop(tree: &Tree, bytes: &[u8], images: &[u8]) -> TreeServed
     ensures { Pops tree.now bytes.now images.now (answer_of result.answer) result.tree }
 {

@@ -11,7 +11,7 @@ use Rattle.topology.specs.Tree.{Topo}
 use Rattle.topology.specs.Address.{addr}
 use Rattle.topology.specs.Reader.{fault, tree}
 use Rattle.pifo_model.specs.Queue.{Rank}
-use Rattle.pifo_model.specs.Tree.{Step, PTree, pop}
+use Rattle.pifo_model.specs.Tree.{PTree, pop}
 use Rattle.pifo_model.specs.Machine.{Call, pushing, popping, Answer, accepted, departed, refused, full, serve, serve_pop}
 use Rattle.queue_state.specs.State.{Packet, bytes, tree_of, machine, well_formed}
 use Rattle.queue_state.specs.Calls.{Serves}
@@ -21,7 +21,7 @@ use Rattle.std.specs.Prelude.{Option as CodeOption, Some, None}
 use Rattle.base.proofs.Tests.{clash}
 use Rattle.queue_push.specs.Calls.{steps_of}
 use Rattle.queue_push.specs.declared.Path.{Path}
-use Rattle.discipline_model.specs.Figure.{kind_at, rank_by, steps_down, finishes_down, fits_down, with_finishes, rule_fault}
+use Rattle.discipline_model.specs.Figure.{kind_at, rank_by, steps_down, with_finishes, rule_fault}
 use Rattle.discipline_model.specs.Scheduler.{Request, calling, pushing_to, is_leaf, rank_at, serve_own}
 use Rattle.discipline_model.specs.declared.Disciplines.{Disciplines}
 use Rattle.queue_pop.specs.Way.{way_of}

@@ -1,10 +1,8 @@
 -- The test of a tree's rules (`test_rules`): what follows for the whole tree.
 use mathlib.Core.Path.{◌≡◌, refl, sym, ap, ◌∙◌}
-use Prim.Native.Nat.{ℕ, ◌≤◌, ◌<◌}
-use native.Mathlib.Omega.{arith}
+use Prim.Native.Nat.{ℕ, ◌≤◌}
 use mathlib.Core.List.{List}
 use mathlib.Core.Bool.{Bool, true, false, ◌&&◌, false≢true}
-use lib.ListN.{take}
 use lib.Dec.{eqb}
 use Rattle.std.specs.Prelude.{Result, Ok, Err, is_ok}
 use Rattle.refusal.specs.Numbers.{number_of}
@@ -20,7 +18,6 @@ use Rattle.queue_state.proofs.WellFormed.{formed}
 use Rattle.queue_counts.specs.Amounts.{amount}
 use Rattle.discipline_model.specs.Figure.{rule_fault}
 use Rattle.discipline_model.specs.declared.Disciplines.{Disciplines}
-use Rattle.discipline_model.specs.declared.Rule.{Rule}
 use Rattle.tree_state.specs.Calls.{drawing, well_formed_by}
 use Rattle.tree_state.specs.declared.Tree.{Tree}
 

@@ -15,4 +15,4 @@ returns-in-Ok c =
 pub returns-in-Err-check : goal.returns-in-Err-check
 returns-in-Err-check c =
     let map = rw c.bytes.ensures at c.in-Err-check.ensures in
-    rw c.refuse.ensures (map-refused _ _ _ _ c.in_default.ensures refl _ map _)
+    rw (c.refuse.ensures.0, c.refuse.ensures.1) (map-refused _ _ _ _ c.in_default.ensures refl _ map (number-ne0 _) _)

@@ -15,4 +15,4 @@ returns-in-Ok c =
 pub returns-in-Err-carry : goal.returns-in-Err-carry
 returns-in-Err-carry c =
     let carried = rw c.bytes.ensures at c.in-Err-carry.ensures in
-    rw c.refuse.ensures (path_refused _ _ _ _ c.in_default.ensures refl _ _ _ carried)
+    rw (c.refuse.ensures.0, c.refuse.ensures.1) (path_refused _ _ _ _ c.in_default.ensures refl _ _ _ carried)

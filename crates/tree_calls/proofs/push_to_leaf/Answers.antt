@@ -1,5 +1,7 @@
 -- `push_to_leaf` meets its contract: one law for each answer (proofs/OwnServes).
 use Rattle.std.proofs.Common.{refl}
+use Rattle.refusal.specs.declared.Refusal.TheVariants.{NoLeaf}
+use Rattle.queue_counts.proofs.StateFirst.{state_first}
 use Rattle.tree_calls.proofs.OwnServes.{unsound, not_a_leaf, by_leaf}
 use Rattle.tree_calls.proofs.push_to_leaf.Goals as goal
 
@@ -9,7 +11,8 @@ returns-in-Err c = rw c.in-Err.ensures.refusal (unsound _ _ c.in-Err.ensures.pas
 pub returns-then-not-is_leaf : goal.returns-then-not-is_leaf
 returns-then-not-is_leaf c =
     let leaf = rw c.bytes-bytes.ensures at c.is_leaf.ensures in
-    ?
+    rw (c.unwrap_or.ensures, c.err.ensures.value, state_first _ _ NoLeaf c.check_state.ensures)
+    (not_a_leaf _ _ c.in_default.ensures.passes refl _ _ _ _ _ leaf c.if-not-is_leaf.true)
 
 pub returns : goal.returns
 returns c =

@@ -1,6 +1,6 @@
 -- `test_rules` meets its contract.
 use Rattle.std.proofs.Common.{arith}
-use Rattle.tree_counts.proofs.AreSound.{rules_refused, rules_pass}
+use Rattle.tree_counts.proofs.AreSound.{rules_pass}
 use Rattle.tree_counts.proofs.test_rules.Goals as goal
 
 pub returns : goal.returns
