@@ -25,20 +25,16 @@ use refusal::Refusal;
 use translator::carry;
 use tree_state::{Tree, TreeServed};
 
-// A refusal that is tested after 18, with the tree as it was.
-fn refuse(tree: Tree, refusal: Refusal) -> TreeServed
-    ensures { (result.tree ≡ tree) × (answer_of result.answer ≡ refused (cond (well_formed tree.state) (number refusal) 18)) }
+// The answer for a refusal that is tested after 18.
+fn refuse(tree: &Tree, refusal: Refusal) -> Answer
+    ensures { answer_of result ≡ refused (cond (well_formed tree.now.state) (number refusal) 18) }
 {
-    let first = check_state(tree.state).err().unwrap_or(refusal);
-    TreeServed {
-        tree,
-        answer: Answer::Refused(first),
-    }
+    Answer::Refused(check_state(tree.state).err().unwrap_or(refusal))
 }
 
 // Pushes a packet along a path of the drawing, carried over, with its ranks as given, and alters no finish. Tested in this order: 1 to 5 of the
 // source, 18, 6, 26, 7 to 11, 13 and 14 by the source, 15.
-pub fn push(source: &[u8], map: &[u8], tree: Tree, path: Path, packet: Packet) -> TreeServed
+pub fn push(source: &[u8], map: &[u8], mut tree: Tree, path: Path, packet: Packet) -> TreeServed
     ensures { ChipServes source.now map.now tree (calling (pushing (steps_of path) path.leaf_rank packet)) (answer_of result.answer) result.tree }
 {
     if let Err(refusal) = test_first(source, &tree) {
@@ -47,10 +43,11 @@ pub fn push(source: &[u8], map: &[u8], tree: Tree, path: Path, packet: Packet) -
             answer: Answer::Refused(refusal),
         };
     }
-    match carry(source, tree.state.bytes(), map, path) {
-        Ok(over) => tree_below::push_along(&tree, over, packet),
-        Err(refusal) => refuse(tree, refusal),
-    }
+    let answer = match carry(source, tree.state.bytes(), map, path) {
+        Ok(over) => tree_below::push_along(&mut tree, over, packet),
+        Err(refusal) => refuse(&tree, refusal),
+    };
+    TreeServed { tree, answer }
 }
 
 // Pushes a packet of a class and a length to a leaf of the drawing, with the ranks that the disciplines give. Tested in this order: 1 to 5 of the
@@ -58,7 +55,7 @@ pub fn push(source: &[u8], map: &[u8], tree: Tree, path: Path, packet: Packet) -
 pub fn push_to_leaf(
     source: &[u8],
     map: &[u8],
-    tree: Tree,
+    mut tree: Tree,
     leaf: usize,
     class: u8,
     length: u16,
@@ -74,21 +71,23 @@ pub fn push_to_leaf(
     }
     let target = tree.state.bytes();
     if !is_leaf(source, leaf) {
-        return refuse(
+        let refusal = check(source, target, map).err().unwrap_or(Refusal::NoLeaf);
+        return TreeServed {
             tree,
-            check(source, target, map).err().unwrap_or(Refusal::NoLeaf),
-        );
+            answer: refuse(&tree, refusal),
+        };
     }
     let plan = plan_to(source, tree.disciplines, leaf, class, length);
-    match carry(source, target, map, plan.path) {
-        Ok(over) => tree_below::push_planned(&tree, over, plan.finish, packet),
-        Err(refusal) => refuse(tree, refusal),
-    }
+    let answer = match carry(source, target, map, plan.path) {
+        Ok(over) => tree_below::push_planned(&mut tree, over, plan.finish, packet),
+        Err(refusal) => refuse(&tree, refusal),
+    };
+    TreeServed { tree, answer }
 }
 
 // Pops the packet at the head; the virtual time of a source node becomes the rank that the pop took at its image. Tested in this order: 1 to 5 of the
 // source, 18, 6, 26, 7 to 11, 16.
-pub fn pop(source: &[u8], map: &[u8], tree: Tree) -> TreeServed
+pub fn pop(source: &[u8], map: &[u8], mut tree: Tree) -> TreeServed
     ensures { ChipServes source.now map.now tree (calling popping) (answer_of result.answer) result.tree }
 {
     if let Err(refusal) = test_first(source, &tree) {
@@ -97,8 +96,9 @@ pub fn pop(source: &[u8], map: &[u8], tree: Tree) -> TreeServed
             answer: Answer::Refused(refusal),
         };
     }
-    match check(source, tree.state.bytes(), map) {
-        Ok(()) => tree_below::pop(&tree, source, map),
-        Err(refusal) => refuse(tree, refusal),
-    }
+    let answer = match check(source, tree.state.bytes(), map) {
+        Ok(()) => tree_below::pop(&mut tree, source, map),
+        Err(refusal) => refuse(&tree, refusal),
+    };
+    TreeServed { tree, answer }
 }

@@ -5,7 +5,7 @@
 // There are at most 2304 entries: 256 packets, each with entries at up to 9 nodes. With a vector for each queue a state would be seven times as large.
 #![tactic(auto)]
 
-ghost use Rattle.std.specs.Prelude.{◌≡◌, ◌≤◌, length, IfOk};
+ghost use Rattle.std.specs.Prelude.{◌≡◌, ◌≤◌, length, take, IfOk};
 ghost use Rattle.refusal.specs.Numbers.{number_of};
 ghost use Rattle.queue_state.specs.State.{bytes};
 ghost use Rattle.queue_state.specs.Opening.{open_fault, opened_state, no_tree};
@@ -39,6 +39,15 @@ pub struct Frame {
     pub limit: usize,
 }
 
+impl Frame {
+    // The bytes of the topology.
+    pub fn bytes(&self) -> &[u8]
+        ensures { result.now ≡ take self.now.nodes self.now.topology }
+    {
+        &self.topology[..self.nodes.min(TARGET_NODES)]
+    }
+}
+
 // The fields stand in an order in which no byte lies idle between two of them: idle bytes cost copies (docs/PERFORMANCE.md, "The floor").
 #[derive(Clone, Copy)]
 pub struct State {
@@ -54,7 +63,7 @@ impl State {
     pub fn bytes(&self) -> &[u8]
         ensures { result.now ≡ bytes self.now }
     {
-        &self.frame.topology[..self.frame.nodes.min(TARGET_NODES)]
+        self.frame.bytes()
     }
 }
 

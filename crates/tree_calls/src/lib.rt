@@ -20,20 +20,24 @@ use tree_counts::test_rules;
 use tree_state::{Tree, TreeServed};
 
 // Pushes a packet along a path, with its ranks as given, and alters no finish. 18, 13, 14, 15 are tested in this order.
-pub fn push(tree: Tree, path: Path, packet: Packet) -> TreeServed
+pub fn push(mut tree: Tree, path: Path, packet: Packet) -> TreeServed
     ensures { OwnServes tree (calling (pushing (steps_of path) path.leaf_rank packet)) (answer_of result.answer) result.tree }
 {
-    if let Err(refusal) = test_rules(&tree) {
-        return TreeServed {
-            tree,
-            answer: Answer::Refused(refusal),
-        };
-    }
-    tree_below::push_along(&tree, path, packet)
+    let answer = match test_rules(&tree) {
+        Ok(()) => tree_below::push_along(&mut tree, path, packet),
+        Err(refusal) => Answer::Refused(refusal),
+    };
+    TreeServed { tree, answer }
 }
 
 // Pushes a packet of a class and a length to a leaf, with the ranks that the disciplines give. 18, 25, 15, 23 are tested in this order.
-pub fn push_to_leaf(tree: Tree, leaf: usize, class: u8, length: u16, packet: Packet) -> TreeServed
+pub fn push_to_leaf(
+    mut tree: Tree,
+    leaf: usize,
+    class: u8,
+    length: u16,
+    packet: Packet,
+) -> TreeServed
     ensures { OwnServes tree (pushing_to leaf class length packet) (answer_of result.answer) result.tree }
 {
     if let Err(refusal) = test_rules(&tree) {
@@ -50,18 +54,18 @@ pub fn push_to_leaf(tree: Tree, leaf: usize, class: u8, length: u16, packet: Pac
         };
     }
     let plan = plan_to(bytes, tree.disciplines, leaf, class, length);
-    tree_below::push_planned(&tree, plan.path, plan.finish, packet)
+    let answer = tree_below::push_planned(&mut tree, plan.path, plan.finish, packet);
+    TreeServed { tree, answer }
 }
 
 // Pops the packet at the head; the virtual times on its way become the ranks that it took. 18 and 16 are tested in this order.
-pub fn pop(tree: Tree) -> TreeServed
+pub fn pop(mut tree: Tree) -> TreeServed
     ensures { OwnServes tree (calling popping) (answer_of result.answer) result.tree }
 {
-    match test_rules(&tree) {
-        Ok(()) => tree_below::pop(&tree, tree.state.bytes(), &own_images()),
-        Err(refusal) => TreeServed {
-            tree,
-            answer: Answer::Refused(refusal),
-        },
-    }
+    let frame = tree.state.frame;
+    let answer = match test_rules(&tree) {
+        Ok(()) => tree_below::pop(&mut tree, frame.bytes(), &own_images()),
+        Err(refusal) => Answer::Refused(refusal),
+    };
+    TreeServed { tree, answer }
 }

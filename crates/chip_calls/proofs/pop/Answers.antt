@@ -10,9 +10,9 @@ returns-in-Err c = first_refused _ _ _ _ c.in-Err.ensures (number-ne0 _) _
 pub returns-in-Ok : goal.returns-in-Ok
 returns-in-Ok c =
     let map = rw c.bytes.ensures at c.in-Ok.ensures in
-    by_pop _ _ _ _ c.in_default.ensures refl (sym map) _ _ c.pop.ensures
+    by_pop _ _ _ _ c.in_default.ensures refl (sym map) _ _ c.pop-answer.ensures
 
 pub returns-in-Err-check : goal.returns-in-Err-check
 returns-in-Err-check c =
     let map = rw c.bytes.ensures at c.in-Err-check.ensures in
-    rw (c.refuse.ensures.0, c.refuse.ensures.1) (map-refused _ _ _ _ c.in_default.ensures refl _ map (number-ne0 _) _)
+    rw c.refuse-answer.ensures (map-refused _ _ _ _ c.in_default.ensures refl _ map (number-ne0 _) _)

@@ -18,4 +18,4 @@ pub returns : goal.returns
 returns c =
     let leaf = rw c.bytes-bytes.ensures at c.is_leaf.ensures in
     let plan = rw c.bytes-bytes.ensures at c.plan_to-plan.ensures in
-    by_leaf _ _ c.in_default.ensures.passes refl _ _ _ _ _ leaf c.if-not-is_leaf.false _ plan _ _ c.push_planned.ensures
+    by_leaf _ _ c.in_default.ensures.passes refl _ _ _ _ _ leaf c.if-not-is_leaf.false _ plan _ _ c.push_planned-answer.ensures
