@@ -23,10 +23,13 @@ use tree_state::{Tree, TreeServed};
 pub fn push(mut tree: Tree, path: Path, packet: Packet) -> TreeServed
     ensures { OwnServes tree (calling (pushing (steps_of path) path.leaf_rank packet)) (answer_of result.answer) result.tree }
 {
-    let answer = match test_rules(&tree) {
-        Ok(()) => tree_below::push_along(&mut tree, path, packet),
-        Err(refusal) => Answer::Refused(refusal),
-    };
+    if let Err(refusal) = test_rules(&tree) {
+        return TreeServed {
+            tree,
+            answer: Answer::Refused(refusal),
+        };
+    }
+    let answer = tree_below::push_along(&mut tree, path, packet);
     TreeServed { tree, answer }
 }
 
