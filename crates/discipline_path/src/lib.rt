@@ -12,7 +12,7 @@ ghost use Rattle.discipline_path.specs.Plans.{Planned};
 ghost use Rattle.discipline_path.specs.InnerShares.{stepped};
 
 use discipline_model::{Disciplines, acts_as};
-use queue_push::{Path, Step, extended};
+use queue_push::{Path, extended};
 use queue_state::Rank;
 use topology::{Child, TARGET_NODES};
 use topology_branches::toward;
@@ -32,11 +32,7 @@ fn begun(disciplines: &Disciplines, leaf: usize, class: u8) -> Plan
 {
     let discipline = acts_as(0, disciplines.rules[leaf].discipline);
     Plan {
-        path: Path {
-            steps: [Step { child: 0, rank: 0 }; 9],
-            count: 0,
-            leaf_rank: shares::rank(discipline, 0, class),
-        },
+        path: Path::new(shares::rank(discipline, 0, class)),
         finish: Some(disciplines.finish),
     }
 }

@@ -64,6 +64,7 @@ pub fn pop(state: State) -> Popped
             way: departures::no_way(0),
         };
     };
+    // A variable: the borrow checker does not cover an array that goes straight from one field to another.
     let lengths = trail.lengths;
     let mut kept = 0;
     let mut end = 0;

@@ -4,10 +4,10 @@
 
 mod arrivals;
 
-ghost use Rattle.std.specs.Prelude.{◌≡◌, suc, min, take};
+ghost use Rattle.std.specs.Prelude.{◌≡◌, suc, min, [], take};
 ghost use Rattle.pifo_model.specs.Machine.{pushing, most};
 ghost use Rattle.queue_state.specs.Calls.{answer_of, Serves};
-ghost use Rattle.queue_push.specs.Calls.{steps_of, extended_by};
+ghost use Rattle.queue_push.specs.Calls.{steps_of, path_of, extended_by};
 
 use queue_check::examine;
 use queue_state::{Answer, Packet, Rank, Served, State};
@@ -31,6 +31,17 @@ pub struct Path {
 }
 
 impl Path {
+    // A path without steps.
+    pub fn new(leaf_rank: Rank) -> Path
+        ensures { result ≡ path_of [] leaf_rank }
+    {
+        Path {
+            steps: [Step { child: 0, rank: 0 }; 9],
+            count: 0,
+            leaf_rank,
+        }
+    }
+
     // The steps; a count above nine reads as nine.
     pub fn steps(&self) -> &[Step]
         ensures { result.now ≡ take self.now.count self.now.steps }

@@ -17,7 +17,7 @@ ghost use Rattle.queue_push.specs.Calls.{steps_of, path_of, Plain};
 ghost use Rattle.translator.specs.Carry.{Carries};
 ghost use Rattle.translator.specs.InnerWays.{Over};
 
-use queue_push::{Path, Step, extended};
+use queue_push::{Path, extended};
 use queue_state::Rank;
 use refusal::Refusal;
 use topology_branches::{child, toward};
@@ -57,13 +57,8 @@ fn walk(source: &[u8], target: &[u8], map: &[u8], path: Path) -> Path
     requires { (map_fault source.now target.now map.now ≡ 0) × (path_fault (tree source.now) (steps_of path) ≡ 0) }
     ensures { result ≡ path_of (carrying_carry (tree source.now) (tree target.now) map.now (steps_of path)) path.leaf_rank }
 {
-    let empty = Path {
-        steps: [Step { child: 0, rank: 0 }; 9],
-        count: 0,
-        leaf_rank: path.leaf_rank,
-    };
     let mut from = usize::from(map[next_kept(source, 0)]);
-    let mut carried = descend(target, empty, 0, from, 0);
+    let mut carried = descend(target, Path::new(path.leaf_rank), 0, from, 0);
     let mut node = 0;
     for step in path.steps() {
         let Some(next) = child(source, node, usize::from(step.child)) else {

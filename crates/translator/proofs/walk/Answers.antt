@@ -10,11 +10,12 @@ bounds-map-next_kept c = walking_listed _ _ _ c.requires.0 c.args.path _ c.next_
 pub descend-carried-requires : goal.descend-carried-requires
 descend-carried-requires c =
     let kept = c.next_kept.ensures in
-    (rw c.from-from.ensures (walking_first _ _ _ c.requires.0 c.args.path _ kept), refl, walking_none _ _ _ c.requires.0 c.args.path _ kept)
+    rw (c.from-from.ensures, c.new.ensures)
+    (walking_first _ _ _ c.requires.0 c.args.path _ kept, refl, walking_none _ _ _ c.requires.0 c.args.path _ kept)
 
 pub loop-step-init : goal.loop-step-init
 loop-step-init c =
-    let carried = rw c.from-from.ensures at c.descend-carried.ensures in
+    let carried = rw (c.from-from.ensures, c.new.ensures) at c.descend-carried.ensures in
     rw c.from-from.ensures (walking_start _ _ _ c.requires.0 _ _ c.next_kept.ensures _ carried)
 
 pub returns-in_default : goal.returns-in_default
