@@ -1,6 +1,6 @@
 // The elements of a sheet in SVG, each a template filled in with its numbers, and the sheets that show no tree.
 //
-// A refusal's number may be any: a `Refusal` in its place would ask more of callers. It and the offset beside it are two numbers of the line that
+// A refusal's number may be any u8 or usize: a `Refusal` in its place would ask more of callers. It and the offset beside it are two numbers of the line that
 // is printed, as in `script_lines::put_no`, and a struct of both would be taken apart where they are printed.
 #![tactic(auto)]
 
@@ -238,6 +238,7 @@ pub fn draw_nothing(text: &mut Text<'_>)
 }
 
 // What is wrong with a tree's bytes at a node, by the number of the refusal: the words before the tree's name.
+// By the numbers, as above: 1 is `Incomplete`, 2 `Excess`, 3 `TooManyNodes`, 4 `TooManyChildren`, and 5 `TooDeep`, whose words any other number gets.
 fn fault_start(number: u8) -> &'static [u8]
     ensures { result.now ≡ fault_start number }
 {
