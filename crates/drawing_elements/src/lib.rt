@@ -1,7 +1,7 @@
 // The elements of a sheet in SVG, each a template filled in with its numbers, and the sheets that show no tree.
 //
-// A refusal's number may be any u8 or usize: a `Refusal` in its place would ask more of callers. It and the offset beside it are two numbers of the line that
-// is printed, as in `script_lines::put_no`, and a struct of both would be taken apart where they are printed.
+// A refusal's number may be any u8 or usize: a `Refusal` in its place would ask more of callers. It and the offset beside it are two numbers of the
+// line that is printed, as in `script_lines::put_no`, and a struct of both would be taken apart where they are printed.
 #![tactic(auto)]
 
 ghost use Rattle.std.specs.Prelude.{◌≡◌, ◌≤◌, ◌&&◌, leb, ltb, cond};
