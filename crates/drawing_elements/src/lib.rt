@@ -1,15 +1,16 @@
 // The elements of a sheet in SVG, each a template filled in with its numbers, and the sheets that show no tree.
+//
+// A refusal's number may be any u8 or usize: a `Refusal` in its place would ask more of callers. It and the offset beside it are two numbers of the
+// line that is printed, as in `script_lines::put_no`, and a struct of both would be taken apart where they are printed.
 #![tactic(auto)]
 
 ghost use Rattle.std.specs.Prelude.{◌≡◌, ◌≤◌, ◌&&◌, leb, ltb, cond};
-ghost use Rattle.refusal.specs.Numbers.{number};
 ghost use Rattle.text.specs.Appending.{Appends};
 ghost use Rattle.text_templates.specs.Template.{bytes};
 ghost use Rattle.drawing_elements.specs.Elements.{row, left_of, side_name, label_of, head, edge, mark, class_name, join, legend};
 ghost use Rattle.drawing_elements.specs.Elements.{note, note_end, refused_end, nothing, fault_start, fault_words, fault_note, lack_text};
 ghost use Rattle.drawing_elements.specs.Elements.{refusal as refusal_sheet};
 
-use refusal::Refusal;
 use std::ops::Range;
 use text::Text;
 use text_templates::put_filled;
@@ -56,7 +57,7 @@ impl Side {
         }
     }
 
-    // The label above a tree.
+    // The label above a tree: a whole text for each side, since from `left` and `name` it would have to be put together of five parts.
     pub fn label(self) -> &'static [u8]
         ensures { result.now ≡ label_of self }
     {
@@ -109,8 +110,8 @@ pub fn put_edge(text: &mut Text<'_>, from: Point, row: usize, child: usize)
     );
 }
 
-// An ellipse of a class with the node's number in it.
-fn put_mark(text: &mut Text<'_>, class: &[u8], at: Point, node: usize)
+// An ellipse of a class with the node's number in it. The class may be any word, one of `class_name` or another.
+pub fn put_mark(text: &mut Text<'_>, class: &[u8], at: Point, node: usize)
     ensures { Appends text.old (mark class.now at.x at.y node) text.new }
 {
     text.put_word(b"<ellipse class='");
@@ -195,13 +196,13 @@ pub fn put_legend(text: &mut Text<'_>, rows: u8)
 
 // The start of a note: a refusal's number, and the offset of the command refused.
 #[tactic(auto, unfolding(crate::specs::Elements::note))]
-pub fn put_note(text: &mut Text<'_>, refusal: Refusal, offset: usize)
-    ensures { Appends text.old (note (number refusal) offset) text.new }
+pub fn put_note(text: &mut Text<'_>, number: usize, offset: usize)
+    ensures { Appends text.old (note number offset) text.new }
 {
     put_filled(
         text,
         b"<text class='note' x='24' y='14'>no # #",
-        &[usize::from(u8::from(refusal)), offset],
+        &[number, offset],
     );
 }
 
@@ -213,19 +214,19 @@ pub fn put_note_end(text: &mut Text<'_>)
 }
 
 // The end of a sheet, with a refusal before it.
-fn put_refused(text: &mut Text<'_>, refusal: Refusal, offset: usize)
-    ensures { Appends text.old (refused_end (number refusal) offset) text.new }
+fn put_refused(text: &mut Text<'_>, number: u8, offset: usize)
+    ensures { Appends text.old (refused_end number offset) text.new }
 {
-    put_note(text, refusal, offset);
+    put_note(text, usize::from(number), offset);
     put_note_end(text);
 }
 
 // A refusal alone: its number, and the offset of the command refused.
-pub fn draw_refusal(text: &mut Text<'_>, refusal: Refusal, offset: usize)
-    ensures { Appends text.old (refusal_sheet (number refusal) offset) text.new }
+pub fn draw_refusal(text: &mut Text<'_>, number: u8, offset: usize)
+    ensures { Appends text.old (refusal_sheet number offset) text.new }
 {
     put_head(text, 0);
-    put_refused(text, refusal, offset);
+    put_refused(text, number, offset);
 }
 
 // The sheet of a script that ends before 04.
@@ -236,42 +237,43 @@ pub fn draw_nothing(text: &mut Text<'_>)
     text.put_word(b"<text class='note' x='24' y='14'>nothing to draw</text>\n</svg>\n");
 }
 
-// What is wrong with a tree's bytes at a node: the words before the tree's name.
-fn fault_start(refusal: Refusal) -> &'static [u8]
-    ensures { result.now ≡ fault_start (number refusal) }
+// What is wrong with a tree's bytes at a node, by the number of the refusal: the words before the tree's name.
+// By the numbers, as above: 1 is `Incomplete`, 2 `Excess`, 3 `TooManyNodes`, 4 `TooManyChildren`, and 5 `TooDeep`, whose words any other number gets.
+fn fault_start(number: u8) -> &'static [u8]
+    ensures { result.now ≡ fault_start number }
 {
-    match refusal {
-        Refusal::Incomplete | Refusal::Excess => b": the ",
+    match number {
+        0..=2 => b": the ",
         _ => b": node # of the ",
     }
 }
 
 // The words after it.
-fn fault_words(refusal: Refusal) -> &'static [u8]
-    ensures { result.now ≡ fault_words (number refusal) }
+fn fault_words(number: u8) -> &'static [u8]
+    ensures { result.now ≡ fault_words number }
 {
-    match refusal {
-        Refusal::Incomplete => b" ends before it is complete",
-        Refusal::Excess => b" is complete before node #",
-        Refusal::TooManyNodes => b" is one too many",
-        Refusal::TooManyChildren => b" has more than 8 children",
+    match number {
+        1 => b" ends before it is complete",
+        2 => b" is complete before node #",
+        3 => b" is one too many",
+        4 => b" has more than 8 children",
         _ => b" lies 9 steps down",
     }
 }
 
 // The refusal of a tree at fault, in words, and the end of the sheet.
-pub fn put_fault_note(text: &mut Text<'_>, side: Side, refusal: Refusal, offset: usize, node: usize)
-    ensures { Appends text.old (fault_note side (number refusal) offset node) text.new }
+pub fn put_fault_note(text: &mut Text<'_>, side: Side, number: u8, offset: usize, node: usize)
+    ensures { Appends text.old (fault_note side number offset node) text.new }
 {
-    put_note(text, refusal, offset);
-    put_filled(text, fault_start(refusal), &[node]);
+    put_note(text, usize::from(number), offset);
+    put_filled(text, fault_start(number), &[node]);
     text.put_word(side.name());
-    put_filled(text, fault_words(refusal), &[node]);
+    put_filled(text, fault_words(number), &[node]);
     put_note_end(text);
 }
 
 // What the branch under a node lacks that fits nowhere on the chip: depth for a leaf, leaves, or room for the branches below it.
-// It repeats three cases of `Diagnosis` in embedding_diagnosis: this crate knows no diagnosis, and has no words for the other two cases.
+// `Diagnosis` in embedding_diagnosis has these three cases and two without such a node, in which `put_lack` would have nothing to say.
 #[derive(Clone, Copy)]
 pub enum Lack {
     Depth { needed: usize, there: usize },

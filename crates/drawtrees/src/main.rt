@@ -2,18 +2,18 @@
 // the first 65,536 bytes at most.
 #![tactic(auto)]
 
-// Each of the programs over a script has its own `walk`: one for all would take the call as a parameter, and so need a `requires`.
-fn walk(rt: &(impl Input + Print + Eprint), input: &mut [u8], text: &mut [u8]) {
-    if let Some(script) = text_stream::read_all(rt, input) {
-        let end = drawing_svg::draw_script(script, text);
-        text_stream::print(rt, &text[..end]);
+use text_stream::{Program, run_program};
+
+struct Drawtrees;
+
+impl Program for Drawtrees {
+    fn answer(script: &[u8], out: &mut [u8]) -> usize {
+        drawing_svg::draw_script(script, out)
     }
 }
 
 // The sheet fits (`sheet-fits` in drawing_svg/proofs/Lengths).
-// Each program has its own `main`, since the size of an array is a number in its type, and each text has its own size.
 fn main(rt: HostRuntime) {
-    let mut input = [0u8; 65536];
     let mut text = [0u8; 23735];
-    walk(&rt, &mut input, &mut text);
+    run_program::<Drawtrees>(&rt, &mut text);
 }

@@ -49,7 +49,7 @@ fn put_chip(text: &mut Text<'_>, d: usize, depth: usize)
 fn put_chips(text: &mut Text<'_>, source: &[u8], offset: usize)
     ensures { Adds (Table source.now offset) text.old text.new }
 {
-    for d in 2..9 {
+    for d in 2..=8 {
         match least_depth(source, d) {
             Ok(depth) => put_chip(text, d, depth),
             Err(refusal) => return put_no(text, refusal.into(), offset),
@@ -57,7 +57,8 @@ fn put_chips(text: &mut Text<'_>, source: &[u8], offset: usize)
     }
 }
 
-// The text for a script. It takes the source from the setup, and needs neither a target nor a limit: an 04 without a limit before it is accepted.
+// The text for a script. It takes the source from the setup, and needs neither a target nor a limit: an 04 without a limit before it is accepted. The
+// setup refuses such a command as out of turn, and its first byte, 4, tells that it is an 04.
 pub fn put_table(script: &[u8], out: &mut [u8]) -> usize
     ensures { Writes (Prints script.now) out.old 0 out.new result }
 {

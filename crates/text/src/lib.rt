@@ -24,7 +24,8 @@ impl<'a> Text<'a> {
         Text { out, at: 0 }
     }
 
-    // The text that begins at a place of a buffer, or at its end if the place lies past that.
+    // The text that begins at a place of a buffer, or at its end if the place lies past that. Nothing in this repository calls it: it is there since
+    // a text could always begin at any place of a buffer.
     pub fn behind(out: &'a mut [u8], at: usize) -> Text<'a>
         ensures { Begins out.entry at result }
     {

@@ -24,6 +24,23 @@ pub fn read_all<'a>(rt: &(impl Input + Eprint), buffer: &'a mut [u8]) -> Option<
     Some(&buffer[..count])
 }
 
+// What a program answers to a script: it puts its text into a buffer, and returns where the text ends there.
+pub trait Program {
+    fn answer(script: &[u8], out: &mut [u8]) -> usize
+        ensures { result ≤ length out.new };
+}
+
+// Runs a program: reads a script from standard input, the first 65,536 bytes at most, and writes what the program puts into `text`.
+// A contract can say nothing of what is read and written, so this function has no more of one than `print`. Each text has its own size, and its buffer
+// comes from the caller. Tried: with the size as a const parameter the proof did not close, since nothing says that it is below 2^63.
+pub fn run_program<P: Program>(rt: &(impl Input + Print + Eprint), text: &mut [u8]) {
+    let mut input = [0u8; 65536];
+    if let Some(script) = read_all(rt, &mut input) {
+        let end = P::answer(script, text);
+        print(rt, &text[..end]);
+    }
+}
+
 // Reads standard input until the buffer is full, the input ends or a read fails, and returns how many bytes it put at the start of the buffer. A read
 // that a signal interrupts counts as one that failed.
 pub fn read_full(rt: &impl Input, buffer: &mut [u8]) -> usize

@@ -11,11 +11,10 @@ use text::Text;
 pub fn put_filled(text: &mut Text<'_>, template: &[u8], numbers: &[usize])
     ensures { Appends text.old (filled template.now numbers.now 0) text.new }
 {
-    let mut n = 0;
+    let mut left = numbers.iter();
     for &byte in template {
         if byte == b'#' {
-            text.put_decimal(numbers.get(n).copied().unwrap_or(0));
-            n += 1;
+            text.put_decimal(left.next().copied().unwrap_or(0));
         } else {
             text.put(byte);
         }

@@ -3,4 +3,4 @@ use Rattle.text.proofs.Appending.{appends_then}
 use Rattle.drawing_elements.proofs.put_refused.Goals as goal
 
 pub returns : goal.returns
-returns c = appends_then c.put_note.ensures c.put_note_end.ensures
+returns c = rw (← c.from.ensures) (appends_then c.put_note.ensures c.put_note_end.ensures)

@@ -17,5 +17,5 @@ unfolding fault_of
 returns c =
     let node = c.accepted_bytes-node in
     let part : take c.min.result c.args.bytes.now ≡ take (suc node.result) c.args.bytes.now = rw (c.min.ensures, take_min, add-one) in
-    rw (← node.ensures, ← part, ← (add-one node.result))
+    rw (← node.ensures, ← part, ← c.into.ensures, ← (add-one node.result))
     (appends_then c.put_head.ensures (appends_then c.put.ensures (appends_then c.put_legend.ensures c.put_fault_note.ensures)))

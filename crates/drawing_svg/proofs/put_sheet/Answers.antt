@@ -9,7 +9,7 @@ returns-in-End c = rw (← c.gathered_of-drawing.ensures.ending, c.in-End.is) c.
 
 pub returns-in-Refused : goal.returns-in-Refused
 unfolding script_sheet
-returns-in-Refused c = rw (← c.gathered_of-drawing.ensures.ending, c.in-Refused.is) c.draw_refusal.ensures
+returns-in-Refused c = rw (← c.gathered_of-drawing.ensures.ending, c.in-Refused.is, ← c.into.ensures) c.draw_refusal.ensures
 
 pub returns-in-Compile : goal.returns-in-Compile
 unfolding script_sheet
@@ -22,8 +22,5 @@ returns-in-Compile c =
       ← setup.draws.source,
       ← setup.draws.target,
       ← setup.draws.limit,
-      ← c.deref.ensures.0,
-      ← c.deref-in-Compile.ensures.0,
-      ← c.unwrap_or-limit.ensures,
     )
     c.draw.ensures
