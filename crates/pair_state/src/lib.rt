@@ -9,8 +9,8 @@ ghost use Rattle.pair_state.specs.Opening.{both_fault, opened_pair};
 use queue_state::State;
 use refusal::Refusal;
 
-// The source's tree, the chip's tree, and the map of the one into the other. A tree is a `State` here, and one with disciplines in `chip_open`. The map
-// has 32 places whatever the source, as C gets it.
+// The source's tree, the chip's tree, and the map of the one into the other. A tree is a `State` here, and one with disciplines in `chip_open`. The
+// map has 32 places whatever the source, as C gets it.
 #[derive(Clone, Copy)]
 pub struct Pair<T> {
     pub source: T,
