@@ -8,13 +8,14 @@ use Rattle.discipline_model.specs.Figure.{rule_fault}
 use Rattle.discipline_model.specs.declared.Rule.{Rule}
 use Rattle.tree_state.specs.Opening.{opened_tree}
 use Rattle.pair_state.specs.Opening.{both_fault}
-use Rattle.chip_open.specs.declared.Both.{Both}
+use Rattle.pair_state.specs.declared.Pair.{Pair}
+use Rattle.tree_state.specs.declared.Tree.{Tree}
 
 -- The refusal: that of an opening without disciplines, then 24 by the source; or 0.
 unfoldable pub both_trees_fault : List ℕ → List ℕ → ℕ → List Rule → ℕ
 both_trees_fault source target limit rules = or_else (both_fault source target limit) (rule_fault (tree source) rules)
 
 -- both trees, and the least map, that an opening gives if it is not refused
-abbrev pub opened_both : List ℕ → List ℕ → ℕ → List Rule → Both
+abbrev pub opened_both : List ℕ → List ℕ → ℕ → List Rule → Pair Tree
 opened_both source target limit rules =
     record { source = opened_tree source limit rules; chip = opened_tree target limit rules; map = search_map source target }

@@ -14,14 +14,6 @@ use refusal::Refusal;
 use topology::{SOURCE_NODES, read};
 use tree_state::Tree;
 
-// Both trees, and the map of the source into the chip's tree.
-#[derive(Clone, Copy)]
-pub struct Both {
-    pub source: Tree,
-    pub chip: Tree,
-    pub map: [u8; 32],
-}
-
 // Opens an empty tree of the target's topology for a drawing, with a rule for each node of the drawing. Tested in this order: 1 to 5 of the drawing, 1
 // to 5 of the target, 17, 24 by the drawing.
 pub fn open(drawing: &[u8], target: &[u8], limit: usize, rules: [Rule; 64]) -> Result<Tree, Refusal>
@@ -41,7 +33,7 @@ pub fn open_both(
     target: &[u8],
     limit: usize,
     rules: [Rule; 64],
-) -> Result<Both, Refusal>
+) -> Result<Pair<Tree>, Refusal>
     ensures refusal { number_of result ≡ both_trees_fault source.now target.now limit rules }
     ensures both { IfOk result (λ b. b ≡ opened_both source.now target.now limit rules) }
 {
@@ -51,7 +43,7 @@ pub fn open_both(
         map,
     } = pair_state::open(source, target, limit)?;
     check_rules(source, rules)?;
-    Ok(Both {
+    Ok(Pair {
         source: Tree::new(drawn, rules),
         chip: Tree::new(chip, rules),
         map,

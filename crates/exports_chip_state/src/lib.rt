@@ -14,10 +14,11 @@ ghost use Rattle.exports_plain_tree.specs.Trees.{tree_from};
 ghost use Rattle.exports_plain_tree.specs.Answers.{plain_opened};
 ghost use Rattle.exports_chip_state.specs.Answers.{plain_pair, plain_both};
 
-use chip_open::Both;
 use exports_plain_answers::PlainAmount;
 use exports_plain_tree::{PlainRules, PlainTree, PlainTreeOpened, no_tree};
+use pair_state::Pair;
 use refusal::Refusal;
+use tree_state::Tree;
 
 // The answer to an opening of both trees: the trees, empty, the least map and 0; or zeros throughout and the refusal's number.
 #[repr(C)]
@@ -30,10 +31,10 @@ pub struct PlainPairOpened {
 }
 
 // C gets zeros in place of both trees and the map.
-impl From<Result<Both, Refusal>> for PlainPairOpened {
+impl From<Result<Pair<Tree>, Refusal>> for PlainPairOpened {
     ghost from_gives = { λ opening plain. plain ≡ plain_pair opening };
 
-    fn from(opening: Result<Both, Refusal>) -> PlainPairOpened {
+    fn from(opening: Result<Pair<Tree>, Refusal>) -> PlainPairOpened {
         match opening {
             Ok(both) => {
                 // A variable: the borrow checker does not cover a field that is an array and is made part of a literal straight.

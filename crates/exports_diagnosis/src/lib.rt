@@ -6,6 +6,7 @@ ghost use Rattle.embedding_diagnosis.specs.Diagnosis.{diagnosis};
 ghost use Rattle.exports_diagnosis.specs.Plain.{plain_of};
 
 use embedding_diagnosis::Diagnosis;
+use refusal::Refusal;
 
 // The refusal of the search, or 0. If it is 12, `node` is the node of the drawing whose branch fits nowhere, and `lack` says what the branch lacks.
 // 1: the node is a leaf with `needed` kept nodes above it, and no chip node has more than `there` nodes above it.
@@ -26,12 +27,13 @@ impl From<Diagnosis> for PlainDiagnosis {
     ghost from_gives = { λ diagnosis plain. plain ≡ plain_of diagnosis };
 
     fn from(diagnosis: Diagnosis) -> PlainDiagnosis {
+        let no_map: u8 = Refusal::NoMap.into();
         let (refusal, lack, node, needed, there) = match diagnosis {
             Diagnosis::Loads => (0, 0, 0, 0, 0),
             Diagnosis::Refused(refusal) => (refusal.into(), 0, 0, 0, 0),
-            Diagnosis::TooDeep(node, needed, there) => (12, 1, node, needed, there),
-            Diagnosis::TooManyLeaves(node, needed, there) => (12, 2, node, needed, there),
-            Diagnosis::NotTogether(node) => (12, 3, node, 0, 0),
+            Diagnosis::TooDeep(node, needed, there) => (no_map, 1, node, needed, there),
+            Diagnosis::TooManyLeaves(node, needed, there) => (no_map, 2, node, needed, there),
+            Diagnosis::NotTogether(node) => (no_map, 3, node, 0, 0),
         };
         PlainDiagnosis {
             refusal,

@@ -20,7 +20,7 @@ pub extern "C" fn linduvar_check(source: &[u8], target: &[u8], map: &[u8]) -> u8
 }
 
 // Searches for the least map and writes it to the first 32 bytes of `out`. The answer is the refusal's number; or 255 if there is a map, but no room
-// for it in `out`; or 0. Nothing is written unless the answer is 0.
+// for it in `out`; or 0. Nothing is written unless the answer is 0. C has no Result, and its header names the number 255, which is no refusal's.
 #[unsafe(no_mangle)]
 pub extern "C" fn linduvar_search(source: &[u8], target: &[u8], out: &mut [u8]) -> u8
     ensures { (result ≡ search_number source.now target.now out.old) × (out.new ≡ search_out source.now target.now out.old) }

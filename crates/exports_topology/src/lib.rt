@@ -29,7 +29,7 @@ pub extern "C" fn linduvar_branch(bytes: &[u8], node: usize, refusal: &mut u8) -
     length
 }
 
-// Byte `at` of the branch under `node`; past its end 255, which is no number of children.
+// Byte `at` of the branch under `node`; past its end 255, which is no number of children. C has no Option, and its header names the number.
 #[unsafe(no_mangle)]
 pub extern "C" fn linduvar_branch_byte(bytes: &[u8], node: usize, at: usize) -> u8
     ensures { result ≡ get_or (branch_part bytes.now node) at 255 }

@@ -16,7 +16,7 @@ use Rattle.std.specs.Prelude.{Result, Ok, Err}
 use Rattle.refusal.specs.Numbers.{number_of}
 use Rattle.refusal.specs.declared.Refusal.{Refusal}
 use Rattle.refusal.proofs.Numbers.{numbered}
-use Rattle.topology.specs.Tree.{Topo, code}
+use Rattle.topology.specs.Tree.{Topo}
 use Rattle.topology.specs.Reader.{fault, tree}
 use Rattle.topology.proofs.Reader.{fault_wider}
 use Rattle.pifo_model.specs.Tree.{held, packets}
@@ -33,7 +33,6 @@ use Rattle.embedding_model.proofs.Passes.{maps_reduced}
 use Rattle.embedding_model.proofs.Search.{search-twelve, search_most}
 use Rattle.pair_model.specs.Simulation.{serve_carried}
 use Rattle.pair_model.proofs.ReducedAlike.{places_pass}
-use Rattle.regular_model.specs.Regular.{complete}
 use Rattle.regular_model.proofs.SearchRegular.{search_regular}
 use Rattle.regular_depth.proofs.Answers.{depth-drawn, answers_some}
 use Rattle.embedding_least.specs.Answers.{Searches}
@@ -57,7 +56,7 @@ use Rattle.chip_state.specs.Calls.{chip_refusal, serve_mapped, ChipServes}
 use Rattle.chip_state.proofs.ChipServes.{known_chip, carried_topology}
 use Rattle.chip_state.proofs.Satisfiable.{chip_some}
 use Rattle.pair_demand.specs.Demand.{CodeRequest, request_of, SourceCall, ChipCall, Observation, observe, observe_own, as_observation, observed, Tallied, as_observations, Alike, Demand3}
-use Rattle.pair_demand.proofs.Openings.{opened-scheduler, wide, own_opens, own_passes, chip-opens, chip_passes}
+use Rattle.pair_demand.proofs.Openings.{own_opens, own_passes, chip-opens, chip_passes}
 
 -- ---- what is observed of a tree is what is observed of its scheduler
 
@@ -169,8 +168,8 @@ module _ (source target m : List ℕ) (limit : ℕ) (rules : List Rule) (f : fau
       let T = tree target in
       let requests = map request_of calls in
       let both = schedulers_alike Packet S T m E limit rules requests in
-      let o = opened-scheduler source (wide source f limit fits rules e) limit fits rules in
-      let u = opened-scheduler target g limit fits rules in
+      let o = (own_opens source f limit fits rules e).scheduler in
+      let u = (chip-opens source f limit fits rules e target g).scheduler in
       let x_passes = own_passes source f limit fits rules e in
       let y_passes = chip_passes source f limit fits rules e target g m E in
       let start : Scheduler Packet = with (opened S limit) (fresh rules) in
@@ -224,7 +223,7 @@ demand_3 =
       alike = λ source target m limit rules f g E low high. alike source target m limit rules f g E (limit_fits limit low high);
       opens = λ source target limit rules f g low high e.
           let fits = limit_fits limit low high in
-          (own_opens source f limit fits rules e, chip-opens source f limit fits rules e target g);
+          ((own_opens source f limit fits rules e).number, (chip-opens source f limit fits rules e target g).number);
       source_executes = execution_some SourceCall (λ t q. own_some t (request_of q));
       chip_executes = λ source m. execution_some (ChipCall source m) (λ t q. chip_some source m t (request_of q));
       searches = searches;

@@ -23,10 +23,17 @@ use Rattle.discipline_model.specs.Figure.{rule_fault, fresh}
 use Rattle.discipline_model.specs.Scheduler.{with}
 use Rattle.discipline_model.specs.declared.Rule.{Rule}
 use Rattle.tree_state.specs.Opening.{tree_fault, opened_tree}
+use Rattle.tree_state.specs.declared.Tree.{Tree}
 use Rattle.tree_state.specs.Calls.{tree_with, scheduler_of, well_formed_by, own_refusal}
 use Rattle.chip_state.specs.Opening.{chip_fault}
 use Rattle.chip_state.specs.Calls.{chip_refusal}
 use Rattle.chip_state.proofs.ChipServes.{chip_known}
+
+-- An opening that is not refused, of a tree of these bytes: its number n is 0, and t is the tree that it gives.
+pub record OpensAs (bytes : List ℕ) (limit : ℕ) (rules : List Rule) (n : ℕ) (t : Tree) : Type 0 where
+  pub number : n ≡ 0
+  pub empty : t ≡ tree_with (opened_state bytes limit) (fresh rules)
+  pub scheduler : scheduler_of t ≡ with (opened (tree bytes) limit) (fresh rules)
 
 module _ (bs : List ℕ) (f : fault 64 bs ≡ 0) (limit : ℕ) (fits : limit_fault limit ≡ 0) (rules : List Rule) where
   abbrev s : State
@@ -50,18 +57,18 @@ module _ (bs : List ℕ) (f : fault 64 bs ≡ 0) (limit : ℕ) (fits : limit_fau
   unfolding well_formed_by
   opened-kept S e = rw (opened-formed, e) refl
 
-  -- the scheduler that the opened tree stands for
-  pub opened-scheduler : scheduler_of (opened_tree bs limit rules) ≡ with (opened (tree bs) limit) (fresh rules)
-  opened-scheduler = ap (λ (q : Machine Packet). with q (fresh rules)) opened-machine
+  -- an opening with the number 0
+  as_opened : {n : ℕ} → n ≡ 0 → OpensAs bs limit rules n (opened_tree bs limit rules)
+  as_opened e = record { number = e; empty = refl; scheduler = ap (λ (q : Machine Packet). with q (fresh rules)) opened-machine }
 
 module _ (source : List ℕ) (f : fault 32 source ≡ 0) (limit : ℕ) (fits : limit_fault limit ≡ 0) (rules : List Rule)
     (e : rule_fault (tree source) rules ≡ 0) where
-  pub wide : fault 64 source ≡ 0
+  wide : fault 64 source ≡ 0
   wide = fault_wider 32 64 source (omega arith) f
 
-  pub own_opens : tree_fault source limit rules ≡ 0
+  pub own_opens : OpensAs source limit rules (tree_fault source limit rules) (opened_tree source limit rules)
   unfolding tree_fault
-  own_opens = rw (no_fault source wide limit fits rules, e) refl
+  own_opens = as_opened source wide limit fits rules (rw (no_fault source wide limit fits rules, e) refl)
 
   pub own_passes : own_refusal (opened_tree source limit rules) ≡ 0
   unfolding own_refusal
@@ -70,9 +77,9 @@ module _ (source : List ℕ) (f : fault 32 source ≡ 0) (limit : ℕ) (fits : l
       rw (opened-drawing source wide limit fits rules) (rw kept refl)
 
   module _ (target : List ℕ) (g : fault 64 target ≡ 0) where
-    pub chip-opens : chip_fault source target limit rules ≡ 0
+    pub chip-opens : OpensAs target limit rules (chip_fault source target limit rules) (opened_tree target limit rules)
     unfolding chip_fault
-    chip-opens = rw (f, no_fault target g limit fits rules, e) refl
+    chip-opens = as_opened target g limit fits rules (rw (f, no_fault target g limit fits rules, e) refl)
 
     same_bytes : bytes (opened_state target limit) ≡ target
     same_bytes =

@@ -17,6 +17,7 @@ use Rattle.queue_state.proofs.OpenedState.{opens, no_tree_ill}
 use Rattle.pair_step.proofs.InStep.{opened_in_step}
 use Rattle.pair_step.proofs.Alike.{both-numbers}
 use Rattle.pair_state.specs.Opening.{both_fault, opened_pair, OpensBoth}
+use Rattle.queue_state.specs.declared.State.{State}
 use Rattle.pair_state.specs.declared.Pair.{Pair}
 
 module _ (source target : List ℕ) (limit : ℕ) where
@@ -40,7 +41,7 @@ module _ (source target : List ℕ) (limit : ℕ) where
   unfolding both_fault
   found z = or_else_none (search_fault source target) (limit_fault limit) z
 
-  pub opens-both : (r : Result Pair Refusal) → number_of r ≡ both_fault source target limit → IfOk r (λ p. p ≡ opened_pair source target limit)
+  pub opens-both : (r : Result (Pair State) Refusal) → number_of r ≡ both_fault source target limit → IfOk r (λ p. p ≡ opened_pair source target limit)
       → OpensBoth source target limit r
   opens-both (Ok p) e f =
       let z = found (sym e) in
@@ -51,7 +52,7 @@ module _ (source target : List ℕ) (limit : ℕ) where
         refusal = e;
         drawn = rw f (opens source limit (Ok (opened_state source limit)) (sym a) refl).machine;
         chip = rw f (opens target limit (Ok (opened_state target limit)) (sym b) refl).machine;
-        map = ap (λ (p : Pair). p.map) f;
+        map = ap (λ (p : Pair State). p.map) f;
         nothing = no_tree_ill;
         in_step =
             rw f (opened_in_step source target (take (length source) (search_map source target)) g.0 g.1 (images_pass source target z.0) limit a b);

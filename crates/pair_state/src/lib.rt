@@ -9,16 +9,17 @@ ghost use Rattle.pair_state.specs.Opening.{both_fault, opened_pair};
 use queue_state::State;
 use refusal::Refusal;
 
-// The source's tree, the chip's tree, and the map of the one into the other.
+// The source's tree, the chip's tree, and the map of the one into the other. A tree is a `State` here, and one with disciplines in `chip_open`. The
+// map has 32 places whatever the source, as C gets it.
 #[derive(Clone, Copy)]
-pub struct Pair {
-    pub source: State,
-    pub chip: State,
+pub struct Pair<T> {
+    pub source: T,
+    pub chip: T,
     pub map: [u8; 32],
 }
 
 // Opens both trees, empty, with one packet limit and the least map. Tested in this order: 1 to 5 of the source, 1 to 5 of the target, 12, 17.
-pub fn open(source: &[u8], target: &[u8], limit: usize) -> Result<Pair, Refusal>
+pub fn open(source: &[u8], target: &[u8], limit: usize) -> Result<Pair<State>, Refusal>
     ensures refusal { number_of result ≡ both_fault source.now target.now limit }
     ensures pair { IfOk result (λ p. p ≡ opened_pair source.now target.now limit) }
 {

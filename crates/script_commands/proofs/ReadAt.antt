@@ -1,13 +1,14 @@
 -- What the reader reads at an offset: the end, a command that ends within the script, or refusal 20 or 21 at that offset. A property of these three
 -- is a property of every read (`read_all`).
-use Rattle.std.proofs.Common.{◌≡◌, ℕ, ◌+◌, ◌-◌, ◌≤◌, ◌<◌, List, [], ◌∷◌, length, drop, get_or, refl, sym, ap, arith, length-drop, drop-cons}
+use Rattle.std.proofs.Common.{◌≡◌, ℕ, ◌+◌, ◌-◌, ◌≤◌, ◌<◌, List, [], ◌∷◌, length, take, drop, get_or, refl, sym, ap, ◌∙◌, arith, length-drop, drop-cons}
+use Rattle.std.proofs.lemmas.List.{take_all}
 use Rattle.refusal.specs.Numbers.{number}
 use Rattle.refusal.specs.declared.Refusal.{Refusal}
 use Rattle.refusal.specs.declared.Refusal.TheVariants.{CutShort, UnknownCommand}
 use Rattle.script_commands.specs.declared.Command.{Command}
 use Rattle.script_commands.specs.declared.Read.{Read}
 use Rattle.script_commands.specs.declared.Read.TheVariants.{End, Next, Refused}
-use Rattle.script_commands.specs.Reading.{size_by, first_size, command_of, read_at, behind, next_at}
+use Rattle.script_commands.specs.Reading.{size_by, first_size, command_by, command_of, read_at, behind, next_at}
 use Rattle.script_commands.proofs.FirstByte.{by_code}
 
 module _ (script : List ℕ) (at : ℕ) where
@@ -29,6 +30,14 @@ module _ (script : List ℕ) (at : ℕ) where
       by_bytes (code ∷ rest) l command =
           by_code P at code (code ∷ rest) (λ c z h. command c z (omega (arith, l, h, z))) (λ h. refusal CutShort (omega arith) (omega (arith, l)))
           (λ e. refusal UnknownCommand (omega arith) (omega (arith, l)))
+
+  -- before the script's end what is read is what the bytes from the offset on are
+  pub read_command : (r : Read) → at < length script → r ≡ command_by (get_or script at 0) (take (length script - at) (drop at script)) at
+      → r ≡ read_at script at
+  unfolding read_at
+  read_command r h e =
+      let whole = take_all (length script - at) (drop at script) (omega (arith, length-drop at script)) in
+      e ∙ rw (whole, drop-cons script at 0 h)
 
   -- a command is at its offset, ends within the script, and has the size that its first byte says
   pub record Within (offset : ℕ) : Type 0 where

@@ -6,8 +6,8 @@ ghost use Rattle.script_commands.specs.Batches.{first_reads, after};
 use super::Read;
 use super::operands::command_by;
 
-// How many bytes a command has, by its first byte; 0 if no command begins with it.
-// The numbers are those of the table in paper 01, "Scripts for gatewalk".
+// How many bytes a command has, by its first byte; 0 if no command begins with it. An Option would be no plainer: `read_at`, which alone asks, has
+// found a command by then. The numbers are those of the table in paper 01, "Scripts for gatewalk".
 fn size_by(code: u8) -> usize
     ensures { result ≡ size_by code }
 {
@@ -48,8 +48,8 @@ pub(crate) fn batch_at(script: &[u8], at: usize) -> ([Read; 256], usize)
 {
     let mut reads = [Read::End; 256];
     let mut next = at;
-    for i in 0..256 {
-        (reads[i], next) = read_at(script, next);
+    for read in reads.iter_mut() {
+        (*read, next) = read_at(script, next);
     }
     (reads, next)
 }

@@ -38,8 +38,8 @@ pub enum Command {
     Call(Call),
 }
 
-// What a reader reads: the end of the script; a command and its offset; or a refusal and its command's offset. It is an enum of its own because an
-// Option of a Result would have to be taken apart twice.
+// What a reader reads: the end of the script; a command and its offset; or a refusal and its command's offset. An Option of a Result would be no
+// plainer: each place that makes or matches a read would have more brackets, as in `Some(Ok((command, at)))`, and no name for the end.
 #[derive(Clone, Copy)]
 pub enum Read {
     End,
@@ -47,8 +47,8 @@ pub enum Read {
     Refused(Refusal, usize),
 }
 
-// The script reader: the script, and the offset of its next command. The functions over it are thin; those of `cursor`, over the slice and the
-// number, do the work.
+// The script reader: the script, and the offset of its next command. Paper 01 names this form: a struct with the slice and a number, and few thin
+// functions over a cursor. The functions of `cursor`, over the slice and the number, do the work.
 #[derive(Clone, Copy)]
 pub struct Reader<'a> {
     pub script: &'a [u8],

@@ -108,16 +108,21 @@ module _ {source target images : List ℕ} {reads : List Read} {s₀ : State} {p
   pub stepped : (x n at : ℕ) → r ≡ Next (Calling (StepTo x n)) at → p.count < 8 → GoesOn s t (extended_by p x n) after
   stepped x n at f few = replied_on f (step_turned source target images s t p g.served x n few) refl (appends_none after)
 
--- after the loop no read is left
+-- after the loop no read is left, and all of them are commands
 pub comes : (session : Session) → Ready session → {reads : List Read} {before : Text} {i : ℕ} {s t : State} {p : Path} {after : Text}
     → length reads ≤ i
     → Going session.drawing.source.items session.drawing.target.items (take (length session.drawing.source.items) session.pair.map) reads
     session.pair.source session.path before i s t p after
     → Comes (batch_text reads session) before
     (Some (record { drawing = session.drawing; pair = record { source = s; chip = t; map = session.pair.map }; path = p })) after
-comes session ready {reads} {before} {i} l g = record {
-  text = g.text;
-  appends = g.appends;
-  ready = record { images = ready.images; served = g.served };
-  follows = λ rest. g.follows rest ∙ rw (drop_all i reads l) refl;
-}
+    × AllCommands reads
+comes session ready {reads} {before} {i} l g =
+    let left = drop_all i reads l in (
+      record {
+        text = g.text;
+        appends = g.appends;
+        ready = record { images = ready.images; served = g.served };
+        follows = λ rest. g.follows rest ∙ rw left refl;
+      },
+      g.commands (rw left tt),
+    )

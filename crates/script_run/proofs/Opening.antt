@@ -12,6 +12,7 @@ use Rattle.embedding_model.proofs.Search.{map-room}
 use Rattle.queue_push.specs.Calls.{path_of}
 use Rattle.queue_state.specs.State.{machine}
 use Rattle.pair_state.specs.Opening.{both_fault, OpensBoth}
+use Rattle.queue_state.specs.declared.State.{State}
 use Rattle.pair_state.specs.declared.Pair.{Pair}
 use Rattle.pair_state.proofs.Truncated.{both-kept, both_whole, both_few}
 use Rattle.text.specs.declared.Text.{Text}
@@ -51,7 +52,7 @@ kept-text rest s t n at = by_fault (both_fault s t n) refl
         ∙ sym (refused-text s t n at rest (suc f) (sym e) (λ z. absurd (omega arith)))
 
 -- an opening that is not refused
-module _ (s t : List ℕ) (n : ℕ) (p : Pair) (w : OpensBoth s t n (Ok p)) where
+module _ (s t : List ℕ) (n : ℕ) (p : Pair State) (w : OpensBoth s t n (Ok p)) where
   -- the map has an image for each node
   pub map-fits : length s ≤ length p.map
   map-fits = omega (arith, both_few s t n (sym w.refusal), map-room s t p.map w.map)
@@ -65,7 +66,7 @@ module _ (s t : List ℕ) (n : ℕ) (p : Pair) (w : OpensBoth s t n (Ok p)) wher
       e ∙ rw (w.map, w.drawn) refl
 
 -- 04 that opens both trees
-pub opened-comes : (d : Drawing) (at : ℕ) (p : Pair) → OpensBoth d.source.items d.target.items (limit_in d) (Ok p) → {before after : Text}
+pub opened-comes : (d : Drawing) (at : ℕ) (p : Pair State) → OpensBoth d.source.items d.target.items (limit_in d) (Ok p) → {before after : Text}
     → Appends before (map_line (take (length d.source.items) p.map)) after
     → Comes (opening_text d.source.items d.target.items (limit_in d) at) before (Some (record { drawing = d; pair = p; path = path_of [] 0 })) after
 opened-comes d at p w q =

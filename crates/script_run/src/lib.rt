@@ -18,7 +18,7 @@ ghost use Rattle.script_commands.specs.InnerBatches.{AllCommands};
 
 use pair_state::Pair;
 use queue_push::{Path, Step};
-use queue_state::Answer;
+use queue_state::{Answer, State};
 use refusal::Refusal;
 use replies::{put_reply, stops};
 use script_commands::{Call, Command, Read, reader_at};
@@ -40,7 +40,7 @@ const NO_STEPS: Path = Path {
 #[derive(Drop)]
 struct Session {
     drawing: Drawing,
-    pair: Pair,
+    pair: Pair<State>,
     path: Path,
 }
 

@@ -19,8 +19,8 @@ pub struct Drawing {
     pub limit: Option<u32>,
 }
 
-// How the setup ends: with the script; with a refusal and its command's offset; or with an 04 in turn, and its offset. It is an enum of its own, as
-// `Read` is.
+// How the setup ends: with the script; with a refusal and its command's offset; or with an 04 in turn, and its offset. As with `Read`, an Option in a
+// Result would be no plainer: `Ok(None)`, `Err((refusal, at))` and `Ok(Some(at))` do not say which is which.
 #[derive(Clone, Copy)]
 pub enum Ending {
     End,

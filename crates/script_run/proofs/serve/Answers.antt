@@ -72,7 +72,8 @@ loop-read-preserved c =
           (replied_on g (omega arith) _ refl read turned (sym w.stops-in-Pop.ensures ∙ w.if-stops-2.false) w.put_reply-in-Pop.ensures)
     ]
 
-pub returns-clause-comes : goal.returns-clause-comes
-returns-clause-comes c =
+pub returns : goal.returns
+returns c =
     let g = rw (c.as_slice-source_tree.ensures.value, c.as_slice-chip_tree.ensures.value) at c.loop-read.invariant in
-    comes c.args.session c.requires (omega arith) g
+    let all = comes c.args.session c.requires (omega arith) g in
+    record { comes = all.0; commands = all.1 }
