@@ -148,12 +148,12 @@ fn serve(session: Session, text: &mut Text<'_>, batch: [Read; 256]) -> Option<Se
                     }
                 }
                 Call::Pop => {
-                    let drawn = queue_pop::pop(source).served;
-                    let taken = queue_pop::pop(chip).served;
-                    source = drawn.state;
-                    chip = taken.state;
-                    put_reply(text, taken.answer, at);
-                    if stops(taken.answer) {
+                    let drawn = queue_pop::pop(source);
+                    let taken = queue_pop::pop(chip);
+                    source = drawn.served.state;
+                    chip = taken.served.state;
+                    put_reply(text, taken.served.answer, at);
+                    if stops(taken.served.answer) {
                         return None;
                     }
                 }
