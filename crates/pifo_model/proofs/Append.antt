@@ -6,7 +6,7 @@ use mathlib.Core.List.{List, [], ◌∷◌, ◌++◌}
 use mathlib.Core.Bool.{Bool, true, false, ◌&&◌, cond, and_assoc}
 use lib.Dec.{leb, ltb}
 use borrow.Author.Tests.{leb-true, lt-ltb, le-ltb}
-use Rattle.base.proofs.Tests.{and_parts}
+use Rattle.std.proofs.lemmas.Bool.{and_parts}
 use Rattle.pifo_model.specs.Queue.{Entry, Item, rank, item, insert, rises_from, every, occurs}
 
 module _ {P : Type 0} where

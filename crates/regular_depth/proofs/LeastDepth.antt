@@ -1,7 +1,7 @@
 -- The answers of `least_depth`, one law for each.
 use Rattle.std.proofs.Common.{◌≡◌, ℕ, ◌^◌, ◌≤◌, List, false, true, ◌&&◌, leb, cond, refl, sym, arith}
 use borrow.Author.Tests.{leb-true}
-use Rattle.base.proofs.Tests.{and_parts}
+use Rattle.std.proofs.lemmas.Bool.{and_parts}
 use Rattle.refusal.specs.Numbers.{number}
 use Rattle.refusal.specs.declared.Refusal.{Refusal}
 use Rattle.refusal.proofs.Numbers.{refused_first}

@@ -40,11 +40,6 @@ child_found bytes n (suc i) k at e f g h =
     let d : k - 1 ≡ i = omega arith in
     rw (e, d, lt-ltb i (get_or bytes n 0) h)
 
-pub start_next : (bytes : List ℕ) (n k : ℕ) → 1 ≤ k → branch_end bytes (start bytes n (k - 1)) ≡ start bytes n (k + 1 - 1)
-start_next bytes n k h =
-    let e : k + 1 - 1 ≡ suc (k - 1) = omega arith in
-    rw e
-
 pub above_test : (bytes : List ℕ) (a b end : ℕ) → a ≤ b → end ≡ branch_end bytes a → ltb b end ≡ is_above bytes a b
 unfolding is_above
 above_test bytes a b end h e = rw (le-leb a b h, e)
@@ -90,11 +85,6 @@ module _ (bytes : List ℕ) (n y : ℕ) where
 
     pub toward_next : end ≤ y → (end ≡ start bytes n (i + 1)) × (toward_from bytes n y i (k - i) ≡ toward_from bytes n y (i + 1) (k - (i + 1)))
     toward_next g = (f ∙ rw (s, add-one i), toward_test ∙ rw (le-ltb y end g))
-
-  pub toward_end : (i k : ℕ) → k ≤ i → toward_from bytes n y i (k - i) ≡ None
-  toward_end i k h =
-      let e : k - i ≡ 0 = omega arith in
-      rw e
 
 -- The child toward a node comes after its parent, and is that node or comes before it.
 above_low : (bytes : List ℕ) (a b : ℕ) → is_above bytes a b ≡ true → a ≤ b

@@ -9,9 +9,9 @@ use mathlib.Core.Bool.{cond}
 use lib.ListN.{length, take, drop, get_or, set, replicate, length-drop, length-set, length-replicate, drop_of_length-le}
 use lib.Seq.{drop-cons}
 use lib.Dec.{eqb}
-use borrow.Author.Tests.{eq-eqb, ne_eqb}
+use borrow.Author.Tests.{eq-eqb}
 use Rattle.base.specs.Sum.{sum}
-use Rattle.base.proofs.Set.{drop-set}
+use Rattle.std.proofs.lemmas.List.{drop-set}
 use Rattle.base.proofs.Sum.{sum-take}
 use Rattle.base.specs.Refusals.{or_else}
 use Rattle.topology.specs.Reader.{owing, pending, marking, fault_at, fault_from, fault}
@@ -57,9 +57,6 @@ module _ (limit : ℕ) (bytes : List ℕ) (debt : ℕ) (marks : List ℕ) (top i
   pub complete : length bytes ≤ i → debt ≡ 0 → 0 ≡ fault limit bytes
   complete h e = rw (ends h, eq-eqb debt 0 e)
 
-  pub incomplete : length bytes ≤ i → debt ≢ 0 → 1 ≡ fault limit bytes
-  incomplete h e = rw (ends h, ne_eqb debt 0 e)
-
   module _ (number : ℕ) (h : i < length bytes) (is : number ≡ fault_at limit i debt (9 - top) (get_or bytes i 0)) where
     -- the next byte's fault, or what comes after it
     rest : ℕ
@@ -100,7 +97,7 @@ module _ (limit : ℕ) (bytes : List ℕ) (debt : ℕ) (marks : List ℕ) (top i
           let marked : drop next (set marks (top - 1) (debt - 1)) ≡ marking debt (drop top marks) (get_or bytes i 0) =
           e
           ∙ ap (pending (debt - 1 + children)) (drop-set marks (top - 1) (debt - 1) (omega (arith, ok.place, p.inside, p.places)))
-          ∙ ap (λ (t : ℕ). pending (debt - 1 + children) ((debt - 1) ∷ drop t marks)) above
+          ∙ ap (λ (t : ℕ). pending (debt - 1 + children) ((debt - 1) ∷ drop t marks)) (add-one (top - 1) ∙ above)
           ∙ ap₂ (λ (x y : ℕ). pending x (y ∷ drop top marks)) owed left in
           record {
             read = omega arith;
