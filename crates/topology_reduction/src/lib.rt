@@ -16,7 +16,10 @@ pub fn next_kept(bytes: &[u8], node: usize) -> usize
     let Some(rest) = bytes.get(node..) else {
         return node;
     };
-    node + rest.iter().position(|&children| children != 1).unwrap_or(rest.len())
+    node + rest
+        .iter()
+        .position(|&children| children != 1)
+        .unwrap_or(rest.len())
 }
 
 // A list restricted to the kept nodes among the first 32 nodes. A map gives the images of the kept nodes, and the bytes themselves give the bytes
