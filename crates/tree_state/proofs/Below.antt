@@ -61,10 +61,3 @@ same_drawing s c a r w v = ap (λ (m : Machine Packet). m.topology) (v.machine w
 
 pub refused-accepted : {n h : ℕ} → ◌≡◌ {A = Answer Packet} (refused n) (accepted h) → ⊥
 refused-accepted e = clash (cc)
-
--- an answer that is not `accepted`
-pub others_apart : (x : CodeAnswer) → ((k : ℕ) → x ≡ Accepted k → ⊥) → (h : ℕ) → answer_of x ≡ accepted h → ⊥
-others_apart (Accepted k) o h e = absurd (o k refl)
-others_apart (Departed p) o h e = clash (cc)
-others_apart (Refused n) o h e = refused-accepted e
-others_apart (Full r k) o h e = clash (cc)
