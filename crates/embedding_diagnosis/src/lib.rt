@@ -144,6 +144,8 @@ pub fn why(source: &[u8], target: &[u8]) -> Diagnosis
     let Err(refusal) = least_map(source, target) else {
         return Diagnosis::Loads;
     };
+    // One `match` with the arms `Ok(_)`, `Err(Refusal::NoMap)` and `Err(refusal)` was tried: the check does not learn in the last arm that the refusal
+    // is another than `NoMap`, and the proof did not close.
     match refusal {
         Refusal::NoMap => lack_at(source, target, misfit(source, target)),
         _ => Diagnosis::Refused(refusal),
