@@ -45,8 +45,8 @@ fn leaves_needed(source: &[u8], d: usize) -> usize
     ensures { result ≡ d ^ need d (tree source.now) }
 {
     let mut leaves = ArrayVec::<usize, 32>::new();
-    for i in (0..source.len()).rev() {
-        let others = leaves.len() - usize::from(source[i]);
+    for &children in source.iter().rev() {
+        let others = leaves.len() - usize::from(children);
         let node = node_leaves(d, &leaves[others..]);
         leaves.truncate(others);
         leaves.push(node);
