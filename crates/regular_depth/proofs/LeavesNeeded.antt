@@ -128,10 +128,10 @@ last_read bytes left next b front step =
           sym (take-append_seam next (b ∷ [])) ∙ ap (take (length next)) (sym step ∙ front) ∙ take-take (length next) (length left) bytes (omega arith);
     }
 
-module _ {d : ℕ} {bytes : List ℕ} (given : (fault 32 bytes ≡ 0) × (2 ≤ d) × (d ≤ 8)) where
+module _ {d : ℕ} {bytes : List ℕ} (given : fault 32 bytes ≡ 0) (few : (2 ≤ d) × (d ≤ 8)) where
   pub stacked_none : Stacked d bytes [] (length bytes)
   stacked_none = record {
-    room = omega (arith, (within 32 bytes given.0).nodes, length_code (tree bytes), ap length (drawn 32 bytes given.0));
+    room = omega (arith, (within 32 bytes given).nodes, length_code (tree bytes), ap length (drawn 32 bytes given));
     trees = rw (drop-length bytes);
   }
 
@@ -147,7 +147,7 @@ module _ {d : ℕ} {bytes : List ℕ} (given : (fault 32 bytes ≡ 0) × (2 ≤ 
     xs = terms d (forest (drop i bytes))
 
     ready : Ready d (b ∷ drop i bytes)
-    ready = rw bytes_from at (ready_drop d (i - 1) bytes (ready_bytes d given.1 given.2 bytes given.0))
+    ready = rw bytes_from at (ready_drop d (i - 1) bytes (ready_bytes d few.0 few.1 bytes given))
 
     children_sum : std_sum (drop others stack) ≡ sum (take b xs)
     children_sum = rw (o, s.trees) (sum_last xs b ready.0)
@@ -169,7 +169,7 @@ module _ {d : ℕ} {bytes : List ℕ} (given : (fault 32 bytes ≡ 0) × (2 ≤ 
   -- The first byte is read: one tree is drawn.
   module _ {stack : List ℕ} {i : ℕ} (s : Stacked d bytes stack i) (none : i ≡ 0) where
     whole : forest bytes ≡ fcons (tree bytes) fnil
-    whole = ap forest (sym (append-nil (code (tree bytes)) ∙ drawn 32 bytes given.0)) ∙ forest_code (tree bytes) []
+    whole = ap forest (sym (append-nil (code (tree bytes)) ∙ drawn 32 bytes given)) ∙ forest_code (tree bytes) []
 
     pub stacked_end : stack ≡ d ^ need d (tree bytes) ∷ []
     stacked_end = s.trees ∙ rw none (ap (λ (ts : Forest). reverse (terms d ts)) whole)
