@@ -1,6 +1,6 @@
 -- The discipline by which a node acts: a passed node acts by arrival (`acts_passed`), a kept node by its own rule (`acts_kept`). A
 -- number names the weighted one exactly if it acts as weighted (`same_weighted`).
-use Rattle.std.proofs.Common.{◌≡◌, ◌≢◌, refl, ℕ, zero, suc, ◌≤◌, arith, Bool, true, false, cond, eqb}
+use Rattle.std.proofs.Common.{◌≡◌, ◌≢◌, refl, ℕ, Bool, true, false, cond, eqb}
 use borrow.Author.Tests.{eq-eqb, ne_eqb}
 use Rattle.discipline_model.specs.Figure.{arrival, strict, weighted, number, discipline_of, acts_by}
 use Rattle.discipline_model.specs.declared.Discipline.TheVariants.{Arrival, Strict, Weighted}

@@ -1,15 +1,13 @@
 -- States as plain numbers: the numbers written from a state stand for that state.
 use mathlib.Core.Path.{◌≡◌, refl, sym, ap, ◌∙◌}
-use mathlib.Core.Logic.{◌≢◌}
-use Prim.Native.Nat.{ℕ, zero, suc}
+use Prim.Native.Nat.{ℕ}
 use mathlib.Core.List.{List, [], ◌∷◌, map}
 use Rattle.queue_state.specs.declared.Item.{Item}
 use Rattle.queue_state.specs.declared.Item.TheVariants.{Child, Packet}
 use Rattle.queue_state.specs.declared.Entry.{Entry}
 use Rattle.queue_state.specs.declared.State.{State}
-use Rattle.exports_plain_state.specs.declared.PlainEntry.{PlainEntry}
 use Rattle.exports_plain_state.specs.declared.PlainState.{PlainState}
-use Rattle.exports_plain_state.specs.Plain.{item_from, entry_of, state_of, plain_item, plain_entry, plain_of, Written}
+use Rattle.exports_plain_state.specs.Plain.{entry_of, state_of, plain_item, plain_entry, plain_of, Written}
 
 item_back : (r : ℕ) (x : Item) → entry_of (plain_item r x) ≡ record { rank = r; item = x }
 item_back r (Child c) = refl

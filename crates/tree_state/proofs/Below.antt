@@ -12,9 +12,7 @@ use Rattle.pifo_model.specs.Queue.{Rank}
 use Rattle.pifo_model.specs.Tree.{Step, path_fault, PTree, pop, held}
 use Rattle.pifo_model.specs.Machine.{Machine, Call, pushing, popping, Answer, accepted, refused, room, serve, serve_room, serve_path, serve_pop}
 use Rattle.queue_state.specs.State.{Packet, bytes, machine, well_formed}
-use Rattle.queue_state.specs.Calls.{answer_of, Serves}
-use Rattle.queue_state.specs.declared.Answer.{Answer as CodeAnswer}
-use Rattle.queue_state.specs.declared.Answer.TheVariants.{Accepted, Departed, Refused, Full}
+use Rattle.queue_state.specs.Calls.{Serves}
 use Rattle.queue_state.specs.declared.State.{State}
 use Rattle.discipline_model.specs.declared.Disciplines.{Disciplines}
 use Rattle.tree_state.proofs.Schedules.{Below, learnt}
