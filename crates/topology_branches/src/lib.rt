@@ -20,7 +20,7 @@ pub fn branch_end(bytes: &[u8], node: usize) -> usize
         return node;
     }
     let mut end = node + 1;
-    // by index, since `end`, with which the index is compared, moves with the bytes
+    // By index, since it is compared with `end`, which moves: an iterator would have to number its bytes from `node`.
     for i in node..bytes.len() {
         if i == end {
             break;

@@ -19,6 +19,7 @@ use lib.Dec.{eqb}
 use borrow.Author.Tests.{eq-eqb, ne_eqb}
 use Rattle.std.specs.Cmp.{both_ways}
 use Rattle.std.proofs.lemmas.Bool.{or_right}
+use Rattle.base.proofs.Tests.{refuted}
 use Rattle.topology.specs.Tree.{Topo, size, code}
 use Rattle.topology.specs.Address.{Addr, Above, addr, subtree, child_of}
 use Rattle.topology.specs.Reader.{fault, tree}
@@ -31,10 +32,6 @@ use Rattle.topology.proofs.Lookup.{above_code, code_above, valid_size}
 use Rattle.topology.proofs.Reader.{drawn, within}
 use Rattle.topology_places.specs.Places.{counted, last_of, depth, parent, child_number, on_trunk, trunk_from}
 use Rattle.topology_places.proofs.Passes.{counted_same, counted-still, counted_next, last_is}
-
-not_true : (b : Bool) → (b ≡ true → ⊥) → b ≡ false
-not_true true f = absurd (f refl)
-not_true false f = refl
 
 -- the node before child i of node n on n's trunk: child i - 1, or n for the first child
 abbrev pub elder : Topo → ℕ → ℕ → ℕ
@@ -72,7 +69,7 @@ module _ (t : Topo) where
 
     -- no node with a number between the two lies above the node
     not_between : (a : ℕ) → p.node < a → a < k → is_above (code t) a k ≡ false
-    not_between a l g = not_true (is_above (code t) a k) (λ e. omega (arith, (above-number a g e).0))
+    not_between a l g = sym (refuted (is_above (code t) a k) (λ e. omega (arith, (above-number a g e).0)))
 
     parent_code : parent (code t) k ≡ p.node
     unfolding parent
