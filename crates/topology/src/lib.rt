@@ -3,7 +3,7 @@
 // `read` is the topology reader of paper 01.
 #![tactic(auto)]
 
-ghost use Rattle.std.specs.Prelude.{◌≡◌, ◌≤◌, ◌<◌, length, drop};
+ghost use Rattle.std.specs.Prelude.{◌≡◌, ◌≤◌, ◌<◌, drop};
 ghost use Rattle.refusal.specs.Numbers.{number_of};
 ghost use Rattle.topology.specs.Reader.{fault, fault_at, pending};
 
@@ -24,7 +24,7 @@ pub struct Child {
 // The first index from `top` on whose mark is less than the debt, so that its branch is not complete; or 9.
 // It answers 9, the end of the marks, and no `Option`: `read` would turn `None` into 9 again.
 fn first_pending(marks: &[usize; 9], top: usize, debt: usize) -> usize
-    requires { (length marks.now ≡ 9) × (top ≤ 9) }
+    requires { top ≤ 9 }
     ensures { (result ≤ 9) × (drop result marks.now ≡ pending debt (drop top marks.now)) }
 {
     top + marks[top..]

@@ -13,7 +13,7 @@ returns c =
     let top = c.args.top in
     let marks = c.args.marks.now in
     let rest = drop top marks in
-    let long : length rest ≡ 9 - top = omega (arith, length-drop top marks, c.requires.0) in
+    let long : length rest ≡ 9 - top = omega (arith, length-drop top marks, c.told-marks) in
     let first = index_from_first (met debt) (λ m. m < debt) (λ m. debt ≤ m) refl (λ m ms l. rw (lt-ltb m debt l)) (λ m ms l. rw (le-ltb m debt l)) rest
     _ (IsFirst-from_position c.position.new.self _ c.position.result (λ m. m < debt) (λ m. debt ≤ m) c.position.ensures.ran (YieldsList-from_slice rest (c.iter.ensures.rest ∙ take_all (9 - top) rest (omega (arith, long))))
     (λ x q k. search (rules, tests)) (λ x q k. search (rules, tests))) in
