@@ -6,11 +6,11 @@
 // The source and the target are two parameters, as `why` has them and `least_map` takes them, and most functions use one of the two.
 #![tactic(auto)]
 
-ghost use Rattle.std.specs.Prelude.{◌≡◌, get_or};
+ghost use Rattle.std.specs.Prelude.{◌≡◌};
 ghost use Rattle.topology.specs.Branch.{branch_part};
 ghost use Rattle.embedding_diagnosis.specs.Misfit.{is_kept, kept_above, may_go, fits_at, fits_nowhere};
 ghost use Rattle.embedding_diagnosis.specs.Misfit.{misfit as misfit_misfit};
-ghost use Rattle.embedding_diagnosis.specs.Diagnosis.{leaves, leaves_under, most_leaves, lack_at, diagnosis};
+ghost use Rattle.embedding_diagnosis.specs.Diagnosis.{leaves, most_leaves, lack_at, diagnosis};
 ghost use Rattle.embedding_diagnosis.specs.Diagnosis.{deepest as diagnosis_deepest};
 
 use embedding_least::least_map;

@@ -21,7 +21,7 @@
 // The tables are flat arrays, since the laws in embedding_program are stated of these (`best_by`, `cell` in specs/InnerTables).
 #![tactic(auto)]
 
-ghost use Rattle.std.specs.Prelude.{◌≡◌, Some, ◌≤◌, ◌<◌, ◌*◌, ◌+◌, ◌-◌, ℕ, min, ◌≢◌, [], ◌∷◌, length, get_or, take};
+ghost use Rattle.std.specs.Prelude.{◌≡◌, Some, ◌≤◌, ◌<◌, ◌*◌, ◌+◌, ◌-◌, ℕ, min, ◌≢◌, [], ◌∷◌, length, get_or};
 ghost use Rattle.topology.specs.Reader.{tree};
 ghost use Rattle.topology.specs.InnerEnds.{Ends};
 ghost use Rattle.embedding_model.specs.FirstLeaf.{first_leaf};

@@ -3,7 +3,7 @@
 // `read` is the topology reader of paper 01.
 #![tactic(auto)]
 
-ghost use Rattle.std.specs.Prelude.{◌≡◌, ◌≤◌, ◌<◌, drop};
+ghost use Rattle.std.specs.Prelude.{◌≡◌, ◌≤◌, drop};
 ghost use Rattle.refusal.specs.Numbers.{number_of};
 ghost use Rattle.topology.specs.Reader.{fault, fault_at, pending};
 

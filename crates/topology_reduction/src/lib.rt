@@ -1,7 +1,7 @@
 // The kept nodes of a drawing (paper 02, 2.2). An inner node with one child is passed over, so a node is kept if its byte is not 1.
 #![tactic(auto)]
 
-ghost use Rattle.std.specs.Prelude.{◌≡◌, length, take};
+ghost use Rattle.std.specs.Prelude.{◌≡◌, take};
 ghost use Rattle.topology_reduction.specs.Reduced.{next_kept, restricted, spread, in32};
 
 use arrayvec::ArrayVec;
