@@ -1,6 +1,5 @@
 pub mod Tests
 pub mod Refusals
-pub mod Map
 pub mod Last
 pub mod Part
 pub mod Permutation
@@ -8,6 +7,5 @@ pub mod Prefix
 pub mod Slice
 pub mod Replicate
 pub mod Tabulate
-pub mod Set
 pub mod Sum
 pub mod Chains

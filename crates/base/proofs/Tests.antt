@@ -4,7 +4,8 @@ use Prim.Native.Nat.{ℕ, zero, suc, ◌≤◌, ◌<◌}
 use native.Mathlib.Nat.{not-suc-le-zero}
 use native.Mathlib.Decide.{dec_lt}
 use native.Mathlib.Omega.{arith}
-use mathlib.Core.Bool.{Bool, true, false, false≢true, ◌&&◌}
+use mathlib.Core.Bool.{Bool, true, false, ◌&&◌}
+use Rattle.std.proofs.lemmas.Bool.{and_parts}
 use Rattle.base.specs.Tests.{all}
 
 -- Two constructors are different because their equality would make 0 and 1 equal: `clash (cc)`.
@@ -16,11 +17,7 @@ pub refuted : (b : Bool) → (b ≡ true → ⊥) → false ≡ b
 refuted true h = absurd (h refl)
 refuted false h = refl
 
--- `a && b` holds exactly where both hold
-pub and_parts : (a b : Bool) → a && b ≡ true → (a ≡ true) × (b ≡ true)
-and_parts true b e = (refl, e)
-and_parts false b e = absurd (false≢true e)
-
+-- `a && b` holds where both hold; the converse is `and_parts` of std
 pub and_both : {a b : Bool} → a ≡ true → b ≡ true → a && b ≡ true
 and_both p q = rw (p, q)
 

@@ -1,7 +1,6 @@
--- The discipline by which a node acts: a passed node acts by arrival (`acts_passed`), a kept node by its own rule (`acts_kept`). A number
--- that names a discipline is that discipline's (`same_number`), and any number names the weighted one exactly if it acts as weighted
--- (`same_weighted`).
-use Rattle.std.proofs.Common.{◌≡◌, ◌≢◌, refl, ℕ, zero, suc, ◌≤◌, arith, Bool, true, false, cond, eqb}
+-- The discipline by which a node acts: a passed node acts by arrival (`acts_passed`), a kept node by its own rule (`acts_kept`). A
+-- number names the weighted one exactly if it acts as weighted (`same_weighted`).
+use Rattle.std.proofs.Common.{◌≡◌, ◌≢◌, refl, ℕ, Bool, true, false, cond, eqb}
 use borrow.Author.Tests.{eq-eqb, ne_eqb}
 use Rattle.discipline_model.specs.Figure.{arrival, strict, weighted, number, discipline_of, acts_by}
 use Rattle.discipline_model.specs.declared.Discipline.TheVariants.{Arrival, Strict, Weighted}
@@ -12,12 +11,6 @@ module _ (children k : ℕ) where
 
   pub acts_kept : children ≢ 1 → acts_by children k ≡ k
   acts_kept e = rw (ne_eqb children 1 e)
-
-pub same_number : (k : ℕ) → k ≤ weighted → number (discipline_of k) ≡ k
-same_number zero h = refl
-same_number (suc zero) h = refl
-same_number (suc (suc zero)) h = refl
-same_number (suc (suc (suc k))) h = absurd (omega arith)
 
 pub same_weighted : (k : ℕ) → eqb (number (discipline_of k)) weighted ≡ eqb k weighted
 same_weighted k = by_tests (eqb k weighted) (eqb k strict)

@@ -20,7 +20,8 @@ use Rattle.topology_reduction.specs.Reduced.{reduced}
 use Rattle.topology_reduction.specs.InnerNodes.{place}
 use Rattle.topology_reduction.proofs.Reduced.{place_lt, place_next, place_order}
 use Rattle.topology_places.specs.Places.{counted, depth}
-use Rattle.topology_places.proofs.Addresses.{same_answer, depth_code}
+use Rattle.std.specs.Cmp.{both_ways}
+use Rattle.topology_places.proofs.Addresses.{depth_code}
 use Rattle.embedding_diagnosis.specs.Misfit.{is_kept, kept_above}
 
 module _ (S : Topo) (s : ℕ) (h : s < size S) (k : Kept S s) where
@@ -29,7 +30,7 @@ module _ (S : Topo) (s : ℕ) (h : s < size S) (k : Kept S s) where
       → is_above (code (reduced S)) (place (code S) n) (place (code S) s) ≡ is_above (code S) n s
   above_place n g q =
       let order = place_order S n s g h q k in
-      same_answer (is_above (code (reduced S)) (place (code S) n) (place (code S) s)) (is_above (code S) n s)
+      both_ways (is_above (code (reduced S)) (place (code S) n) (place (code S) s)) (is_above (code S) n s)
       (λ e. above_code S n s g h (order.1 (code_above (reduced S) (place (code S) n) (place (code S) s) (place_lt S n g) e)))
       (λ e. above_code (reduced S) (place (code S) n) (place (code S) s) (place_lt S n g) (place_lt S s h) (order.0 (code_above S n s g e)))
 

@@ -14,7 +14,8 @@ use mathlib.Core.Bool.{Bool, true, false, false≢true, not, ◌&&◌, cond}
 use lib.ListN.{length, get_or}
 use lib.Dec.{eqb, leb}
 use borrow.Author.Tests.{eq-eqb, ne_eqb, eqb-true, eqb-false, leb-true, le-leb, not-true}
-use Rattle.base.proofs.Tests.{and_parts, and_both, all_below, below_all}
+use Rattle.std.proofs.lemmas.Bool.{and_parts}
+use Rattle.base.proofs.Tests.{and_both, all_below, below_all}
 use Rattle.topology.specs.Tree.{Topo, fnil, fcons, width, size, code}
 use Rattle.topology.specs.Tree.{node as tree_node}
 use Rattle.topology.specs.Address.{Addr, addr, num, sub, subtree}

@@ -1,8 +1,8 @@
 -- What the code's chains count and compare, and what it learns of a branch and of a search.
 use Rattle.std.proofs.Common.{◌≡◌, ◌≢◌, refl, sym, ap, ◌∙◌, ℕ, zero, suc, ◌+◌, ◌-◌, ◌≤◌, max, arith, add-one}
-use Rattle.std.proofs.Common.{List, [], ◌∷◌, Bool, true, false, cond, eqb, length, get_or, take, drop, map, map-id}
+use Rattle.std.proofs.Common.{List, [], ◌∷◌, Bool, true, false, cond, length, get_or, take, drop, map, map-id}
 use Rattle.std.specs.Prelude.{count_by, Result, Ok, Err, IfOk}
-use Rattle.std.specs.Result.{result_unwrap_or, is_ok}
+use Rattle.std.specs.Result.{result_unwrap_or}
 use Rattle.std.specs.Option.{unwrap_or}
 use Rattle.std.specs.Ordering.{nat_cmp, max_by_ordering}
 use Rattle.std.specs.List.{range_with_len, fold, filter, reduce}
@@ -10,7 +10,6 @@ use Rattle.std.proofs.Math.Seq.{take_all}
 use Rattle.std.proofs.lemmas.List.Folds.{max_of_map}
 use Rattle.std.proofs.lemmas.List.FromFn.{filter_of_map_range_with_len_more}
 use Rattle.std.proofs.lemmas.List.Sums.{fold-append, count_by_more_no, count_by_more_yes}
-use borrow.Author.Tests.{ne_eqb}
 use denote.Ref.{Bor}
 use Rattle.refusal.specs.Numbers.{number, number_of}
 use Rattle.refusal.specs.declared.Refusal.{Refusal}
@@ -30,11 +29,6 @@ use Rattle.embedding_model.specs.Least.{least_of, none_fault, search_fault}
 use Rattle.embedding_diagnosis.specs.Misfit.{misfit}
 use Rattle.embedding_diagnosis.specs.Diagnosis.{greatest, lack_at, diagnosis_by, diagnosis}
 use Rattle.embedding_diagnosis.specs.declared.Diagnosis.TheVariants.{Loads, Refused}
-
--- a result is `Ok` exactly if its number is 0
-pub ok_exactly : {A : Type 0} (r : Result A Refusal) (n : ℕ) → number_of r ≡ n → is_ok r ≡ eqb n 0
-ok_exactly (Ok a) n e = rw (← e) refl
-ok_exactly (Err x) n e = rw (← e, ne_eqb (number x) 0 (number-ne0 x)) refl
 
 -- the branch under a node, or no bytes
 pub part_is : (bytes : List ℕ) (node : ℕ) (r : Result (Bor (List ℕ)) Refusal) (no_bytes : Bor (List ℕ)) → number_of r ≡ branch_fault bytes node

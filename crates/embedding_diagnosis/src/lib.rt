@@ -6,11 +6,11 @@
 // The source and the target are two parameters, as `why` has them and `least_map` takes them, and most functions use one of the two.
 #![tactic(auto)]
 
-ghost use Rattle.std.specs.Prelude.{◌≡◌, get_or};
+ghost use Rattle.std.specs.Prelude.{◌≡◌};
 ghost use Rattle.topology.specs.Branch.{branch_part};
 ghost use Rattle.embedding_diagnosis.specs.Misfit.{is_kept, kept_above, may_go, fits_at, fits_nowhere};
 ghost use Rattle.embedding_diagnosis.specs.Misfit.{misfit as misfit_misfit};
-ghost use Rattle.embedding_diagnosis.specs.Diagnosis.{leaves, leaves_under, most_leaves, lack_at, diagnosis};
+ghost use Rattle.embedding_diagnosis.specs.Diagnosis.{leaves, most_leaves, lack_at, diagnosis};
 ghost use Rattle.embedding_diagnosis.specs.Diagnosis.{deepest as diagnosis_deepest};
 
 use embedding_least::least_map;
@@ -144,6 +144,8 @@ pub fn why(source: &[u8], target: &[u8]) -> Diagnosis
     let Err(refusal) = least_map(source, target) else {
         return Diagnosis::Loads;
     };
+    // One `match` with the arms `Ok(_)`, `Err(Refusal::NoMap)` and `Err(refusal)` was tried: the check does not learn in the last arm that the refusal
+    // is another than `NoMap`, and the proof did not close.
     match refusal {
         Refusal::NoMap => lack_at(source, target, misfit(source, target)),
         _ => Diagnosis::Refused(refusal),

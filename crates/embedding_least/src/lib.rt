@@ -21,7 +21,7 @@
 // The tables are flat arrays, since the laws in embedding_program are stated of these (`best_by`, `cell` in specs/InnerTables).
 #![tactic(auto)]
 
-ghost use Rattle.std.specs.Prelude.{◌≡◌, Some, ◌≤◌, ◌<◌, ◌*◌, ◌+◌, ◌-◌, ℕ, min, ◌≢◌, [], ◌∷◌, length, get_or, take};
+ghost use Rattle.std.specs.Prelude.{◌≡◌, Some, ◌≤◌, ◌<◌, ◌*◌, ◌+◌, ◌-◌, ℕ, min, ◌≢◌, [], ◌∷◌, length, get_or};
 ghost use Rattle.topology.specs.Reader.{tree};
 ghost use Rattle.topology.specs.InnerEnds.{Ends};
 ghost use Rattle.embedding_model.specs.FirstLeaf.{first_leaf};
@@ -41,13 +41,15 @@ use topology_reduction::{restrict, spread_out};
 // and `None` is less than any list.
 const NONE: u64 = 281474976710656;
 
-// The children of a source node by place: the last child has place 0, the first the highest.
+// The children of a source node by place: the last child has place 0, the first the highest. They fill an array from the place of the first, which is
+// met first, and callers cut the array to the node's children: an `ArrayVec` would be filled from the last child, which is met last.
 fn kids_of(source: &[u8], ends: &[usize; 64], node: usize) -> [usize; 8]
     requires { TreeBytes 32 source.now × Ends source.now ends.now × (node < length source.now) }
     ensures { KidsOf (tree source.now) node result }
 {
     let mut kids = [0usize; 8];
     let mut next = node + 1;
+    // by place, and so by index: the children are met from the highest place down
     for place in (0..usize::from(source[node])).rev() {
         kids[place] = next;
         next = ends[next];
@@ -110,34 +112,34 @@ impl Scan {
     }
 
     // Copies the next row to row `p`: no child is placed at p.
-    fn copy_row(&mut self, p: usize, sets: usize)
-        requires { (p < 64) × (sets ≤ 256) }
-        ensures { RowCopied self.old.rows p sets self.new.rows }
+    fn copy_row(&mut self, family: &Family, p: usize)
+        requires { p < 64 }
+        ensures { RowCopied self.old.rows p (power (length family.now.kids.now)) self.new.rows }
     {
         // A loop: copy_within makes the whole search slower.
-        for set in 0..sets {
+        for set in 0..family.sets() {
             self.rows[p * 256 + set] = self.rows[(p + 1) * 256 + set];
         }
     }
 
     // Fills in the row where the branch ends: only the empty set is placed there.
-    fn last_row(&mut self, hi: usize, sets: usize)
-        requires { (hi ≤ 64) × (0 < sets) × (sets ≤ 256) }
-        ensures { LastRow hi sets self.new.rows }
+    fn last_row(&mut self, family: &Family, hi: usize)
+        requires { hi ≤ 64 }
+        ensures { LastRow hi (power (length family.now.kids.now)) self.new.rows }
     {
-        self.rows[hi * 256..hi * 256 + sets].fill(NONE);
+        self.rows[hi * 256..hi * 256 + family.sets()].fill(NONE);
         self.rows[hi * 256] = 0;
     }
 
     // The row from which a scan down from `end` begins. If the previous scan began at the same end, this one continues from its lowest row.
-    fn start_row(&mut self, end: usize, sets: usize) -> usize
-        requires { (end ≤ 64) × (0 < sets) × (sets ≤ 256) }
-        ensures { Started self.old.rows self.old.low self.old.hi end sets result self.new.rows }
+    fn start_row(&mut self, family: &Family, end: usize) -> usize
+        requires { end ≤ 64 }
+        ensures { Started self.old.rows self.old.low self.old.hi end (power (length family.now.kids.now)) result self.new.rows }
     {
         if end == self.hi {
             return self.low;
         }
-        self.last_row(end, sets);
+        self.last_row(family, end);
         end
     }
 
@@ -148,7 +150,7 @@ impl Scan {
     {
         let sets = family.sets();
         let end = family.ends[p];
-        self.copy_row(p, sets);
+        self.copy_row(family, p);
         let mut power = 1usize;
         let mut weight = 1u64;
         for &kid in family.kids {
@@ -169,15 +171,14 @@ impl Scan {
         ensures placed { PlacedBelow family.now.best.now family.now.kids.now family.now.ends.now t self.new.rows result }
         ensures down { (self.new.low ≡ t + 1) × (self.new.hi ≡ end_by family.now.ends.now t) }
     {
-        let sets = family.sets();
         let end = family.ends[t];
-        let start = self.start_row(end, sets);
+        let start = self.start_row(family, end);
         for p in (t + 1..start).rev() {
             self.fill_row(family, p);
         }
         self.low = t + 1;
         self.hi = end;
-        self.rows[(t + 1) * 256 + (sets - 1)]
+        self.rows[(t + 1) * 256 + (family.sets() - 1)]
     }
 
     // The table's entry for a source node and a target node `t` with `width` children: no images if rule 3 forbids t, and none for an inner node at a
@@ -236,6 +237,7 @@ fn fill_table(
         low: 64,
         hi: 0,
     };
+    // by index: a node's number is what `kids_of`, `reach` and the table go by
     for s in (0..source.len()).rev() {
         let kids = kids_of(source, source_ends, s);
         let family = Family {
@@ -274,7 +276,7 @@ fn read_off(source: &[u8], ends: &[usize; 64], best: &[u64; 2048]) -> [u8; 32]
 }
 
 // The first leaf of a tree, by node number; the number of bytes if none of them is 0.
-fn first_leaf(bytes: &[u8]) -> usize
+pub fn first_leaf(bytes: &[u8]) -> usize
     ensures { result ≡ first_leaf bytes.now }
 {
     bytes

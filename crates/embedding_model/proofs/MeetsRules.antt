@@ -10,7 +10,8 @@ use lib.Seq.{get_or-append_seam}
 use lib.Dec.{ltb, eqb}
 use borrow.Author.Tests.{ltb-true}
 use Rattle.base.specs.Tests.{all, same}
-use Rattle.base.proofs.Tests.{and_parts, all_below, below_all, all_cong, all_fewer}
+use Rattle.std.proofs.lemmas.Bool.{and_parts}
+use Rattle.base.proofs.Tests.{all_below, below_all, all_cong, all_fewer}
 use Rattle.topology.specs.Tree.{Topo, size, code}
 use Rattle.topology.specs.Branch.{is_above}
 use Rattle.embedding_model.specs.Rules.{image, Embeds}

@@ -12,7 +12,8 @@ use native.Mathlib.Decide.{dec_lt, ℕ_discrete}
 use native.Mathlib.Omega.{arith}
 use mathlib.Core.List.{List, [], ◌∷◌, ◌++◌, append_assoc, append-nil}
 use lib.ListN.{length, length-append}
-use Rattle.base.proofs.Last.{split_last, last_unique}
+use Rattle.std.proofs.lemmas.List.{same_from_push}
+use Rattle.base.proofs.Last.{split_last}
 use Rattle.topology.specs.Tree.{Topo, width, size}
 use Rattle.topology.specs.Address.{Addr, Above, addr, subtree, child_of}
 use Rattle.topology.proofs.Ancestry.{above_from, above_to, size_pos, subtree_end, subtree-sum}
@@ -40,12 +41,12 @@ pub siblings : (t : Topo) (n i j : ℕ) → HasChild t n i → HasChild t n j �
 siblings t n i j h g d (r, e) = by_rest r (sym (addr-child_of t n j g) ∙ e ∙ ap (λ (a : Addr). a ++ r) (addr-child_of t n i h))
   where
     by_rest : (r : Addr) → addr t n ++ (j ∷ []) ≡ (addr t n ++ (i ∷ [])) ++ r → ⊥
-    by_rest [] q = d (sym (last_unique (addr t n) (addr t n) j i (q ∙ append-nil (addr t n ++ (i ∷ [])))).1)
+    by_rest [] q = d (sym (same_from_push (addr t n) (addr t n) j i (q ∙ append-nil (addr t n ++ (i ∷ [])))).1)
     by_rest (k ∷ r) q =
         let s = split_last k r in
         let f : addr t n ++ (j ∷ []) ≡ ((addr t n ++ (i ∷ [])) ++ s.0) ++ (s.1 ∷ []) =
         q ∙ ap (λ (l : Addr). (addr t n ++ (i ∷ [])) ++ l) s.2 ∙ sym (append_assoc (addr t n ++ (i ∷ [])) s.0 (s.1 ∷ [])) in
-        let same = (last_unique (addr t n) ((addr t n ++ (i ∷ [])) ++ s.0) j s.1 f).0 in
+        let same = (same_from_push (addr t n) ((addr t n ++ (i ∷ [])) ++ s.0) j s.1 f).0 in
         omega (arith, ap length same, length-append (addr t n ++ (i ∷ [])) s.0, length-append (addr t n) (i ∷ []))
 
 -- Rule 1 follows from rule 4: of two nodes with one image, each lies at or above the other.

@@ -45,10 +45,6 @@ module _ (best kids ends : List ℕ) where
       first = get_or-replicate (length kids) 0 true false (omega arith)
 
 -- the target nodes that a source node may go to
-pub reach_other : (s n : ℕ) → (s ≡ 0 → ⊥) → n ≡ reach_by s n
-reach_other zero n d = absurd (d refl)
-reach_other (suc s) n d = refl
-
 pub reach-within : (s n : ℕ) → 0 < n → reach_by s n ≤ n
 reach-within zero n h = h
 reach-within (suc s) n h = omega arith

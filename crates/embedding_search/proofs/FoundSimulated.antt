@@ -1,12 +1,11 @@
 -- A map that the search has found meets the rules, so that the chip's tree simulates the drawing.
-use mathlib.Core.Path.{◌≡◌, sym}
+use mathlib.Core.Path.{sym}
 use Prim.Native.Nat.{ℕ}
 use mathlib.Core.List.{List}
 use Rattle.std.specs.Prelude.{Result, Ok, Err}
 use Rattle.refusal.specs.declared.Refusal.{Refusal}
 use Rattle.topology.specs.Reader.{tree}
 use Rattle.embedding_model.specs.Rules.{Passes}
-use Rattle.embedding_model.specs.Least.{search_fault}
 use Rattle.embedding_model.proofs.Search.{faultless, images_pass}
 use Rattle.embedding_least.specs.Answers.{Searches}
 use Rattle.pair_step.proofs.Alike.{both-numbers, both-alike}

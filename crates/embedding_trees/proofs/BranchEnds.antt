@@ -3,10 +3,10 @@ use mathlib.Core.Path.{◌≡◌, refl, sym, ap, ◌∙◌}
 use Prim.Native.Nat.{ℕ, zero, suc, ◌+◌, ◌≤◌, ◌<◌}
 use native.Mathlib.Nat.{not-suc-le-zero, le_of_suc-le-suc}
 use native.Mathlib.Omega.{arith}
-use native.Mathlib.Decide.{dec_lt, ℕ_discrete}
+use native.Mathlib.Decide.{dec_lt}
 use mathlib.Core.List.{List}
-use lib.ListN.{length, get_or, set, replicate, length-set, length-replicate, get_or-eq_default}
-use lib.Seq.{get_or-set_same, get_or-set_other, ext_get_or}
+use lib.ListN.{length, get_or, get_or-eq_default}
+use lib.Seq.{ext_get_or}
 use Rattle.topology.specs.Branch.{branch_end}
 use Rattle.topology.specs.InnerEnds.{Ends}
 use Rattle.topology.proofs.BranchEnd.{scan_none, end_bounds}
@@ -33,19 +33,9 @@ module _ (bytes : List ℕ) where
 
 -- ---- the table, from the last node to the first
 
-pub filled_none : (bytes : List ℕ) → FilledFrom bytes (replicate 64 0) 64
-filled_none bytes = record { places = length-replicate {A = ℕ} 64 0; at = λ n h g. absurd (omega arith) }
-
 module _ (bytes ends : List ℕ) where
   pub filled_later : (node later : ℕ) → node ≤ later → FilledFrom bytes ends node → FilledFrom bytes ends later
   filled_later node later h f = record { places = f.places; at = λ n l g. f.at n (omega arith) g }
-
-  pub filled_next : (node x : ℕ) → FilledFrom bytes ends (suc node) → node < 64 → x ≡ branch_end bytes node → FilledFrom bytes (set ends node x) node
-  filled_next node x f h e = record { places = length-set ends node x ∙ f.places; at = λ n l g. here_or_behind n l g (ℕ_discrete n node) }
-    where
-      here_or_behind : (n : ℕ) → node ≤ n → n < 64 → Dec (n ≡ node) → get_or (set ends node x) n 0 ≡ branch_end bytes n
-      here_or_behind n l g (yes q) = rw q (get_or-set_same ends node x 0 (omega (arith, f.places)) ∙ e)
-      here_or_behind n l g (no q) = get_or-set_other ends node n x 0 q ∙ f.at n (omega arith) g
 
   pub filled_all : FilledFrom bytes ends 0 → ends ≡ branch_ends bytes
   unfolding branch_ends

@@ -1,26 +1,13 @@
--- States as plain numbers: a state from its fields, and that the numbers written from a state stand for that state.
+-- States as plain numbers: the numbers written from a state stand for that state.
 use mathlib.Core.Path.{◌≡◌, refl, sym, ap, ◌∙◌}
-use mathlib.Core.Logic.{◌≢◌}
-use Prim.Native.Nat.{ℕ, zero, suc}
+use Prim.Native.Nat.{ℕ}
 use mathlib.Core.List.{List, [], ◌∷◌, map}
 use Rattle.queue_state.specs.declared.Item.{Item}
 use Rattle.queue_state.specs.declared.Item.TheVariants.{Child, Packet}
 use Rattle.queue_state.specs.declared.Entry.{Entry}
 use Rattle.queue_state.specs.declared.State.{State}
-use Rattle.exports_plain_state.specs.declared.PlainEntry.{PlainEntry}
 use Rattle.exports_plain_state.specs.declared.PlainState.{PlainState}
-use Rattle.exports_plain_state.specs.Plain.{item_from, entry_of, state_of, plain_item, plain_entry, plain_of, Written}
-
-item_packet : (t c p : ℕ) → t ≢ 0 → Packet p ≡ item_from t c p
-item_packet zero c p e = absurd (e refl)
-item_packet (suc t) c p e = refl
-
-module _ (e : PlainEntry) where
-  pub entry-child : e.tag ≡ 0 → record { rank = e.rank; item = Child e.child } ≡ entry_of e
-  entry-child h = ap (λ (t : ℕ). record { rank = e.rank; item = item_from t e.child e.packet }) (sym h)
-
-  pub entry_packet : e.tag ≢ 0 → record { rank = e.rank; item = Packet e.packet } ≡ entry_of e
-  entry_packet h = ap (λ (x : Item). record { rank = e.rank; item = x }) (item_packet e.tag e.child e.packet h)
+use Rattle.exports_plain_state.specs.Plain.{entry_of, state_of, plain_item, plain_entry, plain_of, Written}
 
 item_back : (r : ℕ) (x : Item) → entry_of (plain_item r x) ≡ record { rank = r; item = x }
 item_back r (Child c) = refl
@@ -34,21 +21,9 @@ entries_back (e ∷ es) =
     cc
 
 -- a state with given entries and all other fields from plain numbers
-abbrev pub state_with : PlainState → List Entry → State
+abbrev state_with : PlainState → List Entry → State
 state_with p es =
     record { frame = p.frame; refused = p.refused; lengths = p.lengths; entries = es }
-
-abbrev pub plain_with : State → List PlainEntry → PlainState
-plain_with s es =
-    record { frame = s.frame; refused = s.refused; lengths = s.lengths; entries = es }
-
-pub state_from : (p : PlainState) (es : List Entry) → es ≡ map entry_of p.entries → state_with p es ≡ state_of p
-unfolding state_of
-state_from p es e = ap (state_with p) e
-
-pub plain_from : (s : State) (es : List PlainEntry) → es ≡ map plain_entry s.entries → plain_with s es ≡ plain_of s
-unfolding plain_of
-plain_from s es e = ap (plain_with s) e
 
 -- the state that written numbers stand for
 pub state_back : (p : PlainState) (s : State) → p ≡ plain_of s → state_of p ≡ s

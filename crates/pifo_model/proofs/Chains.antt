@@ -6,7 +6,7 @@ use native.Mathlib.Omega.{arith}
 use mathlib.Core.List.{List, [], ◌∷◌, ◌++◌, append-nil}
 use mathlib.Core.Bool.{true}
 use lib.ListN.{length}
-use Rattle.base.proofs.Tests.{and_parts}
+use Rattle.std.proofs.lemmas.Bool.{and_parts}
 use Rattle.topology.specs.Tree.{Topo, node, count, width}
 use Rattle.topology.specs.Address.{Addr, child, nth, In, sub}
 use Rattle.pifo_model.specs.Queue.{Entry, allowed, every}

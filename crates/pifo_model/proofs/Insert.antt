@@ -9,7 +9,8 @@ use mathlib.Core.Bool.{Bool, true, false, ◌&&◌, cond}
 use lib.Seq.{append_snoc}
 use lib.Dec.{leb, ltb}
 use borrow.Author.Tests.{leb-true, ltb-true, ltb-false, le-leb, le-ltb}
-use Rattle.base.proofs.Tests.{and_parts, and_both, and_swap}
+use Rattle.std.proofs.lemmas.Bool.{and_parts}
+use Rattle.base.proofs.Tests.{and_both, and_swap}
 use Rattle.pifo_model.specs.Queue.{Entry, Item, rank, item, insert, rises_from, every, is_of, occurs}
 
 module _ {P : Type 0} where

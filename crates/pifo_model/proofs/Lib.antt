@@ -10,7 +10,6 @@ pub mod Queues
 pub mod Chains
 pub mod Answers
 pub mod Drained
-pub mod Append
 pub mod Numbered
 pub mod Way
 pub mod Local

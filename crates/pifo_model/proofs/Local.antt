@@ -9,7 +9,8 @@ use mathlib.Core.Bool.{true, ◌&&◌}
 use lib.ListN.{length}
 use lib.Dec.{eqb}
 use borrow.Author.Tests.{eqb-true, eq-eqb}
-use Rattle.base.proofs.Tests.{and_parts, and_both}
+use Rattle.std.proofs.lemmas.Bool.{and_parts}
+use Rattle.base.proofs.Tests.{and_both}
 use Rattle.topology.specs.Tree.{Topo, Forest, node, fnil, fcons, count, kids, width, size, sizes}
 use Rattle.topology.specs.Address.{Addr, nth, ahead, sub, subtree, child_of}
 use Rattle.topology.proofs.Numbering.{ahead_lt, addr-child, addr_root, node_ind}

@@ -12,7 +12,8 @@ use mathlib.Core.Option.{Option, none, some}
 use lib.Dec.{leb}
 use borrow.Author.Tests.{leb-true}
 use Rattle.base.proofs.Permutation.{length_perm, perm_front}
-use Rattle.base.proofs.Tests.{clash, and_parts, and_both}
+use Rattle.std.proofs.lemmas.Bool.{and_parts}
+use Rattle.base.proofs.Tests.{clash, and_both}
 use Rattle.topology.specs.Tree.{node, count}
 use Rattle.pifo_model.specs.Queue.{Entry, child, packet, entry, allowed, every, occurs}
 use Rattle.pifo_model.specs.Tree.{PTree, PForest, pnode, pnil, pcons, shape, shapes, pop, pop_at, with_queue, with_later, with-elder, packets, packets_in, held, counted, well, wells}

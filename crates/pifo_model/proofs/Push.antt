@@ -11,7 +11,8 @@ use mathlib.Core.Bool.{Bool, true, false, cond}
 use lib.Dec.{ltb}
 use borrow.Author.Tests.{le-leb}
 use Rattle.base.proofs.Permutation.{length_perm, perm_front}
-use Rattle.base.proofs.Tests.{and_parts, and_both}
+use Rattle.std.proofs.lemmas.Bool.{and_parts}
+use Rattle.base.proofs.Tests.{and_both}
 use Rattle.topology.specs.Tree.{node, count}
 use Rattle.topology.specs.Address.{nth}
 use Rattle.pifo_model.specs.Queue.{Entry, child, packet, entry, insert, allowed, every}

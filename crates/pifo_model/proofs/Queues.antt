@@ -10,7 +10,7 @@ use mathlib.Core.Option.{Option, none, some}
 use lib.ListN.{length}
 use lib.Dec.{eqb, eqb-zero-suc, eqb-suc-zero, eqb-suc-suc}
 use borrow.Author.Tests.{eq-eqb}
-use Rattle.base.proofs.Tests.{and_parts}
+use Rattle.std.proofs.lemmas.Bool.{and_parts}
 use Rattle.topology.specs.Tree.{Topo, Forest, node, fnil, fcons, count}
 use Rattle.topology.specs.Address.{Addr, nth, In}
 use Rattle.pifo_model.specs.Queue.{Entry, child, packet, entry, rises_from, insert_some}

@@ -5,7 +5,7 @@ use native.Mathlib.Nat.{mul-le-mul_left, mul-le-mul_right, mul-add, suc-mul, zer
 use native.Mathlib.Omega.{arith}
 use mathlib.Core.Bool.{true}
 use lib.ListN.{length, length-append}
-use Rattle.base.proofs.Tests.{and_parts}
+use Rattle.std.proofs.lemmas.Bool.{and_parts}
 use Rattle.topology.specs.Tree.{Topo, Forest, node, fnil, fcons, size, sizes, height, heights}
 use Rattle.pifo_model.specs.Tree.{PTree, PForest, pnode, pnil, pcons, shape, shapes, packets, packets_in, packets_of, leaf_queue, held, well, wells}
 use Rattle.pifo_model.proofs.Well.{well_parts, length-held}

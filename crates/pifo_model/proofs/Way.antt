@@ -9,7 +9,7 @@ use mathlib.Core.Bool.{Bool, true, false, cond}
 use mathlib.Core.Option.{Option, none, some}
 use lib.Dec.{eqb, ltb, eqb-suc-suc}
 use borrow.Author.Tests.{ltb-true, eqb-true, eq-eqb, ne_eqb}
-use Rattle.base.proofs.Tests.{and_parts}
+use Rattle.std.proofs.lemmas.Bool.{and_parts}
 use Rattle.topology.specs.Tree.{Topo, Forest, node, fnil, fcons, count, size, sizes}
 use Rattle.topology.specs.Address.{Addr, nth, In, ahead, addr}
 use Rattle.topology.proofs.Numbering.{place, addr-child, addr_root}

@@ -10,7 +10,8 @@ use mathlib.Core.Bool.{Bool, true, ◌&&◌, cond}
 use lib.ListN.{length, length-append}
 use lib.Dec.{leb, eqb}
 use borrow.Author.Tests.{leb-true, eqb-true, eq-eqb, ne_eqb}
-use Rattle.base.proofs.Tests.{clash, and_parts, and_both}
+use Rattle.std.proofs.lemmas.Bool.{and_parts}
+use Rattle.base.proofs.Tests.{clash, and_both}
 use Rattle.topology.specs.Tree.{Topo, Forest, node, fnil, fcons, count}
 use Rattle.pifo_model.specs.Queue.{Entry, child, packet, entry, rises_from, allowed, every, occurs}
 use Rattle.pifo_model.specs.Tree.{PTree, PForest, pnode, pnil, pcons, shape, shapes, empty, empties, packets_of, leaf_queue, packets, packets_in, held, counted, well, wells}

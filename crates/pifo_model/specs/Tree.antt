@@ -1,5 +1,5 @@
 -- PIFO trees: Definitions 3.3 to 3.6 and 3.8 of document 001, over any type of packets.
-use Rattle.std.specs.Prelude.{ℕ, zero, suc, ◌+◌, List, [], ◌∷◌, ◌++◌, Bool, true, ◌&&◌, cond, length, eqb, leb}
+use Rattle.std.specs.Prelude.{ℕ, zero, suc, List, [], ◌∷◌, ◌++◌, Bool, true, ◌&&◌, cond, length, eqb, leb}
 use Rattle.std.proofs.Math.Option.{Option, none, some}
 use Rattle.topology.specs.Tree.{Topo, Forest, node, fnil, fcons, count, width}
 use Rattle.topology.specs.Address.{child as child_tree}

@@ -3,7 +3,7 @@ use Rattle.std.proofs.Common.{◌≡◌, ℕ, zero, suc, ◌≤◌, List, Bool, 
 use Rattle.std.proofs.Common.{refl, sym, ap, ◌∙◌, arith}
 use borrow.Author.Tests.{leb-true}
 use Rattle.base.proofs.Refusals.{or_else_none, or_else_most, cond_most}
-use Rattle.base.proofs.Tests.{and_parts}
+use Rattle.std.proofs.lemmas.Bool.{and_parts}
 use Rattle.refusal.specs.declared.Refusal.{Refusal}
 use Rattle.refusal.proofs.Numbers.{number-ne0, number-injective, numbered}
 use Rattle.topology.specs.Reader.{fault, tree}

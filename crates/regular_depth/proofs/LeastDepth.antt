@@ -1,7 +1,7 @@
 -- The answers of `least_depth`, one law for each.
 use Rattle.std.proofs.Common.{◌≡◌, ℕ, ◌^◌, ◌≤◌, List, false, true, ◌&&◌, leb, cond, refl, sym, arith}
 use borrow.Author.Tests.{leb-true}
-use Rattle.base.proofs.Tests.{and_parts}
+use Rattle.std.proofs.lemmas.Bool.{and_parts}
 use Rattle.refusal.specs.Numbers.{number}
 use Rattle.refusal.specs.declared.Refusal.{Refusal}
 use Rattle.refusal.proofs.Numbers.{refused_first}
@@ -28,12 +28,12 @@ module _ (source : List ℕ) (d : ℕ) where
       bounds = and_parts (leb 2 d) (leb d 8) degree
 
       module _ (number : ℕ) (is : number ≡ d ^ need d (tree source)) where
-        pub needed_most : (2 ≤ d) × (d ≤ 8) × (number ≤ most_leaves)
+        pub needed_most : number ≤ most_leaves
         needed_most =
             let z = leb-true 2 d bounds.0 in
             let most = leb-true d 8 bounds.1 in
             let w = within 32 source (sym drawn) in
-            (z, most, omega (arith, is, need_most d z most (tree source) w))
+            omega (arith, is, need_most d z most (tree source) w)
 
         pub answered : (0 ≡ depth_fault source d) × LeastDepth (tree source) d (enough d number)
         unfolding depth_fault

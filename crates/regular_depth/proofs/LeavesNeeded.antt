@@ -4,8 +4,8 @@
 use Rattle.std.proofs.Common.{◌≡◌, ℕ, zero, suc, ◌+◌, ◌-◌, ◌^◌, ◌≤◌, ◌<◌, List, [], ◌∷◌, ◌++◌, length, take, drop, get_or, refl, sym, ap, ◌∙◌}
 use Rattle.std.proofs.Common.{append_assoc, arith, length-append, length-take, length-drop, take-append-drop, drop-cons}
 use Rattle.std.proofs.Math.Nat.{mul-le-mul_right}
-use Rattle.std.proofs.Math.Seq.{drop-length}
-use Rattle.std.proofs.lemmas.List.{append-nil, reverse-append, length-reverse, take_at, drop_at}
+use Rattle.std.proofs.Math.Seq.{drop-length, get_or-append_seam, take-append_seam}
+use Rattle.std.proofs.lemmas.List.{append-nil, reverse-append, length-reverse, take_at, drop_at, get_or-take, take-take}
 use Rattle.std.proofs.lemmas.List.Sorted.{sum_by-IsPermutation, IsPermutation-reverse}
 use Rattle.std.proofs.lemmas.List.Recursion.{is_sum_by}
 use Rattle.std.specs.List.{sum as std_sum}
@@ -104,10 +104,34 @@ pub record Stacked (d : ℕ) (bytes stack : List ℕ) (i : ℕ) : Type 0 where
   pub room : length stack + i ≤ 32
   pub trees : stack ≡ reverse (terms d (forest (drop i bytes)))
 
-module _ {d : ℕ} {bytes : List ℕ} (given : (fault 32 bytes ≡ 0) × (2 ≤ d) × (d ≤ 8)) where
+-- The last byte of those that are left is read: the first i bytes are left before, and those of `next` after it.
+pub record LastRead (bytes next : List ℕ) (i b : ℕ) : Type 0 where
+  pub more : 0 < i
+  pub inside : i ≤ length bytes
+  pub byte : b ≡ get_or bytes (i - 1) 0
+  pub before : i - 1 ≡ length next
+  pub front : next ≡ take (length next) bytes
+
+pub last_read : (bytes left next : List ℕ) (b : ℕ) → left ≡ take (length left) bytes → left ≡ next ++ (b ∷ []) → LastRead bytes next (length left) b
+last_read bytes left next b front step =
+    let long : length left ≡ length next + 1 = omega (arith, ap length step, length-append next (b ∷ [])) in
+    let before : length left - 1 ≡ length next = omega arith in
+    record {
+      more = omega arith;
+      inside = omega (arith, ap length front, length-take (length left) bytes);
+      byte =
+          rw before
+          (sym (get_or-append_seam next b [] 0) ∙ ap (λ (l : List ℕ). get_or l (length next) 0) (sym step ∙ front)
+          ∙ get_or-take (length left) bytes (length next) 0 (omega arith));
+      before = before;
+      front =
+          sym (take-append_seam next (b ∷ [])) ∙ ap (take (length next)) (sym step ∙ front) ∙ take-take (length next) (length left) bytes (omega arith);
+    }
+
+module _ {d : ℕ} {bytes : List ℕ} (given : fault 32 bytes ≡ 0) (few : (2 ≤ d) × (d ≤ 8)) where
   pub stacked_none : Stacked d bytes [] (length bytes)
   stacked_none = record {
-    room = omega (arith, (within 32 bytes given.0).nodes, length_code (tree bytes), ap length (drawn 32 bytes given.0));
+    room = omega (arith, (within 32 bytes given).nodes, length_code (tree bytes), ap length (drawn 32 bytes given));
     trees = rw (drop-length bytes);
   }
 
@@ -123,7 +147,7 @@ module _ {d : ℕ} {bytes : List ℕ} (given : (fault 32 bytes ≡ 0) × (2 ≤ 
     xs = terms d (forest (drop i bytes))
 
     ready : Ready d (b ∷ drop i bytes)
-    ready = rw bytes_from at (ready_drop d (i - 1) bytes (ready_bytes d given.1 given.2 bytes given.0))
+    ready = rw bytes_from at (ready_drop d (i - 1) bytes (ready_bytes d few.0 few.1 bytes given))
 
     children_sum : std_sum (drop others stack) ≡ sum (take b xs)
     children_sum = rw (o, s.trees) (sum_last xs b ready.0)
@@ -145,7 +169,7 @@ module _ {d : ℕ} {bytes : List ℕ} (given : (fault 32 bytes ≡ 0) × (2 ≤ 
   -- The first byte is read: one tree is drawn.
   module _ {stack : List ℕ} {i : ℕ} (s : Stacked d bytes stack i) (none : i ≡ 0) where
     whole : forest bytes ≡ fcons (tree bytes) fnil
-    whole = ap forest (sym (append-nil (code (tree bytes)) ∙ drawn 32 bytes given.0)) ∙ forest_code (tree bytes) []
+    whole = ap forest (sym (append-nil (code (tree bytes)) ∙ drawn 32 bytes given)) ∙ forest_code (tree bytes) []
 
     pub stacked_end : stack ≡ d ^ need d (tree bytes) ∷ []
     stacked_end = s.trees ∙ rw none (ap (λ (ts : Forest). reverse (terms d ts)) whole)

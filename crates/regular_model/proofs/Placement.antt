@@ -16,7 +16,7 @@ use lib.Pow.{pow-add}
 use lib.Dec.{eqb, ltb}
 use borrow.Author.Tests.{eq-eqb, lt-ltb, le-ltb, eqb-true, ltb-true}
 use Rattle.base.specs.Sum.{sum}
-use Rattle.base.proofs.Last.{last_unique}
+use Rattle.std.proofs.lemmas.List.{same_from_push}
 use Rattle.topology.specs.Tree.{Topo, width}
 use Rattle.topology.specs.Address.{Addr, child, In, sub, Above}
 use Rattle.topology.proofs.Ancestry.{in_join, sub-append}
@@ -78,7 +78,7 @@ way_split d m (suc n) s =
 way_inj : (d m s u : ℕ) → ancestor d m s ≡ ancestor d m u → way_to d m s ≡ way_to d m u → s ≡ u
 way_inj d zero s u e w = e
 way_inj d (suc m) s u e w =
-    let l = last_unique (way_to d m (s / d)) (way_to d m (u / d)) (suc (s % d)) (suc (u % d)) w in
+    let l = same_from_push (way_to d m (s / d)) (way_to d m (u / d)) (suc (s % d)) (suc (u % d)) w in
     let q = way_inj d m (s / d) (u / d) e l.0 in
     omega (arith, l.1, ap (λ (x : ℕ). d * x) q, div-add-mod s d, div-add-mod u d)
 

@@ -2,7 +2,6 @@
 use mathlib.Core.Path.{◌≡◌, refl, sym, ap, ◌∙◌}
 use mathlib.Core.Logic.{◌≢◌}
 use Prim.Native.Nat.{ℕ, zero, suc, ◌+◌, ◌-◌, ◌≤◌, ◌<◌}
-use native.Mathlib.Numerals.{add-one}
 use native.Mathlib.Omega.{arith}
 use mathlib.Core.List.{List}
 use mathlib.Core.Bool.{Bool, true, false, ◌&&◌, cond}
@@ -40,11 +39,6 @@ child_found bytes n (suc i) k at e f g h =
     let d : k - 1 ≡ i = omega arith in
     rw (e, d, lt-ltb i (get_or bytes n 0) h)
 
-pub start_next : (bytes : List ℕ) (n k : ℕ) → 1 ≤ k → branch_end bytes (start bytes n (k - 1)) ≡ start bytes n (k + 1 - 1)
-start_next bytes n k h =
-    let e : k + 1 - 1 ≡ suc (k - 1) = omega arith in
-    rw e
-
 pub above_test : (bytes : List ℕ) (a b end : ℕ) → a ≤ b → end ≡ branch_end bytes a → ltb b end ≡ is_above bytes a b
 unfolding is_above
 above_test bytes a b end h e = rw (le-leb a b h, e)
@@ -59,7 +53,7 @@ unfolding branch_end
 start_after bytes n zero = omega arith
 start_after bytes n (suc i) = omega (arith, start_after bytes n i)
 
--- The scan over the children of node n for the one toward y: it is at child i + 1 of k, which starts no later than y.
+-- The scan over the children of node n for the one toward y: it is at child `number` of k, which starts no later than y.
 module _ (bytes : List ℕ) (n y : ℕ) where
   pub toward_out : length bytes ≤ n → None ≡ toward_at bytes n y
   unfolding toward_at
@@ -79,22 +73,37 @@ module _ (bytes : List ℕ) (n y : ℕ) where
       let e : get_or bytes n 0 - 0 ≡ get_or bytes n 0 = omega arith in
       rw e
 
-  module _ (i k at end : ℕ) (h : i < k) (s : at ≡ start bytes n i) (l : at ≤ y) (f : end ≡ branch_end bytes at) where
-    toward_test : toward_from bytes n y i (k - i) ≡ cond (ltb y end) (Some (record { number = i + 1; node = at })) (toward_from bytes n y (i + 1) (k - (i + 1)))
-    toward_test =
-        let e : k - i ≡ suc (k - (i + 1)) = omega arith in
-        rw (e, ← s, ← above_test bytes at y end l f, add-one i)
-
-    pub toward_here : y < end → toward_from bytes n y i (k - i) ≡ Some (record { number = i + 1; node = at })
-    toward_here g = toward_test ∙ rw (lt-ltb y end g)
-
-    pub toward_next : end ≤ y → (end ≡ start bytes n (i + 1)) × (toward_from bytes n y i (k - i) ≡ toward_from bytes n y (i + 1) (k - (i + 1)))
-    toward_next g = (f ∙ rw (s, add-one i), toward_test ∙ rw (le-ltb y end g))
-
-  pub toward_end : (i k : ℕ) → k ≤ i → toward_from bytes n y i (k - i) ≡ None
+  toward_end : (i k : ℕ) → k ≤ i → toward_from bytes n y i (k - i) ≡ None
   toward_end i k h =
       let e : k - i ≡ 0 = omega arith in
       rw e
+
+  -- behind the last child
+  pub toward_past : (number k : ℕ) → k < number → toward_from bytes n y (number - 1) (k - (number - 1)) ≡ None
+  toward_past number k h = toward_end (number - 1) k (omega arith)
+
+  module _ (number k at end : ℕ) (b : 1 ≤ number) (h : number ≤ k) (s : at ≡ start bytes n (number - 1)) (l : at ≤ y) (f : end ≡ branch_end bytes at) where
+    toward_test : toward_from bytes n y (number - 1) (k - (number - 1)) ≡ cond (ltb y end) (Some (record { number = number; node = at })) (toward_from bytes n y number (k - number))
+    toward_test =
+        let i : suc (number - 1) ≡ number = omega arith in
+        let e : k - (number - 1) ≡ suc (k - number) = omega arith in
+        rw (e, ← s, ← above_test bytes at y end l f, i)
+
+    pub toward_here : y < end → toward_from bytes n y (number - 1) (k - (number - 1)) ≡ Some (record { number = number; node = at })
+    toward_here g = toward_test ∙ rw (lt-ltb y end g)
+
+    passed : end ≤ y → toward_from bytes n y (number - 1) (k - (number - 1)) ≡ toward_from bytes n y number (k - number)
+    passed g = toward_test ∙ rw (le-ltb y end g)
+
+    pub toward_next : end ≤ y → (end ≡ start bytes n (number + 1 - 1))
+        × (toward_from bytes n y (number - 1) (k - (number - 1)) ≡ toward_from bytes n y (number + 1 - 1) (k - (number + 1 - 1)))
+    toward_next g =
+        let i : suc (number - 1) ≡ number = omega arith in
+        let e : number + 1 - 1 ≡ number = omega arith in
+        rw (e, ← i) (f ∙ rw s, rw i (passed g))
+
+    pub toward_last : end ≤ y → k ≤ number → toward_from bytes n y (number - 1) (k - (number - 1)) ≡ None
+    toward_last g m = passed g ∙ toward_end number k m
 
 -- The child toward a node comes after its parent, and is that node or comes before it.
 above_low : (bytes : List ℕ) (a b : ℕ) → is_above bytes a b ≡ true → a ≤ b

@@ -8,7 +8,8 @@ use native.Mathlib.Omega.{arith}
 use mathlib.Core.List.{[], ◌∷◌, ◌++◌, append_assoc, append-nil}
 use lib.ListN.{length, drop, length-append}
 use lib.Seq.{drop-length, drop-append_seam}
-use Rattle.base.proofs.Last.{split_last, last_unique}
+use Rattle.std.proofs.lemmas.List.{same_from_push}
+use Rattle.base.proofs.Last.{split_last}
 use Rattle.topology.specs.Tree.{Topo, Forest, fnil, fcons, count, kids, width, size}
 use Rattle.topology.specs.Address.{Addr, nth, child, In, sub, Above, addr, ahead, num, subtree, child_of, depth, route}
 use Rattle.topology.proofs.Numbering.{addr_in, num-addr, num_lt, addr-num}
@@ -106,7 +107,7 @@ parent t n p h = by_address (addr t n) refl
 
 pub parent_unique : (t : Topo) (n i m j : ℕ) → HasChild t n i → HasChild t m j → child_of t n i ≡ child_of t m j → (n ≡ m) × (i ≡ j)
 parent_unique t n i m j h g e =
-    let r = last_unique (addr t n) (addr t m) i j (sym (addr-child_of t n i h) ∙ ap (addr t) e ∙ addr-child_of t m j g) in
+    let r = same_from_push (addr t n) (addr t m) i j (sym (addr-child_of t n i h) ∙ ap (addr t) e ∙ addr-child_of t m j g) in
     (addr_inj t n m h.0 g.0 r.0, r.1)
 
 -- a node's address is its parent's address followed by the child number
@@ -126,7 +127,7 @@ above_parent t a n l h g p =
         let s = split_last k d in
         let front : (addr t a ++ s.0) ++ (s.1 ∷ []) ≡ addr t p.node ++ (p.index ∷ []) =
         append_assoc (addr t a) s.0 (s.1 ∷ []) ∙ ap (λ (r : Addr). addr t a ++ r) (sym s.2) ∙ sym e ∙ addr-under t n p in
-        (s.0, sym (last_unique (addr t a ++ s.0) (addr t p.node) s.1 p.index front).0)
+        (s.0, sym (same_from_push (addr t a ++ s.0) (addr t p.node) s.1 p.index front).0)
 
 -- ---- the way down from one node to another
 

@@ -1,12 +1,12 @@
--- The marks of the branches that are not complete, kept in an array from an index on; and a bound on the debt.
+-- The marks of the branches that are not complete, by the index of the first; and a bound on the debt.
 use mathlib.Core.Path.{◌≡◌, refl, sym, subst}
-use Prim.Native.Nat.{ℕ, suc, pred, ◌+◌, ◌*◌, ◌≤◌, ◌<◌}
+use Prim.Native.Nat.{ℕ, suc, pred, ◌+◌, ◌*◌, ◌≤◌}
 use native.Mathlib.Nat.{zero-add, suc-add}
+use native.Mathlib.Numerals.{add-one}
 use native.Mathlib.Omega.{arith}
 use mathlib.Core.List.{List, [], ◌∷◌}
 use mathlib.Core.Bool.{Bool, true, false, cond}
-use lib.ListN.{length, get_or, drop, drop_of_length-le}
-use lib.Seq.{drop-cons}
+use lib.ListN.{length, drop}
 use lib.Dec.{ltb}
 use borrow.Author.Tests.{lt-ltb, le-ltb, ltb-false}
 use Rattle.topology.specs.Reader.{pending, owing, marking}
@@ -26,18 +26,29 @@ at_open P k m ms h =
 pub at_met : (P : ℕ → List ℕ → Type 0) (m : ℕ) (ms : List ℕ) → P m (pending m ms) → P (0 + m) (pending (0 + m) (m ∷ ms))
 at_met P m ms h = subst (λ (d : ℕ). P d (pending d (m ∷ ms))) (sym (zero-add m)) (subst (P m) (sym (mark_met m ms)) h)
 
--- ---- in an array
+-- ---- by index
 
-module _ (debt : ℕ) (l : List ℕ) (i : ℕ) where
-  -- a mark less than the debt is the first of a branch that is not complete; any other is skipped
-  pub mark-pending : i < length l → get_or l i 0 < debt → drop i l ≡ pending debt (drop i l)
-  mark-pending h g = rw (drop-cons l i 0 h, lt-ltb (get_or l i 0) debt g)
+-- how many marks stand in front of the first that is less than the debt
+abbrev pub met : ℕ → List ℕ → ℕ
+met debt [] = 0
+met debt (m ∷ ms) = cond (ltb m debt) 0 (met debt ms + 1)
 
-  pub mark-reached : i < length l → debt ≤ get_or l i 0 → pending debt (drop (suc i) l) ≡ pending debt (drop i l)
-  mark-reached h g = rw (drop-cons l i 0 h, le-ltb (get_or l i 0) debt g)
+pub drop_met : (debt : ℕ) (marks : List ℕ) → drop (met debt marks) marks ≡ pending debt marks
+drop_met debt [] = refl
+drop_met debt (m ∷ ms) = by_test (ltb m debt) (drop_met debt ms)
+  where
+    by_test : (t : Bool) → drop (met debt ms) ms ≡ pending debt ms
+        → drop (cond t 0 (met debt ms + 1)) (m ∷ ms) ≡ cond t (m ∷ ms) (pending debt ms)
+    by_test true e = refl
+    by_test false e = rw (add-one (met debt ms)) e
 
-  pub mark_none : length l ≤ i → drop i l ≡ pending debt (drop i l)
-  mark_none h = rw (drop_of_length-le l h)
+pub met_bound : (debt : ℕ) (marks : List ℕ) → met debt marks ≤ length marks
+met_bound debt [] = omega arith
+met_bound debt (m ∷ ms) = by_test (ltb m debt) (met_bound debt ms)
+  where
+    by_test : (t : Bool) → met debt ms ≤ length ms → cond t 0 (met debt ms + 1) ≤ suc (length ms)
+    by_test true h = omega arith
+    by_test false h = omega arith
 
 -- ---- a bound on the debt
 

@@ -11,7 +11,7 @@ use native.Mathlib.Omega.{arith}
 use mathlib.Core.List.{[], ◌∷◌, map}
 use lib.ListN.{length, get_or, length-append, get_or-append}
 use lib.Seq.{get_or-append-add}
-use Rattle.base.proofs.Map.{length-map, get_d_map}
+use Rattle.std.proofs.lemmas.List.{length-map, get_or-map}
 use Rattle.topology.specs.Tree.{Topo, Forest, node, fnil, fcons, count, kids, width, size, sizes}
 use Rattle.topology.specs.Address.{Addr, nth, In, addrs, addrs_from, addr, ahead, num}
 
@@ -24,7 +24,7 @@ mutual
   length_addrs_from (fcons t ts) k =
       let e = length_addrs t in
       let es = length_addrs_from ts (suc k) in
-      let m = length-map (λ (a : Addr). k ∷ a) (addrs t) in
+      let m = length-map (addrs t) (λ (a : Addr). k ∷ a) in
       omega (arith, length-append (map (λ (a : Addr). k ∷ a) (addrs t)) (addrs_from ts (suc k)))
 
 -- a node of the tree at an index is a node of the forest
@@ -79,12 +79,12 @@ get_or_addrs_from (fcons t ts) k zero m h g =
     let f : Addr → Addr = λ a. k ∷ a in
     let l : m < length (addrs t) = omega (arith, length_addrs t) in
     rw (zero-add m, add-zero k)
-    (get_or-append (map f (addrs t)) (addrs_from ts (suc k)) [] m (omega (arith, length-map f (addrs t)))
-    ∙ get_d_map f (addrs t) m [] [] l)
+    (get_or-append (map f (addrs t)) (addrs_from ts (suc k)) [] m (omega (arith, length-map (addrs t) f))
+    ∙ get_or-map f (addrs t) m [] [] l)
 get_or_addrs_from (fcons t ts) k (suc i) m h g =
     let f : Addr → Addr = λ a. k ∷ a in
     let e : size t + ahead ts i + m ≡ length (map f (addrs t)) + (ahead ts i + m) =
-    omega (arith, length_addrs t, length-map f (addrs t)) in
+    omega (arith, length_addrs t, length-map (addrs t) f) in
     let j : suc k + i ≡ k + suc i = omega arith in
     ap (λ (n : ℕ). get_or (addrs_from (fcons t ts) k) n []) e
     ∙ get_or-append-add (map f (addrs t)) (addrs_from ts (suc k)) (ahead ts i + m) []

@@ -1,17 +1,13 @@
 -- The reader's loop: what is known when i bytes are read without fault, and what follows at each step.
 use mathlib.Core.Path.{◌≡◌, refl, sym, ap, ap₂, ◌∙◌}
-use mathlib.Core.Logic.{◌≢◌}
-use Prim.Native.Nat.{ℕ, zero, suc, pred, ◌+◌, ◌-◌, ◌≤◌, ◌<◌}
+use Prim.Native.Nat.{ℕ, suc, pred, ◌+◌, ◌-◌, ◌≤◌, ◌<◌}
 use native.Mathlib.Numerals.{add-one}
 use native.Mathlib.Omega.{arith}
 use mathlib.Core.List.{List, ◌∷◌}
-use mathlib.Core.Bool.{cond}
-use lib.ListN.{length, take, drop, get_or, set, replicate, length-drop, length-set, length-replicate, drop_of_length-le}
+use lib.ListN.{length, take, drop, get_or, set, replicate, length-drop, length-set, length-replicate}
 use lib.Seq.{drop-cons}
-use lib.Dec.{eqb}
-use borrow.Author.Tests.{eq-eqb, ne_eqb}
 use Rattle.base.specs.Sum.{sum}
-use Rattle.base.proofs.Set.{drop-set}
+use Rattle.std.proofs.lemmas.List.{drop-set}
 use Rattle.base.proofs.Sum.{sum-take}
 use Rattle.base.specs.Refusals.{or_else}
 use Rattle.topology.specs.Reader.{owing, pending, marking, fault_at, fault_from, fault}
@@ -50,16 +46,6 @@ module _ (limit : ℕ) (bytes : List ℕ) (debt : ℕ) (marks : List ℕ) (top i
   depth_is : length (drop top marks) ≡ 9 - top
   depth_is = length-drop top marks ∙ ap (λ (n : ℕ). n - top) p.places
 
-  -- at the end the tree is complete, or bytes are missing
-  ends : length bytes ≤ i → fault limit bytes ≡ cond (eqb debt 0) 0 1
-  ends h = sym p.same ∙ ap (fault_from limit i debt (drop top marks)) (drop_of_length-le bytes h)
-
-  pub complete : length bytes ≤ i → debt ≡ 0 → 0 ≡ fault limit bytes
-  complete h e = rw (ends h, eq-eqb debt 0 e)
-
-  pub incomplete : length bytes ≤ i → debt ≢ 0 → 1 ≡ fault limit bytes
-  incomplete h e = rw (ends h, ne_eqb debt 0 e)
-
   module _ (number : ℕ) (h : i < length bytes) (is : number ≡ fault_at limit i debt (9 - top) (get_or bytes i 0)) where
     -- the next byte's fault, or what comes after it
     rest : ℕ
@@ -71,13 +57,6 @@ module _ (limit : ℕ) (bytes : List ℕ) (debt : ℕ) (marks : List ℕ) (top i
         sym p.same
         ∙ ap (fault_from limit i debt (drop top marks)) (drop-cons bytes i 0 h)
         ∙ ap (λ (n : ℕ). or_else n rest) (ap (λ (d : ℕ). fault_at limit i debt d (get_or bytes i 0)) depth_is ∙ sym is)
-
-    pub refuse : number ≢ 0 → number ≡ fault limit bytes
-    refuse n = rw unrolled (refused number rest n)
-      where
-        refused : (f r : ℕ) → f ≢ 0 → f ≡ or_else f r
-        refused zero r n = absurd (n refl)
-        refused (suc f) r n = refl
 
     module _ (z : number ≡ 0) where
       pub payable : Payable debt top (get_or bytes i 0)
@@ -100,7 +79,7 @@ module _ (limit : ℕ) (bytes : List ℕ) (debt : ℕ) (marks : List ℕ) (top i
           let marked : drop next (set marks (top - 1) (debt - 1)) ≡ marking debt (drop top marks) (get_or bytes i 0) =
           e
           ∙ ap (pending (debt - 1 + children)) (drop-set marks (top - 1) (debt - 1) (omega (arith, ok.place, p.inside, p.places)))
-          ∙ ap (λ (t : ℕ). pending (debt - 1 + children) ((debt - 1) ∷ drop t marks)) above
+          ∙ ap (λ (t : ℕ). pending (debt - 1 + children) ((debt - 1) ∷ drop t marks)) (add-one (top - 1) ∙ above)
           ∙ ap₂ (λ (x y : ℕ). pending x (y ∷ drop top marks)) owed left in
           record {
             read = omega arith;

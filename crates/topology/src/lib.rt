@@ -3,7 +3,7 @@
 // `read` is the topology reader of paper 01.
 #![tactic(auto)]
 
-ghost use Rattle.std.specs.Prelude.{◌≡◌, ◌≤◌, ◌<◌, length, drop};
+ghost use Rattle.std.specs.Prelude.{◌≡◌, ◌≤◌, drop};
 ghost use Rattle.refusal.specs.Numbers.{number_of};
 ghost use Rattle.topology.specs.Reader.{fault, fault_at, pending};
 
@@ -24,15 +24,13 @@ pub struct Child {
 // The first index from `top` on whose mark is less than the debt, so that its branch is not complete; or 9.
 // It answers 9, the end of the marks, and no `Option`: `read` would turn `None` into 9 again.
 fn first_pending(marks: &[usize; 9], top: usize, debt: usize) -> usize
-    requires { (length marks.now ≡ 9) × (top ≤ 9) }
+    requires { top ≤ 9 }
     ensures { (result ≤ 9) × (drop result marks.now ≡ pending debt (drop top marks.now)) }
 {
-    for i in top..9 {
-        if marks[i] < debt {
-            return i;
-        }
-    }
-    9
+    top + marks[top..]
+        .iter()
+        .position(|&mark| mark < debt)
+        .unwrap_or(9 - top)
 }
 
 // Tests one byte, in the order of the refusals: `nodes` nodes came before it, `debt` nodes are still owed (the running debt of paper 02, 2.4), and its
@@ -70,7 +68,8 @@ pub fn read(bytes: &[u8], limit: usize) -> Result<(), Refusal>
     ensures { number_of result ≡ fault limit bytes.now }
 {
     let mut debt = 1;
-    // An array that is filled from its end: `pending` has the deepest mark first, and an `ArrayVec`, filled from the start, would have it last.
+    // An array that is filled from its end, and no `ArrayVec`: the definition of `fault` has the deepest mark first, and an `ArrayVec`, which grows at
+    // its end, would have it last. Its marks would then be the definition's in reverse, and those of complete branches would go by a loop of pops.
     let mut marks = [0usize; 9];
     let mut top = 9;
     for (nodes, &children) in bytes.iter().enumerate() {

@@ -20,6 +20,7 @@ pub fn branch_end(bytes: &[u8], node: usize) -> usize
         return node;
     }
     let mut end = node + 1;
+    // By index, since it is compared with `end`, which moves: an iterator would have to number its bytes from `node`.
     for i in node..bytes.len() {
         if i == end {
             break;
@@ -67,13 +68,10 @@ pub fn toward(bytes: &[u8], from: usize, to: usize) -> Option<Child>
         return None;
     }
     let mut node = from + 1;
-    for elder in 0..children {
+    for number in 1..=children {
         let end = branch_end(bytes, node);
         if to < end {
-            return Some(Child {
-                number: elder + 1,
-                node,
-            });
+            return Some(Child { number, node });
         }
         node = end;
     }

@@ -12,11 +12,14 @@ use Prim.Native.Nat.{ℕ, zero, suc, ◌+◌, ◌-◌, ◌≤◌, ◌<◌}
 use native.Mathlib.Nat.{not-suc-le-zero}
 use native.Mathlib.Numerals.{add-one}
 use native.Mathlib.Omega.{arith}
-use mathlib.Core.Bool.{Bool, true, false, ◌||◌, cond}
+use mathlib.Core.Bool.{Bool, true, false, cond}
 use mathlib.Core.List.{List, [], ◌∷◌, ◌++◌, append_assoc, append-nil}
 use lib.ListN.{length, length-append}
 use lib.Dec.{eqb}
 use borrow.Author.Tests.{eq-eqb, ne_eqb}
+use Rattle.std.specs.Cmp.{both_ways}
+use Rattle.std.proofs.lemmas.Bool.{or_right}
+use Rattle.base.proofs.Tests.{refuted}
 use Rattle.topology.specs.Tree.{Topo, size, code}
 use Rattle.topology.specs.Address.{Addr, Above, addr, subtree, child_of}
 use Rattle.topology.specs.Reader.{fault, tree}
@@ -29,19 +32,6 @@ use Rattle.topology.proofs.Lookup.{above_code, code_above, valid_size}
 use Rattle.topology.proofs.Reader.{drawn, within}
 use Rattle.topology_places.specs.Places.{counted, last_of, depth, parent, child_number, on_trunk, trunk_from}
 use Rattle.topology_places.proofs.Passes.{counted_same, counted-still, counted_next, last_is}
-
-pub same_answer : (b c : Bool) → (b ≡ true → c ≡ true) → (c ≡ true → b ≡ true) → b ≡ c
-same_answer true c f g = sym (f refl)
-same_answer false true f g = g refl
-same_answer false false f g = refl
-
-not_true : (b : Bool) → (b ≡ true → ⊥) → b ≡ false
-not_true true f = absurd (f refl)
-not_true false f = refl
-
-or_second : (a b : Bool) → b ≡ true → a || b ≡ true
-or_second true b e = refl
-or_second false b e = e
 
 -- the node before child i of node n on n's trunk: child i - 1, or n for the first child
 abbrev pub elder : Topo → ℕ → ℕ → ℕ
@@ -79,7 +69,7 @@ module _ (t : Topo) where
 
     -- no node with a number between the two lies above the node
     not_between : (a : ℕ) → p.node < a → a < k → is_above (code t) a k ≡ false
-    not_between a l g = not_true (is_above (code t) a k) (λ e. omega (arith, (above-number a g e).0))
+    not_between a l g = sym (refuted (is_above (code t) a k) (λ e. omega (arith, (above-number a g e).0)))
 
     parent_code : parent (code t) k ≡ p.node
     unfolding parent
@@ -94,7 +84,7 @@ module _ (t : Topo) where
         counted-still test (suc p.node) k parent_before not_between in
         let alike : (a : ℕ) → a < p.node → test a ≡ upper a =
         λ a l. let in_tree : a < size t = omega (arith, p.has.0) in
-        same_answer (test a) (upper a) (above_up a l) (λ e. above_down a in_tree (code_above t a p.node in_tree e)) in
+        both_ways (test a) (upper a) (above_up a l) (λ e. above_down a in_tree (code_above t a p.node in_tree e)) in
         one_more
         ∙ ap (λ (b : Bool). counted test p.node + cond b 1 0) parent_above
         ∙ add-one (counted test p.node)
@@ -182,7 +172,7 @@ module _ (t : Topo) where
         let next : child_of t n (suc (suc i)) ≡ c + size (subtree t c) =
         omega (arith, child_of_next t n (suc i) elder, ap size (subtree-child_of t n (suc i) elder)) in
         let after = child_of_after t n (suc i) elder in
-        let on : on_trunk (code t) n c ≡ true = or_second (eqb c n) (eqb (parent (code t) c) n) (eq-eqb (parent (code t) c) n up) in
+        let on : on_trunk (code t) n c ≡ true = or_right (eqb c n) (eqb (parent (code t) c) n) (eq-eqb (parent (code t) c) n up) in
         last_is (on_trunk (code t) n) c (child_of t n (suc (suc i))) (omega (arith, next, size_pos (subtree t c))) on
         (λ a l g. off_trunk (suc i) elder a l (omega (arith, g, next)))
 

@@ -9,6 +9,7 @@ use native.Mathlib.Omega.{arith}
 use mathlib.Core.Bool.{Bool, true, false, false≢true, not, ◌&&◌, cond}
 use lib.Dec.{eqb}
 use borrow.Author.Tests.{eq-eqb, ne_eqb}
+use Rattle.std.proofs.Math.Bool.{and-true}
 use Rattle.topology_places.specs.Places.{counted, last_of}
 
 pub counted_same : (test other : ℕ → Bool) (n : ℕ) → ((a : ℕ) → a < n → test a ≡ other a) → counted test n ≡ counted other n
@@ -95,10 +96,6 @@ counted_without test (suc n) a h e = by_order (dec_lt a n) (λ l. counted_withou
 
     others : (b : ℕ) → b ≢ a → test b ≡ rest b
     others b d = sym (rw (ne_eqb b a d) (and-true (test b)))
-      where
-        and-true : (t : Bool) → t && true ≡ t
-        and-true true = refl
-        and-true false = refl
 
     by_order : Dec (a < n) → (a < n → counted test n ≡ suc (counted rest n))
         → counted test n + cond (test n) 1 0 ≡ suc (counted rest n + cond (rest n) 1 0)

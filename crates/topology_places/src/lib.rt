@@ -1,5 +1,6 @@
 // The depth, the parent and the child number of a node, the node before it on its parent's trunk, and its role for a map.
 //
+// For the root `parent`, `child_number` and `trunk_from` answer 0 and no `None`, as their definitions do; callers ask of nodes below the root.
 // The bytes and the node are two parameters: functions here ask about many nodes of the same bytes, and would build a struct of both for each.
 #![tactic(auto)]
 

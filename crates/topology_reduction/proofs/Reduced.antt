@@ -8,7 +8,7 @@ use native.Mathlib.Omega.{arith}
 use mathlib.Core.List.{List, [], ◌∷◌, ◌++◌, append_assoc, append-nil}
 use mathlib.Core.Bool.{Bool, true, false, cond}
 use lib.ListN.{length, take, drop, get_or, length-append}
-use lib.Seq.{take-suc}
+use lib.Seq.{take-suc, take-append_seam, drop-append_seam}
 use lib.Dec.{eqb}
 use borrow.Author.Tests.{ne_eqb}
 use Rattle.base.proofs.Part.{Part, drop-part}
@@ -71,14 +71,6 @@ reduced_again t =
         by_test true q r = r
         by_test false q r = rw q (ap (λ (k : List ℕ). b ∷ k) r)
 
-take_front : (front rest : List ℕ) → take (length front) (front ++ rest) ≡ front
-take_front [] rest = refl
-take_front (x ∷ front) rest = ap (λ (l : List ℕ). x ∷ l) (take_front front rest)
-
-drop_front : (front rest : List ℕ) → drop (length front) (front ++ rest) ≡ rest
-drop_front [] rest = refl
-drop_front (x ∷ front) rest = drop_front front rest
-
 pub size_reduced : (t : Topo) → size (reduced t) ≡ length (kept_bytes (code t))
 size_reduced t = sym (length_code (reduced t)) ∙ ap length (code_reduced t)
 
@@ -90,7 +82,7 @@ module _ (S : Topo) (a : ℕ) (h : a < size S) where
   unfolding p
   place-front =
       ap (λ (l : List ℕ). length (kept_bytes l))
-      (ap (λ (n : ℕ). take n (code S)) (sym p.at) ∙ ap (take (length p.front)) p.is ∙ take_front p.front (code (subtree S a) ++ p.back))
+      (ap (λ (n : ℕ). take n (code S)) (sym p.at) ∙ ap (take (length p.front)) p.is ∙ take-append_seam p.front (code (subtree S a) ++ p.back))
 
   whole : code (reduced S) ≡ kept_bytes p.front ++ (code (reduced (subtree S a)) ++ kept_bytes p.back)
   unfolding p
@@ -122,7 +114,7 @@ module _ (S : Topo) (a : ℕ) (h : a < size S) where
       (sym (drop-part q)
       ∙ ap (λ (n : ℕ). drop n (code (reduced S))) place-front
       ∙ ap (drop (length (kept_bytes p.front))) whole
-      ∙ drop_front (kept_bytes p.front) (code (reduced (subtree S a)) ++ kept_bytes p.back))
+      ∙ drop-append_seam (kept_bytes p.front) (code (reduced (subtree S a)) ++ kept_bytes p.back))
 
   -- and it ends at the place where the node's branch ends
   pub place_end : place (code S) (a + size (subtree S a)) ≡ place (code S) a + size (reduced (subtree S a))
@@ -131,7 +123,7 @@ module _ (S : Topo) (a : ℕ) (h : a < size S) where
       let front = p.front ++ code (subtree S a) in
       let n : a + size (subtree S a) ≡ length front = omega (arith, p.at, length-append p.front (code (subtree S a)), length_code (subtree S a)) in
       let cut : take (a + size (subtree S a)) (code S) ≡ front =
-      ap (λ (k : ℕ). take k (code S)) n ∙ ap (take (length front)) (p.is ∙ sym (append_assoc p.front (code (subtree S a)) p.back)) ∙ take_front front p.back in
+      ap (λ (k : ℕ). take k (code S)) n ∙ ap (take (length front)) (p.is ∙ sym (append_assoc p.front (code (subtree S a)) p.back)) ∙ take-append_seam front p.back in
       omega (
         arith,
         ap (λ (l : List ℕ). length (kept_bytes l)) cut,

@@ -6,7 +6,7 @@ use native.Mathlib.Numerals.{add-one}
 use native.Mathlib.Omega.{arith}
 use mathlib.Core.List.{List, [], ◌∷◌, ◌++◌, append_assoc, append-nil}
 use mathlib.Core.Bool.{Bool, true, false, cond}
-use lib.ListN.{length, take, set, replicate, length-append, length-replicate}
+use lib.ListN.{length, take, set, replicate, length-append}
 use lib.Seq.{take_all, set_at}
 use lib.Dec.{eqb}
 use borrow.Author.Tests.{eq-eqb, ne_eqb}
@@ -20,9 +20,6 @@ in32_next l n x e h =
     ap (λ (z : ℕ). set (l ++ replicate z 0) n x) p
     ∙ set_at l 0 (replicate (31 - length l) 0) x n e
     ∙ sym (ap (λ (z : ℕ). (l ++ (x ∷ [])) ++ replicate z 0) q ∙ append_assoc l (x ∷ []) (replicate (31 - length l) 0))
-
-length-in32 : (l : List ℕ) → length l ≤ 32 → length (in32 l) ≡ 32
-length-in32 l h = length-append l (replicate (32 - length l) 0) ∙ omega (arith, length-replicate {A = ℕ} (32 - length l) 0)
 
 -- at most as many numbers as bytes
 pub restricted_fewer : (bs l : List ℕ) → length (restricted bs l) ≤ length bs
@@ -58,10 +55,6 @@ module _ (numbers whole : List ℕ) (n m : ℕ) (bytes list bs l : List ℕ) (b 
 
   pub restrict_passed : b ≡ 1 → numbers ++ restricted (take m bs) l ≡ whole
   restrict_passed k = restrict-step true (eq-eqb b 1 k)
-
-restricted_nil : (bs : List ℕ) → restricted bs [] ≡ []
-restricted_nil [] = refl
-restricted_nil (b ∷ bs) = refl
 
 -- nothing is left to read
 pub restrict_end : (numbers whole : List ℕ) (n : ℕ) (bytes list : List ℕ) → numbers ++ restricted (take n bytes) list ≡ whole

@@ -51,9 +51,6 @@ pub record SpreadTo (bytes images : List ℕ) (i : ℕ) (map : List ℕ) (next :
   pub few : next ≤ i
 
 module _ (bytes images : List ℕ) where
-  pub spread_out_none : SpreadTo bytes images 0 (replicate 32 0) 0
-  spread_out_none = record { is = refl; long = refl; at = refl; few = omega arith }
-
   module _ (i : ℕ) (map : List ℕ) (next : ℕ) (s : SpreadTo bytes images i map next) (h : i < length bytes) (g : next < length images) (k : i < 32) where
     goes_on : (longer : List ℕ) (x then : ℕ) → cond (eqb (get_or bytes i 0) 1) passed_over (get_or images (place bytes i) 0) ≡ x → longer ≡ set map i x
         → next + length (cond (eqb (get_or bytes i 0) 1) [] (get_or bytes i 0 ∷ [])) ≡ then → then ≤ i + 1

@@ -12,9 +12,7 @@ use Rattle.pifo_model.specs.Queue.{Rank}
 use Rattle.pifo_model.specs.Tree.{Step, path_fault, PTree, pop, held}
 use Rattle.pifo_model.specs.Machine.{Machine, Call, pushing, popping, Answer, accepted, refused, room, serve, serve_room, serve_path, serve_pop}
 use Rattle.queue_state.specs.State.{Packet, bytes, machine, well_formed}
-use Rattle.queue_state.specs.Calls.{answer_of, Serves}
-use Rattle.queue_state.specs.declared.Answer.{Answer as CodeAnswer}
-use Rattle.queue_state.specs.declared.Answer.TheVariants.{Accepted, Departed, Refused, Full}
+use Rattle.queue_state.specs.Calls.{Serves}
 use Rattle.queue_state.specs.declared.State.{State}
 use Rattle.discipline_model.specs.declared.Disciplines.{Disciplines}
 use Rattle.tree_state.proofs.Schedules.{Below, learnt}
@@ -61,10 +59,3 @@ same_drawing s c a r w v = ap (λ (m : Machine Packet). m.topology) (v.machine w
 
 pub refused-accepted : {n h : ℕ} → ◌≡◌ {A = Answer Packet} (refused n) (accepted h) → ⊥
 refused-accepted e = clash (cc)
-
--- an answer that is not `accepted`
-pub others_apart : (x : CodeAnswer) → ((k : ℕ) → x ≡ Accepted k → ⊥) → (h : ℕ) → answer_of x ≡ accepted h → ⊥
-others_apart (Accepted k) o h e = absurd (o k refl)
-others_apart (Departed p) o h e = clash (cc)
-others_apart (Refused n) o h e = refused-accepted e
-others_apart (Full r k) o h e = clash (cc)

@@ -1,4 +1,4 @@
--- `read` meets its contract. The loop's invariant is `Progress`; each step and each return is one of its laws.
+-- `read` meets its contract. The loop's invariant is `Progress`; each step is one of its laws.
 use Rattle.topology.proofs.Progress.{Progress}
 use Rattle.topology.proofs.read.Given as goal
 

@@ -1,10 +1,13 @@
 use Rattle.std.proofs.Common.{arith}
+use Rattle.embedding_program.specs.InnerTables.{RowCopied}
 use Rattle.embedding_program.proofs.Cells.{turns_of, part_fits, child_shut, child_tried, try_start, try_next, try_end}
 use Rattle.embedding_least.proofs.Scan.fill_row.Goals.{then-may_go, else-may_go}
 use Rattle.embedding_least.proofs.Scan.fill_row.Goals as goal
 
 pub loop-kid-init : goal.loop-kid-init
-loop-kid-init c = try_start _ _ _ _ _ _ c.sets-sets.ensures.value _ c.copy_row.ensures
+loop-kid-init c =
+    let copied : RowCopied c.args.self.now.rows c.args.p c.sets-sets.result c.copy_row.new.self.rows = rw c.sets-sets.ensures.value c.copy_row.ensures in
+    try_start _ _ _ _ _ _ c.sets-sets.ensures.value _ copied
 
 pub overflow_mul-p : goal.overflow_mul-p
 overflow_mul-p c =
@@ -29,4 +32,6 @@ loop-kid-preserved c =
     ])
 
 pub returns : goal.returns
-returns c = try_end _ _ _ _ _ _ c.sets-sets.ensures.value _ c.copy_row.ensures _ _ _ _ c.loop-kid.invariant c.loop-kid-test.false
+returns c =
+    let copied : RowCopied c.args.self.now.rows c.args.p c.sets-sets.result c.copy_row.new.self.rows = rw c.sets-sets.ensures.value c.copy_row.ensures in
+    try_end _ _ _ _ _ _ c.sets-sets.ensures.value _ copied _ _ _ _ c.loop-kid.invariant c.loop-kid-test.false
