@@ -10,7 +10,7 @@ use lib.Dec.{eqb, leb}
 use borrow.Author.Tests.{leb-true, le-leb, lt-leb}
 use Rattle.base.specs.Refusals.{or_else}
 use Rattle.base.proofs.Refusals.{or_else_none}
-use Rattle.base.proofs.Tests.{and_parts}
+use Rattle.std.proofs.lemmas.Bool.{and_parts}
 use Rattle.std.specs.Prelude.{Result, is_ok}
 use Rattle.refusal.specs.Numbers.{number, number_of}
 use Rattle.refusal.specs.declared.Refusal.{Refusal}

@@ -8,7 +8,7 @@ use mathlib.Core.List.{append-nil}
 use native.Mathlib.Decide.{dec_lt, ℕ_discrete}
 use lib.ListN.{length-append}
 use borrow.Author.Tests.{ltb-true}
-use Rattle.base.proofs.Tests.{and_parts}
+use Rattle.std.proofs.lemmas.Bool.{and_parts}
 use Rattle.topology.specs.Tree.{Topo, width, size, height}
 use Rattle.topology.specs.Address.{Addr, Above, addr, subtree, child_of, depth, route}
 use Rattle.topology.specs.Reader.{fault, tree}

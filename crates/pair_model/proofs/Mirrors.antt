@@ -13,7 +13,7 @@ use lib.ListN.{length, replicate, length-replicate}
 use borrow.Author.Tests.{le-ltb}
 use Rattle.base.proofs.Permutation.{length_perm}
 use Rattle.base.proofs.Prefix.{Meet, below, over, apart, meet}
-use Rattle.base.proofs.Tests.{and_parts}
+use Rattle.std.proofs.lemmas.Bool.{and_parts}
 use Rattle.topology.specs.Tree.{Topo, width}
 use Rattle.topology.specs.Address.{Addr, In, sub, Above}
 use Rattle.topology.proofs.Ancestry.{in_front, in_below, in_join}

@@ -2,10 +2,10 @@
 use Rattle.std.specs.Prelude.{Option, Some, None, slice_get}
 use Rattle.std.specs.List.{slice_range}
 use Rattle.std.proofs.Common.{◌≡◌, ℕ, suc, ◌+◌, ◌-◌, ◌<◌, ◌≤◌, List, [], ◌∷◌, map, length, get_or, set, refl, sym, ap, ◌∙◌, add-one, arith}
-use Rattle.std.proofs.lemmas.Bool.{false≢true}
+use Rattle.std.proofs.lemmas.Bool.{false≢true, and_parts}
 use Rattle.std.proofs.lemmas.List.{drop-take, get_or-set_same, get_or-set_other, length-set}
 use native.Mathlib.Decide.{ℕ_discrete}
-use Rattle.base.proofs.Tests.{and_parts, and_both}
+use Rattle.base.proofs.Tests.{and_both}
 use Rattle.pifo_model.specs.Queue.{rises_from, allowed, every, occurs}
 use Rattle.queue_state.specs.State.{entry_of, start_of, queue_in}
 use Rattle.queue_state.specs.declared.Entry.{Entry as CodeEntry}

@@ -6,7 +6,7 @@ use mathlib.Core.List.{List, [], ◌∷◌, ◌++◌, map}
 use lib.ListN.{length, take, drop, get_or, set, replicate, length-append, drop_of_length-le}
 use lib.Seq.{drop-cons}
 use borrow.Author.Tests.{lt-ltb}
-use Rattle.base.proofs.Map.{length-map, get_d_map}
+use Rattle.std.proofs.lemmas.List.{length-map, get_or-map}
 use Rattle.pifo_model.specs.Tree.{Step, step}
 use Rattle.queue_push.specs.Calls.{step_of, steps_of, code_step, no_step, path_of, Plain, with_step, extended_by}
 use Rattle.queue_push.specs.declared.Path.{Path}
@@ -18,7 +18,7 @@ module _ (path : Path) (steps : List CodeStep) (i : ℕ) (e : steps ≡ take pat
   step_at h =
       rw (← e)
       (drop-cons (map step_of steps) i (step_of no_step) (omega (arith, length-map step_of steps))
-      ∙ ap (λ (s : Step). s ∷ drop (suc i) (map step_of steps)) (get_d_map step_of steps i no_step (step_of no_step) h))
+      ∙ ap (λ (s : Step). s ∷ drop (suc i) (map step_of steps)) (get_or-map step_of steps i no_step (step_of no_step) h))
 
   pub steps_end : length steps ≤ i → drop i (steps_of path) ≡ []
   steps_end h = rw (← e) (drop_of_length-le (map step_of steps) (omega (arith, length-map step_of steps)))

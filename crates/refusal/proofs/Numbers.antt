@@ -6,6 +6,8 @@ use Rattle.std.proofs.lemmas.List.FromFn.{get_or-range_with_len}
 use Rattle.base.specs.Refusals.{or_else, unless_refused}
 use Rattle.base.proofs.Refusals.{or_else_first}
 use Rattle.std.specs.Prelude.{Result, Ok, Err, is_ok, IfOk}
+use Rattle.std.specs.Result.{IsErrAnd}
+use Rattle.std.proofs.lemmas.Result.{err_from_is_err_and}
 use lib.Dec.{eqb}
 use borrow.Author.Tests.{ne_eqb}
 use Rattle.refusal.specs.Numbers.{number, in_order, refusal_of, number_of, as_plain}
@@ -99,3 +101,9 @@ number-injective e f h = sym (refusal_back e) ∙ ap refusal_of h ∙ refusal_ba
 pub numbered : (n : ℕ) → n < 27 → (e : Refusal) × (number e ≡ suc n)
 numbered n h =
     (get_or in_order n r.Degree, sym (get_or-map number in_order n r.Degree 0 h) ∙ get_or-range_with_len 1 27 n 0 h ∙ one-add n)
+
+-- what the exit of a `?` returns, where the error is a refusal that stays as it is
+pub residual_is : {T : Type 0} (r : Result T Refusal) (e : Refusal) → IsErrAnd r (λ y. y ≡ e) → r ≡ Err e
+residual_is r e h =
+    let p = err_from_is_err_and r h in
+    p.1 ∙ ap Err p.2

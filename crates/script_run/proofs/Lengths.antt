@@ -7,7 +7,7 @@ use Rattle.std.proofs.Common.{◌≡◌, ℕ, zero, suc, ◌+◌, ◌-◌, ◌*�
 use Rattle.std.proofs.Common.{length, take, get_or, leb, ltb, refl, arith, length-append}
 use borrow.Author.Tests.{leb-true}
 use Rattle.base.proofs.Refusals.{or_else_none}
-use Rattle.base.proofs.Tests.{and_parts}
+use Rattle.std.proofs.lemmas.Bool.{and_parts}
 use Rattle.refusal.specs.Numbers.{number}
 use Rattle.topology.specs.Reader.{tree}
 use Rattle.topology.proofs.Reader.{within}

@@ -6,7 +6,7 @@ use native.Mathlib.Numerals.{add-one}
 use native.Mathlib.Omega.{arith}
 use mathlib.Core.List.{List, [], ◌∷◌, ◌++◌, append-nil, append_assoc}
 use lib.ListN.{length, drop, length-append, length-drop}
-use Rattle.base.proofs.Map.{length-map}
+use Rattle.std.proofs.lemmas.List.{length-map}
 use Rattle.topology.specs.Tree.{Topo, size}
 use Rattle.topology.specs.Address.{Above, addr, depth, route}
 use Rattle.topology.specs.Reader.{fault, tree}
@@ -65,7 +65,7 @@ module _ (target : List ℕ) (carried : Path) (rank x y : ℕ) (plain : Plain ca
         length-append (steps_of carried) way,
         ap (λ (p : Path). p.count) plain,
         below,
-        length-map (λ (k : ℕ). step k rank) (route (tree target) x y),
+        length-map (route (tree target) x y) (λ (k : ℕ). step k rank),
         length-drop (depth (tree target) x) (addr (tree target) y),
         ap length o.1,
         length-append (addr (tree target) x) o.0,

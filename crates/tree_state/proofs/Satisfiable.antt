@@ -7,7 +7,8 @@ use native.Mathlib.Omega.{arith}
 use mathlib.Core.Bool.{Bool, true, false, cond}
 use mathlib.Core.Option.{Option}
 use lib.Dec.{eqb}
-use Rattle.base.proofs.Tests.{clash, and_parts}
+use Rattle.std.proofs.lemmas.Bool.{and_parts}
+use Rattle.base.proofs.Tests.{clash}
 use Rattle.topology.specs.Tree.{Topo}
 use Rattle.pifo_model.specs.Queue.{Rank}
 use Rattle.pifo_model.specs.Machine.{Machine, Call, Answer, accepted, departed, refused, full, Server, serve}

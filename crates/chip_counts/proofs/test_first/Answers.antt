@@ -1,15 +1,14 @@
 -- `test_first` meets its contract.
 use Rattle.std.proofs.Common.{Bool, sym, ap, ◌∙◌}
 use mathlib.Core.Bool.{cond}
-use Rattle.std.proofs.lemmas.Result.{err_from_is_err_and}
 use Rattle.chip_counts.proofs.FirstFault.{drawing-fault, too_many, judged}
 use Rattle.chip_counts.proofs.test_first.Goals as goal
+use Rattle.refusal.proofs.Numbers.{residual_is}
 use Rattle.chip_counts.proofs.test_first.Goals.{then-tree-gt-TARGET_NODES-via-then-tree-gt-TARGET_NODES, then-tree-gt-TARGET_NODES-via-else-tree-gt-TARGET_NODES+then-is_err}
 
 pub returns-in_err-read : goal.returns-in_err-read
 returns-in_err-read c =
-    let p = err_from_is_err_and c.from_residual.result c.from_residual.ensures.1 in
-    rw (p.1, p.2) (drawing-fault _ _ _ _ c.in_err-read.ensures)
+    rw (residual_is _ _ c.from_residual.ensures.1) (drawing-fault _ _ _ _ c.in_err-read.ensures)
 
 pub returns-then-tree-gt-TARGET_NODES : goal.returns-then-tree-gt-TARGET_NODES
 returns-then-tree-gt-TARGET_NODES c =

@@ -1,6 +1,6 @@
 use Rattle.std.proofs.Common.{arith, rules, sym, ◌∙◌}
-use Rattle.std.proofs.lemmas.Result.{err_from_is_err_and}
 use Rattle.discipline_check.proofs.RuleFault.{not_longer, rules_unnamed, rules_refused, rules_pass}
+use Rattle.refusal.proofs.Numbers.{residual_is}
 use Rattle.discipline_check.proofs.check_rules.Goals as goal
 
 pub returns-then-bytes-gt-TARGET_NODES : goal.returns-then-bytes-gt-TARGET_NODES
@@ -8,8 +8,7 @@ returns-then-bytes-gt-TARGET_NODES c = λ e. absurd (not_longer _ e c.if-bytes-g
 
 pub returns-in_err-discipline : goal.returns-in_err-discipline
 returns-in_err-discipline c = λ e.
-    let p = err_from_is_err_and c.from_residual.result c.from_residual.ensures.1 in
-    rw (p.1, p.2) (rules_unnamed _ e _ _ c.loop-node-test.true _ c.in_err-discipline.ensures)
+    rw (residual_is _ _ c.from_residual.ensures.1) (rules_unnamed _ e _ _ c.loop-node-test.true _ c.in_err-discipline.ensures)
 
 pub returns-then-not-can_share : goal.returns-then-not-can_share
 returns-then-not-can_share c = λ e.

@@ -1,11 +1,10 @@
-use Rattle.std.proofs.lemmas.Result.{err_from_is_err_and}
 use Rattle.embedding_least.proofs.Searches.{search_trees, kept-is, both-draw, search_none, search_found}
+use Rattle.refusal.proofs.Numbers.{residual_is}
 use Rattle.embedding_least.proofs.least_map.Goals as goal
 
 pub returns-in_err-read_both : goal.returns-in_err-read_both
 returns-in_err-read_both c =
-    let p = err_from_is_err_and c.from_residual.result c.from_residual.ensures.1 in
-    rw (p.1, p.2) (search_trees c.args.source.now c.args.target.now _ c.in_err-read_both.ensures)
+    rw (residual_is _ _ c.from_residual.ensures.1) (search_trees c.args.source.now c.args.target.now _ c.in_err-read_both.ensures)
 
 pub least_images-requires : goal.least_images-requires
 least_images-requires c =
@@ -15,9 +14,8 @@ least_images-requires c =
 pub returns-in_err-images : goal.returns-in_err-images
 returns-in_err-images c =
     let z = c.in_ok-read_both.ensures in
-    let p = err_from_is_err_and c.from_residual-in_err-images.result c.from_residual-in_err-images.ensures.1 in
     let kept = kept-is c.args.source.now c.args.target.now z _ _ c.restrict-kept.ensures c.deref.ensures.0 in
-    rw (p.1, p.2) (search_none c.args.source.now c.args.target.now z _ (rw (c.least_images.ensures, kept) at c.in_err-images.ensures.value))
+    rw (residual_is _ _ c.from_residual-in_err-images.ensures.1) (search_none c.args.source.now c.args.target.now z _ (rw (c.least_images.ensures, kept) at c.in_err-images.ensures.value))
 
 pub returns : goal.returns
 returns c =

@@ -67,7 +67,7 @@ loop-read-preserved c =
           (replied_on g (omega arith) _ refl read turned (sym w.stops.ensures ∙ w.if-stops.false) w.put_reply.ensures)
       | in-Pop+else-stops-2 w ↦
           let read : get_or c.args.batch c.loop-read.read-index End ≡ Next (Call Pop) arm.at = search rules in
-          let turned = pop_turned _ _ _ _ _ _ g.served _ _ _ _ w.pop.ensures.0 w.pop-in-Pop.ensures.0 in
+          let turned = pop_turned _ _ _ _ _ _ g.served _ _ _ _ w.pop-drawn.ensures.0 w.pop-taken.ensures.0 in
           rw (w.text-is, w.path-is, w.source-is, w.chip-is)
           (replied_on g (omega arith) _ refl read turned (sym w.stops-in-Pop.ensures ∙ w.if-stops-2.false) w.put_reply-in-Pop.ensures)
     ]

@@ -1,14 +1,13 @@
 -- `branch` meets its contract: each answer is one law of `Cases`; the part stays within the bytes by `end_bounds`.
 use Rattle.std.proofs.Common.{rules}
-use Rattle.std.proofs.lemmas.Result.{err_from_is_err_and}
 use Rattle.topology.proofs.BranchEnd.{end_bounds}
 use Rattle.topology.proofs.Cases.{branch-refused, branch_missing, branch_there}
+use Rattle.refusal.proofs.Numbers.{residual_is}
 use Rattle.topology_branches.proofs.branch.Goals as goal
 
 pub returns-in_err-read-clause-refusal : goal.returns-in_err-read-clause-refusal
 returns-in_err-read-clause-refusal c =
-    let p = err_from_is_err_and c.from_residual.result c.from_residual.ensures.1 in
-    rw (p.1, p.2) (branch-refused _ _ _ c.in_err-read.ensures)
+    rw (residual_is _ _ c.from_residual.ensures.1) (branch-refused _ _ _ c.in_err-read.ensures)
 
 pub returns-then-bytes-node-clause-refusal : goal.returns-then-bytes-node-clause-refusal
 returns-then-bytes-node-clause-refusal c = branch_missing _ _ c.in_ok-read.ensures c.if-bytes-node.true

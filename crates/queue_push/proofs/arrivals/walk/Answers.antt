@@ -1,10 +1,10 @@
 use Rattle.std.proofs.Common.{◌≡◌, arith, sym, ◌∙◌, add-one}
-use Rattle.std.proofs.lemmas.Result.{err_from_is_err_and}
 use Rattle.refusal.specs.declared.Refusal.TheVariants.{NoSuchChild}
 use Rattle.topology.proofs.Lookup.{valid_size, valid_width, valid_child, valid_missing}
 use Rattle.topology.proofs.Reader.{within}
 use Rattle.queue_push.proofs.PathSteps.{step_at, steps_end}
 use Rattle.queue_push.proofs.WalkLoop.{set_out, refused, missing, advance, above, arrived}
+use Rattle.refusal.proofs.Numbers.{residual_is}
 use Rattle.queue_push.proofs.arrivals.walk.Goals as goal
 
 pub loop-step-init : goal.loop-step-init
@@ -12,10 +12,9 @@ loop-step-init c = set_out _ (within 64 _ c.requires) _ _ _
 
 pub returns-in_err-child : goal.returns-in_err-child
 returns-in_err-child c =
-    let p = err_from_is_err_and c.from_residual.result c.from_residual.ensures.1 in
     let none = c.in_err-child.ensures.ok_part in
     let e : c.in_err-child.field-0.0 ≡ NoSuchChild = grind (arith, c.in_err-child.ensures.value) in
-    rw (p.1, p.2, e)
+    rw (residual_is _ _ c.from_residual.ensures.1, e)
     (refused _ (within 64 _ c.requires) _ _ _ _ _
     (missing _ (within 64 _ c.requires) _ _ _ _ _ _ c.loop-step.invariant _
     (step_at c.args.path _ _ c.steps-steps.ensures c.loop-step-test.true)
