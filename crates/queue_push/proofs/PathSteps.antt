@@ -17,11 +17,11 @@ module _ (path : Path) (steps : List CodeStep) (i : ℕ) (e : steps ≡ take pat
   pub step_at : i < length steps → drop i (steps_of path) ≡ step_of (get_or steps i no_step) ∷ drop (suc i) (steps_of path)
   step_at h =
       rw (← e)
-      (drop-cons (map step_of steps) i (step_of no_step) (omega (arith, length-map step_of steps))
+      (drop-cons (map step_of steps) i (step_of no_step) (omega (arith, length-map steps step_of))
       ∙ ap (λ (s : Step). s ∷ drop (suc i) (map step_of steps)) (get_or-map step_of steps i no_step (step_of no_step) h))
 
   pub steps_end : length steps ≤ i → drop i (steps_of path) ≡ []
-  steps_end h = rw (← e) (drop_of_length-le (map step_of steps) (omega (arith, length-map step_of steps)))
+  steps_end h = rw (← e) (drop_of_length-le (map step_of steps) (omega (arith, length-map steps step_of)))
 
 -- ---- paths of given steps
 
