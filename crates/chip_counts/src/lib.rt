@@ -1,4 +1,6 @@
 // The counts of a chip's tree with disciplines, and what is tested first in every call on it.
+//
+// The two counts have two lines each and differ in the second. One function for both would take that call as a parameter, and be longer than they are.
 #![tactic(auto)]
 
 ghost use Rattle.std.specs.Prelude.{◌≡◌, IfOk};

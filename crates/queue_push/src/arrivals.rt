@@ -8,7 +8,7 @@ use super::Path;
 use queue_state::{Entry, Item, Packet};
 use refusal::Refusal;
 
-// The new entry of each node on a path, and how many there are.
+// The new entry of each node on a path, and how many there are: the walk knows the number at its end, and to count them again would be a loop more.
 #[derive(Clone, Copy)]
 pub(crate) struct Added {
     pub entries: [Option<Entry>; 64],

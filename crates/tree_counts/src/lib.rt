@@ -1,4 +1,6 @@
 // The counts of a queue tree with disciplines, and the test of its rules that every call on it makes.
+//
+// The two counts have two lines each and differ in the second. One function for both would take that call as a parameter, and be longer than they are.
 #![tactic(auto)]
 
 ghost use Rattle.std.specs.Prelude.{◌≡◌};

@@ -33,7 +33,7 @@ impl Tree {
     }
 }
 
-// The tree after a call, and the answer to it.
+// The tree after a call, and the answer to it. It is `Served` of a tree: one type for both would have to call a state and a tree by one name.
 #[derive(Clone, Copy)]
 pub struct TreeServed {
     pub tree: Tree,
