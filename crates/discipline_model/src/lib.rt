@@ -66,7 +66,7 @@ pub struct Disciplines {
 }
 
 // The number of the discipline by which a node with `children` children acts: that of arrival for a node with one child, which is passed over (2.2),
-// else the node's own number, which names a discipline or none.
+// else the node's own number, which names a discipline or none. A `Discipline` has no value for none, so the answer is the number.
 pub fn acting(children: u8, discipline: u8) -> u8
     ensures { result ≡ acts_by children discipline }
 {

@@ -72,7 +72,7 @@ impl<'a> Text<'a> {
         }
     }
 
-    // The last `digits` digits of a number in base sixteen: those before its last one, then that.
+    // The last `digits` digits of a number in base sixteen: those before its last one, then that. By hand, as a number in base ten is.
     fn put_hex(&mut self, digits: usize, number: u32)
         ensures { Appends self.old (hex_last digits number) self.new }
     {

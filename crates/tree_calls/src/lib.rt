@@ -65,6 +65,7 @@ pub fn push_to_leaf(
 pub fn pop(mut tree: Tree) -> TreeServed
     ensures { OwnServes tree (calling popping) (answer_of result.answer) result.tree }
 {
+    // A copy, from which the topology is read while the tree itself is lent to the call below.
     let frame = tree.state.frame;
     let answer = match test_rules(&tree) {
         Ok(()) => tree_below::pop(&mut tree, frame.bytes(), &own_images()),
