@@ -23,13 +23,11 @@ use tree_state::{Tree, TreeServed};
 pub fn push(mut tree: Tree, path: Path, packet: Packet) -> TreeServed
     ensures { OwnServes tree (calling (pushing (steps_of path) path.leaf_rank packet)) (answer_of result.answer) result.tree }
 {
-    if let Err(refusal) = test_rules(&tree) {
-        return TreeServed {
-            tree,
-            answer: Answer::Refused(refusal),
-        };
-    }
-    let answer = tree_below::push_along(&mut tree, path, packet);
+    let tested = test_rules(&tree);
+    let answer = match tested {
+        Ok(()) => tree_below::push_along(&mut tree, path, packet),
+        Err(refusal) => Answer::Refused(refusal),
+    };
     TreeServed { tree, answer }
 }
 
