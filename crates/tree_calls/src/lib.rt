@@ -23,8 +23,7 @@ use tree_state::{Tree, TreeServed};
 pub fn push(mut tree: Tree, path: Path, packet: Packet) -> TreeServed
     ensures { OwnServes tree (calling (pushing (steps_of path) path.leaf_rank packet)) (answer_of result.answer) result.tree }
 {
-    let tested = test_rules(&tree);
-    let answer = match tested {
+    let answer = match test_rules(&tree) {
         Ok(()) => tree_below::push_along(&mut tree, path, packet),
         Err(refusal) => Answer::Refused(refusal),
     };
@@ -41,21 +40,16 @@ pub fn push_to_leaf(
 ) -> TreeServed
     ensures { OwnServes tree (pushing_to leaf class length packet) (answer_of result.answer) result.tree }
 {
-    if let Err(refusal) = test_rules(&tree) {
-        return TreeServed {
-            tree,
-            answer: Answer::Refused(refusal),
-        };
-    }
-    let bytes = tree.state.bytes();
-    if !is_leaf(bytes, leaf) {
-        return TreeServed {
-            tree,
-            answer: Answer::Refused(check_state(tree.state).err().unwrap_or(Refusal::NoLeaf)),
-        };
-    }
-    let plan = plan_to(bytes, tree.disciplines, leaf, class, length);
-    let answer = tree_below::push_planned(&mut tree, plan.path, plan.finish, packet);
+    let answer = match test_rules(&tree) {
+        Ok(()) if !is_leaf(tree.state.bytes(), leaf) => {
+            Answer::Refused(check_state(tree.state).err().unwrap_or(Refusal::NoLeaf))
+        }
+        Ok(()) => {
+            let plan = plan_to(tree.state.bytes(), tree.disciplines, leaf, class, length);
+            tree_below::push_planned(&mut tree, plan.path, plan.finish, packet)
+        }
+        Err(refusal) => Answer::Refused(refusal),
+    };
     TreeServed { tree, answer }
 }
 
@@ -65,7 +59,8 @@ pub fn pop(mut tree: Tree) -> TreeServed
 {
     // A copy, from which the topology is read while the tree itself is lent to the call below.
     let frame = tree.state.frame;
-    let answer = match test_rules(&tree) {
+    let tested = test_rules(&tree);
+    let answer = match tested {
         Ok(()) => tree_below::pop(&mut tree, frame.bytes(), &own_images()),
         Err(refusal) => Answer::Refused(refusal),
     };
