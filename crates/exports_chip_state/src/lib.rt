@@ -35,23 +35,25 @@ impl From<Result<Pair<Tree>, Refusal>> for PlainPairOpened {
     ghost from_gives = { λ opening plain. plain ≡ plain_pair opening };
 
     fn from(opening: Result<Pair<Tree>, Refusal>) -> PlainPairOpened {
-        match opening {
-            Ok(both) => {
-                // A variable: the borrow checker does not cover a field that is an array and is made part of a literal straight.
-                let map = both.map;
-                PlainPairOpened {
-                    source: both.source.into(),
-                    chip: both.chip.into(),
-                    map,
-                    refusal: 0,
-                }
+        let (both, refusal) = match opening {
+            Ok(both) => (both, 0),
+            Err(refusal) => {
+                let none = no_tree();
+                let nothing = Pair {
+                    source: none,
+                    chip: none,
+                    map: [0; 32],
+                };
+                (nothing, refusal.into())
             }
-            Err(refusal) => PlainPairOpened {
-                source: no_tree().into(),
-                chip: no_tree().into(),
-                map: [0; 32],
-                refusal: refusal.into(),
-            },
+        };
+        // A variable: the borrow checker does not cover a field that is an array and is made part of a literal straight.
+        let map = both.map;
+        PlainPairOpened {
+            source: both.source.into(),
+            chip: both.chip.into(),
+            map,
+            refusal,
         }
     }
 }
