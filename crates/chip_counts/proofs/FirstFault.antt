@@ -7,7 +7,7 @@ use native.Mathlib.Omega.{arith}
 use mathlib.Core.List.{List}
 use mathlib.Core.Bool.{Bool, true, false, ◌&&◌, cond}
 use lib.Dec.{eqb, leb}
-use borrow.Author.Tests.{leb-true, le-leb, lt-leb}
+use borrow.Author.Tests.{le-leb, lt-leb}
 use Rattle.base.specs.Refusals.{or_else}
 use Rattle.base.proofs.Refusals.{or_else_none}
 use Rattle.std.proofs.lemmas.Bool.{and_parts}
@@ -96,9 +96,6 @@ module _ (source : List ℕ) (t : Tree) where
 
       pub drawing_valid : fault 32 source ≡ 0
       drawing_valid = all_pass.0
-
-      pub few_nodes : t.state.frame.nodes ≤ 64
-      few_nodes = leb-true t.state.frame.nodes 64 both_pass.0
 
       pub kept-formed : well_formed_by (tree source) t ≡ well_formed t.state
       unfolding well_formed_by

@@ -17,7 +17,7 @@ ghost use Rattle.script_run.specs.InnerParts.{opening_text, start_text, batch_te
 ghost use Rattle.script_commands.specs.InnerBatches.{AllCommands};
 
 use pair_state::Pair;
-use queue_push::{Path, Step};
+use queue_push::Path;
 use queue_state::{Answer, State};
 use refusal::Refusal;
 use replies::{put_reply, stops};
@@ -28,13 +28,6 @@ use text::Text;
 
 // How many steps may be gathered for a push.
 const MOST_STEPS: usize = 8;
-
-// A path without steps.
-const NO_STEPS: Path = Path {
-    steps: [Step { child: 0, rank: 0 }; 9],
-    count: 0,
-    leaf_rank: 0,
-};
 
 // The stage of a script after 04 that goes on: the drawings, both trees with the map, and the steps gathered for the next push.
 #[derive(Drop)]
@@ -87,7 +80,7 @@ fn compile(text: &mut Text<'_>, drawing: Drawing, at: usize) -> Option<Session>
             Some(Session {
                 drawing,
                 pair,
-                path: NO_STEPS,
+                path: Path::new(0),
             })
         }
     }
@@ -132,7 +125,7 @@ fn serve(session: Session, text: &mut Text<'_>, batch: [Read; 256]) -> Option<Se
                 }
                 Call::Push(packet, leaf_rank) => {
                     let whole = Path { leaf_rank, ..path };
-                    path = NO_STEPS;
+                    path = Path::new(0);
                     source = queue_push::push(source, whole, packet).state;
                     let answer = match translator::carry(source_tree, chip_tree, images, whole) {
                         Err(refusal) => Answer::Refused(refusal),

@@ -12,4 +12,6 @@ returns-in-Err c =
 pub returns-in-Ok : goal.returns-in-Ok
 returns-in-Ok c =
     let opens = opens-both _ _ _ (Ok c.in-Ok.pair) c.in-Ok.ensures.refusal c.in-Ok.ensures.pair in
-    opened-comes _ _ _ (rw (c.deref.ensures.0, c.deref-2.ensures.0, c.unwrap_or-limit.ensures) at opens) (rw c.len.ensures.value at c.put_map.ensures)
+    rw c.new.ensures
+    (opened-comes _ _ _ (rw (c.deref.ensures.0, c.deref-2.ensures.0, c.unwrap_or-limit.ensures) at opens)
+    (rw c.len.ensures.value at c.put_map.ensures))

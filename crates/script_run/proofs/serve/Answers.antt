@@ -63,7 +63,7 @@ loop-read-preserved c =
             | in-Err v ↦ rw (v.chip-is, v.answer-is) (refused_serves _ _ _ _ _ (rw v.in-Err.is at w.carry.ensures) g.served.in_step.mapped _ _)
             | in-Ok v ↦ rw (v.chip-is, v.answer-is) (carried_serves _ _ _ _ _ (rw v.in-Ok.is at w.carry.ensures) _ _ _ _ v.push-sent.ensures)
           ]) in
-          rw (w.text-is, w.path-is, w.source-is, w.chip-is)
+          rw (w.text-is, w.path-is, w.new-path.ensures, w.source-is, w.chip-is)
           (replied_on g (omega arith) _ refl read turned (sym w.stops.ensures ∙ w.if-stops.false) w.put_reply.ensures)
       | in-Pop+else-stops-2 w ↦
           let read : get_or c.args.batch c.loop-read.read-index End ≡ Next (Call Pop) arm.at = search rules in
