@@ -134,8 +134,8 @@ impl Pair<'_> {
         ensures { Appends text.old (join_of self.now.drawing.now.source.items self.now.drawing.now.target.items node image) text.new }
     {
         if image != PASSED_OVER {
-            let from = point_of(Side::Source, &self.drawing.source, node);
-            let to = point_of(Side::Chip, &self.drawing.target, image);
+            let from = point_of(Side::Source, self.drawing.source.as_slice(), node);
+            let to = point_of(Side::Chip, self.drawing.target.as_slice(), image);
             put_join(text, from, to, usize::from(node), usize::from(image));
         }
     }
@@ -224,7 +224,7 @@ fn draw_fault(text: &mut Text<'_>, drawing: &Drawing, refusal: Refusal, offset: 
 fn put_misfit(text: &mut Text<'_>, drawing: &Drawing, node: usize, lack: Lack, offset: usize)
     ensures { Appends text.old (misfit_of drawing.now.source.items drawing.now.target.items node lack offset) text.new }
 {
-    let marked = node..branch_end(&drawing.source, node);
+    let marked = node..branch_end(drawing.source.as_slice(), node);
     let pair = Pair {
         drawing,
         images: &[],
@@ -241,7 +241,7 @@ fn draw_misfit(text: &mut Text<'_>, drawing: &Drawing, offset: usize)
         (misfit_sheet (diagnosis drawing.now.source.items drawing.now.target.items) drawing.now.source.items drawing.now.target.items offset)
         text.new }
 {
-    match why(&drawing.source, &drawing.target) {
+    match why(drawing.source.as_slice(), drawing.target.as_slice()) {
         Diagnosis::Loads | Diagnosis::Refused(_) => {
             draw_refusal(text, Refusal::NoMap.into(), offset);
         }
@@ -281,9 +281,10 @@ fn draw(text: &mut Text<'_>, drawing: &Drawing, offset: usize)
     ensures { Appends text.old
         (sheet drawing.now.source.items drawing.now.target.items (unwrap_or drawing.now.limit 0) offset) text.new }
 {
-    match least_map(&drawing.source, &drawing.target) {
+    let source = drawing.source.as_slice();
+    match least_map(source, drawing.target.as_slice()) {
         Ok(map) => {
-            let images = &map[..drawing.source.len()];
+            let images = &map[..source.len()];
             draw_mapped(text, &Pair { drawing, images }, offset);
         }
         Err(Refusal::NoMap) => draw_misfit(text, drawing, offset),

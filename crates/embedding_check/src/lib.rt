@@ -132,7 +132,7 @@ fn check_list(source: &[u8], target: &[u8], map: &[u8]) -> Result<(), Refusal>
     }
     let kept = restrict(source, source);
     let images = restrict(source, map);
-    check_images(&kept, target, &images)
+    check_images(kept.as_slice(), target, images.as_slice())
 }
 
 // Checks a map: both trees are read first, then the list is tested.

@@ -30,12 +30,13 @@ module _ (best kids ends : List ℕ) where
   -- one entry: rule 3 forbids it, or it is the least placing of the children
   pub entry_shut : (w t : ℕ) → ((length kids ≡ 0 → w ≡ 0) → ⊥) → BestEntryBy best kids ends w t no_images
   entry_shut w t n =
-      record { lower = λ k ys q. absurd (n k); fits = λ h. absurd (omega arith); attained = λ h. absurd (omega arith) }
+      record { bound = omega arith; lower = λ k ys q. absurd (n k); fits = λ h. absurd (omega arith); attained = λ h. absurd (omega arith) }
 
   -- no node is below a leaf
   pub entry-leaf : (w t : ℕ) → length kids ≢ 0 → end_by ends t ≡ t + 1 → BestEntryBy best kids ends w t no_images
   entry-leaf w t d e =
       record {
+        bound = omega arith;
         lower = λ k ys q. absurd (omega (arith, q.from 0 first, q.to 0 first));
         fits = λ h. absurd (omega arith);
         attained = λ h. absurd (omega arith);

@@ -95,6 +95,7 @@ Branches ends target = (t : ℕ) → t < length target → BranchOf ends t
 
 -- the least placing of all children below t
 pub record PlacedBelow (best kids ends : List ℕ) (t : ℕ) (go : List ℕ) (v : ℕ) : Type 0 where
+  pub bound : v ≤ no_images
   pub least : LeastBy best kids ends (end_by ends t) (replicate (length kids) true) (t + 1) v
   pub scanned : Scanned best kids ends go (t + 1) (end_by ends t)
 

@@ -16,7 +16,7 @@ module _ (source target : List ℕ) where
     pub found_passes : Passes (tree source) (tree target) (images source m)
     found_passes = rw s.map (images_pass source target (sym s.number))
 
-    found_simulated : Simulated source target m
+    pub found_simulated : Simulated source target m
     found_simulated =
         let f = faultless source target (sym s.number) in
         record {

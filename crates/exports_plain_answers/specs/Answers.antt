@@ -6,6 +6,15 @@ use Rattle.refusal.specs.declared.Refusal.{Refusal}
 use Rattle.pifo_model.specs.Machine.{Answer, accepted, departed, refused, full}
 use Rattle.queue_state.specs.State.{Packet}
 use Rattle.exports_plain_answers.specs.declared.PlainAmount.{PlainAmount}
+use Rattle.exports_plain_answers.specs.declared.PlainReply.{PlainReply}
+use Rattle.exports_plain_answers.specs.declared.PlainReply.TheVariants.{Accepted, Departed, Refused, Full}
+
+-- an answer as the machine gives it, from one in plain numbers
+abbrev pub reply_of : PlainReply → Answer Packet
+reply_of (Accepted h) = accepted h
+reply_of (Departed p) = departed p
+reply_of (Refused n) = refused n
+reply_of (Full n c) = full n c
 
 -- the packets then held, the packet that departs, or the new count of refusals, else 0
 abbrev pub value_of : Answer Packet → ℕ

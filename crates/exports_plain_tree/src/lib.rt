@@ -8,7 +8,7 @@ ghost use Rattle.exports_plain_tree.specs.Trees.{tree_from, plain_tree};
 ghost use Rattle.exports_plain_tree.specs.Answers.{plain_opening, plain_served};
 
 use discipline_model::{Disciplines, Rule};
-use exports_plain_answers::{answer_refusal, answer_value};
+use exports_plain_answers::{PlainReply, answer_refusal, answer_value};
 use exports_plain_state::PlainState;
 use refusal::Refusal;
 use tree_state::{Tree, TreeServed};
@@ -74,10 +74,11 @@ impl From<TreeServed> for PlainTreeAnswer {
     ghost from_gives = { λ served plain. plain ≡ plain_served served };
 
     fn from(served: TreeServed) -> PlainTreeAnswer {
+        let reply = PlainReply::from(served.answer);
         PlainTreeAnswer {
             tree: served.tree.into(),
-            refusal: answer_refusal(served.answer),
-            value: answer_value(served.answer),
+            refusal: answer_refusal(reply),
+            value: answer_value(reply),
         }
     }
 }

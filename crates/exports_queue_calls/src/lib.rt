@@ -8,7 +8,7 @@ ghost use Rattle.queue_pop.specs.Way.{way_of};
 ghost use Rattle.exports_plain_state.specs.Plain.{state_of};
 ghost use Rattle.exports_queue_calls.specs.Answers.{plain_served, ServesPlain};
 
-use exports_plain_answers::{answer_refusal, answer_value};
+use exports_plain_answers::{PlainReply, answer_refusal, answer_value};
 use exports_plain_state::PlainState;
 use queue_pop::Way;
 use queue_push::Path;
@@ -36,10 +36,11 @@ impl From<Served> for PlainAnswer {
     ghost from_gives = { λ served plain. plain ≡ plain_served served };
 
     fn from(served: Served) -> PlainAnswer {
+        let reply = PlainReply::from(served.answer);
         PlainAnswer {
             state: served.state.into(),
-            refusal: answer_refusal(served.answer),
-            value: answer_value(served.answer),
+            refusal: answer_refusal(reply),
+            value: answer_value(reply),
         }
     }
 }

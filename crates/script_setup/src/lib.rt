@@ -6,16 +6,16 @@ ghost use Rattle.script_commands.specs.Reading.{reads};
 ghost use Rattle.script_setup.specs.Gathering.{gather_reads, gathered, Gathers};
 ghost use Rattle.script_setup.specs.InnerTurns.{Takes};
 
-use arrayvec::ArrayVec;
+use byte_list::ByteList;
 use refusal::Refusal;
 use script_commands::{Command, Read, Reader, Setup, reader_at};
 
 // The drawings and the limit. Each drawing has room for one byte more than a tree may have nodes, so that one that is cut off here has a fault in
 // any case.
-#[derive(Drop)]
+#[derive(Clone, Copy)]
 pub struct Drawing {
-    pub source: ArrayVec<u8, 33>,
-    pub target: ArrayVec<u8, 65>,
+    pub source: ByteList<33>,
+    pub target: ByteList<65>,
     pub limit: Option<u32>,
 }
 
@@ -28,7 +28,7 @@ pub enum Ending {
     Compile(usize),
 }
 
-#[derive(Drop)]
+#[derive(Clone, Copy)]
 pub struct Gathered {
     pub drawing: Drawing,
     pub ending: Ending,
@@ -41,11 +41,11 @@ impl Drawing {
     {
         match read {
             Read::Next(Command::Setup(Setup::Source(children)), _) => {
-                let _ = self.source.try_push(children);
+                self.source.add(children);
                 None
             }
             Read::Next(Command::Setup(Setup::Target(children)), _) => {
-                let _ = self.target.try_push(children);
+                self.target.add(children);
                 None
             }
             Read::Next(Command::Setup(Setup::Limit(limit)), _) if self.limit.is_none() => {
@@ -67,8 +67,8 @@ pub fn gather<'s, 'a>(reader: &'s mut Reader<'a>) -> Gathered
     ensures left { reads reader.old.script.now reader.new.at ≡ (gather_reads (reads reader.old.script.now reader.old.at) [] [] None).left }
 {
     let mut drawing = Drawing {
-        source: ArrayVec::new(),
-        target: ArrayVec::new(),
+        source: ByteList::new(),
+        target: ByteList::new(),
         limit: None,
     };
     loop {

@@ -58,8 +58,8 @@ module _ (buffer : List ℕ) (at byte : ℕ) where
   unfolding written
   byte_in h = record { bytes = refl; next = omega arith }
 
-  pub byte_out : length buffer ≡ at → Puts buffer at (byte ∷ []) buffer at
-  byte_out e = record { bytes = sym (written_past buffer at (byte ∷ []) (omega arith)); next = omega arith }
+  pub byte_out : length buffer ≤ at → Puts buffer at (byte ∷ []) buffer (length buffer)
+  byte_out h = record { bytes = sym (written_past buffer at (byte ∷ []) h); next = omega arith }
 
 pub puts_none : (buffer : List ℕ) (at place : ℕ) → place ≡ min at (length buffer) → Puts buffer at [] buffer place
 unfolding written

@@ -3,7 +3,7 @@ use mathlib.Core.Path.{◌≡◌, refl, sym, ap, ◌∙◌}
 use mathlib.Core.Logic.{◌≢◌}
 use Prim.Native.Nat.{ℕ, zero, suc, ◌+◌, ◌-◌, ◌≤◌, ◌<◌}
 use native.Mathlib.Omega.{arith}
-use mathlib.Core.List.{List}
+use mathlib.Core.List.{List, []}
 use mathlib.Core.Bool.{Bool, true, false, ◌&&◌, cond}
 use lib.ListN.{length, take, drop, get_or, get_or-eq_default}
 use lib.Dec.{leb, ltb}
@@ -11,7 +11,8 @@ use borrow.Author.Tests.{lt-ltb, le-ltb, le-leb, lt-leb, leb-true}
 use Rattle.base.proofs.Tests.{clash}
 use Rattle.refusal.specs.Numbers.{number}
 use Rattle.refusal.specs.declared.Refusal.{Refusal}
-use Rattle.refusal.proofs.Numbers.{refused_first}
+use Rattle.base.proofs.Refusals.{refused_other}
+use Rattle.refusal.proofs.Numbers.{number-ne0, refused_first}
 use Rattle.topology.specs.Reader.{fault}
 use Rattle.topology.specs.Branch.{branch_end, start, child_at, is_above, toward_from, toward_at, branch_fault, branch_part}
 use Rattle.std.specs.Prelude.{Option, None, Some}
@@ -73,7 +74,7 @@ module _ (bytes : List ℕ) (n y : ℕ) where
       let e : get_or bytes n 0 - 0 ≡ get_or bytes n 0 = omega arith in
       rw e
 
-  toward_end : (i k : ℕ) → k ≤ i → toward_from bytes n y i (k - i) ≡ None
+  pub toward_end : (i k : ℕ) → k ≤ i → toward_from bytes n y i (k - i) ≡ None
   toward_end i k h =
       let e : k - i ≡ 0 = omega arith in
       rw e
@@ -136,13 +137,15 @@ toward_between bytes n y i c e = between_from bytes n y 0 (get_or bytes n 0) i c
 
 -- The three answers of the branch: the reader's refusal, 19, and a part of the bytes.
 module _ (bytes : List ℕ) (n : ℕ) where
-  pub branch-refused : (e : Refusal) → number e ≡ fault 64 bytes → number e ≡ branch_fault bytes n
-  unfolding branch_fault
-  branch-refused e h = refused_first e (fault 64 bytes) (cond (ltb n (length bytes)) 0 19) h
+  pub branch-refused : (e : Refusal) → number e ≡ fault 64 bytes → (number e ≡ branch_fault bytes n) × ([] ≡ branch_part bytes n)
+  unfolding branch_fault branch_part
+  branch-refused e h =
+      let q = refused_first e (fault 64 bytes) (cond (ltb n (length bytes)) 0 19) h in
+      (q, refused_other (branch_fault bytes n) (take (branch_end bytes n - n) (drop n bytes)) [] (λ z. number-ne0 e (q ∙ z)))
 
-  pub branch_missing : 0 ≡ fault 64 bytes → length bytes ≤ n → 19 ≡ branch_fault bytes n
-  unfolding branch_fault
-  branch_missing e h = rw (← e, le-ltb n (length bytes) h) refl
+  pub branch_missing : 0 ≡ fault 64 bytes → length bytes ≤ n → (19 ≡ branch_fault bytes n) × ([] ≡ branch_part bytes n)
+  unfolding branch_fault branch_part
+  branch_missing e h = rw (← e, le-ltb n (length bytes) h) (refl, refl)
 
   pub branch_there : 0 ≡ fault 64 bytes → n < length bytes → (end : ℕ) → end ≡ branch_end bytes n
       → (0 ≡ branch_fault bytes n) × (take (end - n) (drop n bytes) ≡ branch_part bytes n)

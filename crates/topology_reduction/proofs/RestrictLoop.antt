@@ -70,3 +70,7 @@ restrict_end numbers whole n bytes list same h = sym (append-nil numbers) ∙ ap
 -- For callers with at most 32 bytes: all of them are read.
 pub restrict-held : (bytes list : List ℕ) → length bytes ≤ 32 → restricted (take 32 bytes) list ≡ restricted bytes list
 restrict-held bytes list h = ap (λ (z : List ℕ). restricted z list) (take_all 32 bytes h)
+
+-- a list with room has a number more
+pub room : (n b : ℕ) (old new : List ℕ) → new ≡ take n (old ++ (b ∷ [])) → length old < n → new ≡ old ++ (b ∷ [])
+room n b old new e h = e ∙ take_all n (old ++ (b ∷ [])) (omega (arith, h, length-append old (b ∷ [])))

@@ -4,7 +4,7 @@
 ghost use Rattle.std.specs.Prelude.{◌≡◌, take};
 ghost use Rattle.topology_reduction.specs.Reduced.{next_kept, restricted, spread, in32};
 
-use arrayvec::ArrayVec;
+use byte_list::ByteList;
 
 // What a map has at a node that is passed over; no target node has this number. It is no `None`: a map's bytes are the chip's, 255 among them.
 pub const PASSED_OVER: u8 = 255;
@@ -24,13 +24,13 @@ pub fn next_kept(bytes: &[u8], node: usize) -> usize
 
 // A list restricted to the kept nodes among the first 32 nodes. A map gives the images of the kept nodes, and the bytes themselves give the bytes
 // of the reduced drawing.
-pub fn restrict(bytes: &[u8], list: &[u8]) -> ArrayVec<u8, 32>
+pub fn restrict(bytes: &[u8], list: &[u8]) -> ByteList<32>
     ensures { result.items ≡ restricted (take 32 bytes.now) list.now }
 {
-    let mut numbers = ArrayVec::new();
+    let mut numbers = ByteList::new();
     for (&children, &number) in bytes.iter().zip(list).take(32) {
         if children != 1 {
-            numbers.push(number);
+            numbers.add(number);
         }
     }
     numbers

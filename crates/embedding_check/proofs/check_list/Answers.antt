@@ -16,8 +16,8 @@ pub check_images-requires : goal.check_images-requires
 check_images-requires c =
     let source = c.args.source.now in
     let z = c.requires.0 in
-    let kept = held source source _ _ z c.restrict-kept.ensures c.deref.ensures.0 in
-    let images = held source c.args.map.now _ _ z c.restrict-images.ensures c.deref-2.ensures.0 in
+    let kept = held source source _ _ z c.restrict-kept.ensures c.as_slice.ensures.items in
+    let images = held source c.args.map.now _ _ z c.restrict-images.ensures c.as_slice-2.ensures.items in
     let fits = tree-fits 32 (kept_bytes source) (kept-fault 32 source z) in (
       ap length images ∙ restricted-alike source c.args.map.now source c.if-map-source.false ∙ sym (ap length kept),
       omega (arith, fits, ap length kept),
@@ -29,6 +29,6 @@ pub returns : goal.returns
 unfolding list_fault
 returns c =
     let source = c.args.source.now in
-    let kept = held source source _ _ c.requires.0 c.restrict-kept.ensures c.deref.ensures.0 in
-    let images = held source c.args.map.now _ _ c.requires.0 c.restrict-images.ensures c.deref-2.ensures.0 in
+    let kept = held source source _ _ c.requires.0 c.restrict-kept.ensures c.as_slice.ensures.items in
+    let images = held source c.args.map.now _ _ c.requires.0 c.restrict-images.ensures c.as_slice-2.ensures.items in
     search rules

@@ -1,4 +1,6 @@
-use Rattle.std.proofs.Common.{◌-◌, ℕ, arith, rules}
+use Rattle.std.proofs.Common.{◌≡◌, ◌+◌, ◌*◌, ◌-◌, ◌<◌, ◌≤◌, ℕ, List, length, take, get_or, arith, rules}
+use borrow.Rule.Slice.PartMut.{put_mid}
+use Rattle.embedding_program.specs.InnerTables.{best_by}
 use Rattle.std.proofs.lemmas.List.{places}
 use Rattle.base.proofs.Replicate.{get_or_everywhere}
 use Rattle.embedding_program.proofs.Nodes.{listed, branch_of, reach-within, table-start, table_next}
@@ -26,6 +28,11 @@ entries-row-requires c =
       omega (arith, c.reach-count.ensures, reach-within (c.loop-s.s - 1) _ e.some),
     )
 
+-- the entries of a row that were copied into the table
+written : (best new row : List ℕ) (s t count : ℕ) → new ≡ take count row → length best ≡ 2048 → length row ≡ 64 → s < 32 → count ≤ 64 → t < count
+    → best_by (put_mid (s * 64) (s * 64 + count - s * 64) best new) s t ≡ get_or row t 0
+written best new row s t count e f g a b h = search (rules, places)
+
 pub loop-s-preserved : goal.loop-s-preserved
 loop-s-preserved c =
     let s = c.loop-s.s - 1 in
@@ -33,4 +40,4 @@ loop-s-preserved c =
     table_next c.args.source.now c.args.target.now c.requires.source_draws c.requires.target_draws c.args.target_ends.now c.requires.target_table
     c.loop-s.s s (omega arith) (omega arith) _ kids.are kids.long c.loop-s.best _ c.entries-row.result
     (rw (← c.reach-count.ensures) c.entries-row.ensures)
-    (record { here = λ t h. search (rules, places); others = λ i h. search (rules, places) }) c.loop-s.invariant
+    (record { here = λ t h. written c.loop-s.best c.copy_from_slice.new.self c.entries-row.result s t c.reach-count.result c.copy_from_slice.ensures.after (search rules) (search rules) (search rules) (search rules) (search rules); others = λ i h. search (rules, places) }) c.loop-s.invariant

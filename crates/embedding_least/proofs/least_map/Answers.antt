@@ -9,16 +9,16 @@ returns-in_err-read_both c =
 pub least_images-requires : goal.least_images-requires
 least_images-requires c =
     let z = c.in_ok-read_both.ensures in
-    rw (kept-is c.args.source.now c.args.target.now z _ _ c.restrict-kept.ensures c.deref.ensures.0) (both-draw c.args.source.now c.args.target.now z)
+    rw (kept-is c.args.source.now c.args.target.now z _ _ c.restrict-kept.ensures c.as_slice.ensures.items) (both-draw c.args.source.now c.args.target.now z)
 
 pub returns-in_err-images : goal.returns-in_err-images
 returns-in_err-images c =
     let z = c.in_ok-read_both.ensures in
-    let kept = kept-is c.args.source.now c.args.target.now z _ _ c.restrict-kept.ensures c.deref.ensures.0 in
+    let kept = kept-is c.args.source.now c.args.target.now z _ _ c.restrict-kept.ensures c.as_slice.ensures.items in
     rw (residual_is _ _ c.from_residual-in_err-images.ensures.1) (search_none c.args.source.now c.args.target.now z _ (rw (c.least_images.ensures, kept) at c.in_err-images.ensures.value))
 
 pub returns : goal.returns
 returns c =
     let z = c.in_ok-read_both.ensures in
-    let kept = kept-is c.args.source.now c.args.target.now z _ _ c.restrict-kept.ensures c.deref.ensures.0 in
+    let kept = kept-is c.args.source.now c.args.target.now z _ _ c.restrict-kept.ensures c.as_slice.ensures.items in
     search_found c.args.source.now c.args.target.now z _ _ (rw (c.least_images.ensures, kept) at c.in_ok-images.ensures.value) c.spread_out.ensures

@@ -10,8 +10,8 @@ returns-then-not-contains c =
     let degree : leb 2 c.args.d && leb c.args.d 8 ≡ false = search rules in
     (not_2_to_8 _ _ drawn degree, tt)
 
-pub exponent_from-requires : goal.exponent_from-requires
-exponent_from-requires c =
+pub least_power-requires : goal.least_power-requires
+least_power-requires c =
     let drawn : 0 ≡ fault 32 c.args.source.now = search rules in
     let degree : leb 2 c.args.d && leb c.args.d 8 ≡ true = search rules in
     needed_most _ _ drawn degree _ c.leaves_needed.ensures
@@ -20,4 +20,4 @@ pub returns : goal.returns
 returns c =
     let drawn : 0 ≡ fault 32 c.args.source.now = search rules in
     let degree : leb 2 c.args.d && leb c.args.d 8 ≡ true = search rules in
-    rw c.exponent_from.ensures (answered _ _ drawn degree _ c.leaves_needed.ensures)
+    rw c.least_power.ensures.exponent (answered _ _ drawn degree _ c.leaves_needed.ensures)

@@ -11,7 +11,7 @@ use Rattle.regular_table.proofs.put_table.Goals.{in-End, in-Refused, in-Refused-
 pub returns : goal.returns
 returns c =
     let gathered = c.gathered_of-gathered.ensures in
-    let kept = c.as_slice-source.ensures.value in
+    let kept = c.as_slice-source.ensures.items in
     let text : Adds (Prints c.args.script.now) c.new-text.result c.match-gathered.text =
     elim c.match-gathered.branch [
       | in-End w ↦ rw w.text-is (ends_with-script _ _ _ _ gathered.draws (sym gathered.ending ∙ w.in-End.is) (rw kept at w.put_chips.ensures))

@@ -11,7 +11,7 @@ use Rattle.script_run.proofs.serve.Goals as goal
 use Rattle.script_run.proofs.serve.Goals.{in-Step+else-path-ge-MOST_STEPS, in-Push+else-stops, in-Err, in-Ok, in-Pop+else-stops-2}
 
 pub loop-read-init : goal.loop-read-init
-loop-read-init c = begins _ _ (rw (c.as_slice-source_tree.ensures.value, c.as_slice-chip_tree.ensures.value) c.requires.served)
+loop-read-init c = begins _ _ (rw (c.as_slice-source_tree.ensures.items, c.as_slice-chip_tree.ensures.items) c.requires.served)
 
 pub returns-then-path-ge-MOST_STEPS-clause-comes : goal.returns-then-path-ge-MOST_STEPS-clause-comes
 returns-then-path-ge-MOST_STEPS-clause-comes c =
@@ -74,6 +74,6 @@ loop-read-preserved c =
 
 pub returns : goal.returns
 returns c =
-    let g = rw (c.as_slice-source_tree.ensures.value, c.as_slice-chip_tree.ensures.value) at c.loop-read.invariant in
+    let g = rw (c.as_slice-source_tree.ensures.items, c.as_slice-chip_tree.ensures.items) at c.loop-read.invariant in
     let all = comes c.args.session c.requires (omega arith) g in
     record { comes = all.0; commands = all.1 }

@@ -7,10 +7,10 @@ use Rattle.topology_branches.proofs.branch.Goals as goal
 
 pub returns-in_err-read-clause-refusal : goal.returns-in_err-read-clause-refusal
 returns-in_err-read-clause-refusal c =
-    rw (residual_is _ _ c.from_residual.ensures.1) (branch-refused _ _ _ c.in_err-read.ensures)
+    rw (residual_is _ _ c.from_residual.ensures.1) (branch-refused _ _ _ c.in_err-read.ensures).0
 
 pub returns-then-bytes-node-clause-refusal : goal.returns-then-bytes-node-clause-refusal
-returns-then-bytes-node-clause-refusal c = branch_missing _ _ c.in_ok-read.ensures c.if-bytes-node.true
+returns-then-bytes-node-clause-refusal c = (branch_missing _ _ c.in_ok-read.ensures c.if-bytes-node.true).0
 
 pub slice_bounds-result-count : goal.slice_bounds-result-count
 slice_bounds-result-count c =

@@ -1,13 +1,14 @@
-use Rattle.std.proofs.Common.{arith}
+use Rattle.std.proofs.Common.{[], ◌∷◌, ◌++◌, length, length-append, ap, ◌∙◌, take_all, arith}
 use mathlib.Core.Logic.{inl, inr}
-use Rattle.topology_reduction.proofs.RestrictLoop.{restrict-kept, restrict_passed, restrict_end}
+use Rattle.topology_reduction.proofs.RestrictLoop.{restrict-kept, restrict_passed, restrict_end, room}
 use Rattle.topology_reduction.proofs.restrict.Goals as goal
 
 pub loop-children-preserved-then-children-ne1 : goal.loop-children-preserved-then-children-ne1
 loop-children-preserved-then-children-ne1 c =
     let s = c.in-Some.ensures.steps in
     let inv = c.loop-children.invariant in
-    (omega (arith, c.push.ensures.len), rw c.push.ensures.items (restrict-kept _ _ _ _ _ _ _ _ _ _ s.0.0 s.0.1 s.1 inv.1 c.if-children-ne1.true))
+    let all = room 32 _ _ _ c.add.ensures (omega (arith, inv.0)) in
+    (omega (arith, ap length all, length-append c.loop-children.numbers.items (c.in-Some.field-0-1.now ∷ [])), rw all (restrict-kept _ _ _ _ _ _ _ _ _ _ s.0.0 s.0.1 s.1 inv.1 c.if-children-ne1.true))
 
 pub loop-children-preserved : goal.loop-children-preserved
 loop-children-preserved c =

@@ -6,8 +6,8 @@ use Rattle.drawing_svg.proofs.Pair.put.Goals as goal
 pub returns : goal.returns
 unfolding pair_of
 returns c =
-    let source = c.as_slice-source.ensures.value in
-    let target = c.as_slice-target.ensures.value in
+    let source = c.as_slice-source.ensures.items in
+    let target = c.as_slice-target.ensures.items in
     rw (← (rw (source, target) at c.max-rows.ensures))
     (appends_then c.put_head.ensures
     (appends_then c.put_joins.ensures

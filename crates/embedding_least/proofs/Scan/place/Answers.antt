@@ -11,4 +11,4 @@ loop-p-preserved c = filling_next _ _ _ _ c.requires.branch.0 _ _ c.loop-p.invar
 
 pub returns-clause-placed : goal.returns-clause-placed
 returns-clause-placed c =
-    filling_end _ _ _ _ c.requires.branch.0 _ _ c.loop-p.invariant c.loop-p-test.false _ c.sets.ensures.value _ refl
+    filling_end _ _ _ _ c.requires.branch.0 _ _ c.loop-p.invariant c.loop-p-test.false _ c.sets.ensures.value _ (c.loop-p.self.bound _) refl

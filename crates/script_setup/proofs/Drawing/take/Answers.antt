@@ -10,13 +10,12 @@ pub returns-in-Next-Setup-Source-default : goal.returns-in-Next-Setup-Source-def
 returns-in-Next-Setup-Source-default c =
     let arm = c.in-Next-Setup-Source-default in
     let read : c.args.read ≡ Next (Setup (Source arm.children)) arm.field-1 = search rules in
-    let push = c.try_push.ensures in
     rw read (λ more total g. record {
       source = g.source ++ arm.children ∷ [];
       target = g.target;
       limit = g.limit;
       draws = record {
-        source = kept c.try_push.result 33 arm.children _ _ _ g.draws.source push.variant.0 push.ok push.err push.full;
+        source = kept 33 arm.children _ _ _ g.draws.source c.add.ensures;
         target = g.draws.target;
         limit = g.draws.limit;
       };
@@ -27,15 +26,13 @@ pub returns-in-Next-Setup-Target-default : goal.returns-in-Next-Setup-Target-def
 returns-in-Next-Setup-Target-default c =
     let arm = c.in-Next-Setup-Target-default in
     let read : c.args.read ≡ Next (Setup (Target arm.children)) arm.field-1 = search rules in
-    let push = c.try_push-in-Next-Setup-Target-default.ensures in
-    let pushed = c.try_push-in-Next-Setup-Target-default.result in
     rw read (λ more total g. record {
       source = g.source;
       target = g.target ++ arm.children ∷ [];
       limit = g.limit;
       draws = record {
         source = g.draws.source;
-        target = kept pushed 65 arm.children _ _ _ g.draws.target push.variant.0 push.ok push.err push.full;
+        target = kept 65 arm.children _ _ _ g.draws.target c.add-in-Next-Setup-Target-default.ensures;
         limit = g.draws.limit;
       };
       rest = g.rest;
