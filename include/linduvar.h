@@ -36,7 +36,7 @@ extern "C" {
 #define LINDUVAR_MAX_STEPS 9 // places of a path or a way; a ninth step is refused by 13
 #define LINDUVAR_MAX_ENTRIES 2304
 
-// The stack of a thread that calls, in bytes. Measured and rounded up, and no bound that is proved (docs/C.md): a call touches up to 402,952 bytes, and
+// The stack of a thread that calls, in bytes. Measured and rounded up, and no bound that is proved (docs/C.md): a call touches up to 406,055 bytes, and
 // the answer and the caller's own variables come on top.
 #define LINDUVAR_STACK_BYTES 851968
 
