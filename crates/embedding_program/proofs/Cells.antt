@@ -351,13 +351,18 @@ module _ (best kids ends : List ℕ) (t : ℕ) (b : BranchOf ends t) where
           subst (λ (x : ℕ). Row best kids ends after x (end_by ends t)) e (r.row (end_by ends t) ready)
 
   pub filling_end : (p : ℕ) (go : List ℕ) → Filling best kids ends t p go → p ≤ t + 1 → (sets : ℕ) → sets ≡ power (length kids)
+      → (v : ℕ) → v ≡ cell go (t + 1) (sets - 1)
+      → LeastBy best kids ends (end_by ends t) (replicate (length kids) true) (t + 1) v × Scanned best kids ends go (t + 1) (end_by ends t)
+  filling_end p go w h sets all v e =
+      let n : number (replicate (length kids) true) ≡ sets - 1 = omega (arith, number-full (length kids)) in (
+        subst (LeastBy best kids ends (end_by ends t) (replicate (length kids) true) (t + 1)) (ap (cell go (t + 1)) n ∙ sym e)
+        (w.rows (t + 1) (omega (arith, w.low)) (omega (arith, w.low, w.high)) (replicate (length kids) true) (length-replicate (length kids) true)),
+        record { some = λ h. omega (arith, b.here); rows = λ q a c. w.rows q (omega arith) c },
+      )
+
+  -- the same of a number in the code's table, which is at most `no_images`
+  pub filling_placed : (p : ℕ) (go : List ℕ) → Filling best kids ends t p go → p ≤ t + 1 → (sets : ℕ) → sets ≡ power (length kids)
       → (v : ℕ) → v ≤ no_images → v ≡ cell go (t + 1) (sets - 1) → PlacedBelow best kids ends t go v
-  filling_end p go w h sets all v small e =
-      let n : number (replicate (length kids) true) ≡ sets - 1 = omega (arith, number-full (length kids)) in
-      record {
-        bound = small;
-        least = subst (LeastBy best kids ends (end_by ends t) (replicate (length kids) true) (t + 1)) (ap (cell go (t + 1)) n ∙ sym e)
-            (w.rows (t + 1) (omega (arith, w.low)) (omega (arith, w.low, w.high)) (replicate (length kids) true)
-            (length-replicate (length kids) true));
-        scanned = record { some = λ h. omega (arith, b.here); rows = λ q a c. w.rows q (omega arith) c };
-      }
+  filling_placed p go w h sets all v small e =
+      let q = filling_end p go w h sets all v e in
+      record { bound = small; least = q.0; scanned = q.1 }

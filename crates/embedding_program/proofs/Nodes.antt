@@ -21,7 +21,7 @@ use Rattle.topology.proofs.Lookup.{end_code}
 use Rattle.embedding_program.specs.InnerSets.{no_images}
 use Rattle.embedding_program.specs.InnerPlacing.{Member, Placed}
 use Rattle.embedding_program.specs.InnerTables.{best_by, can_by, end_by, BranchOf, TreeBytes}
-use Rattle.embedding_program.specs.InnerMeaning.{end, kid, full, Fits, PlacedAt, BestEntry, Truth, KidsOf, PlacedBy, BestEntryBy, Entries, reach_by, RowPut, Different}
+use Rattle.embedding_program.specs.InnerMeaning.{end, kid, full, Fits, PlacedAt, BestEntry, Truth, KidsOf, PlacedBy, EntryBy, BestEntryBy, reach_by, RowPut, Different}
 use Rattle.embedding_program.proofs.Placing.{placed-map}
 use Rattle.embedding_program.proofs.Local.{end_after, end_within}
 use Rattle.embedding_program.proofs.Program.{has_kid, entry-map}
@@ -44,6 +44,9 @@ module _ (best kids ends : List ℕ) where
     where
       first : Member (replicate (length kids) true) 0
       first = get_or-replicate (length kids) 0 true false (omega arith)
+
+pub entry-unbounded : (best kids ends : List ℕ) (w t v : ℕ) → BestEntryBy best kids ends w t v → EntryBy best kids ends w t v
+entry-unbounded best kids ends w t v b = record { lower = b.lower; fits = b.fits; attained = b.attained }
 
 -- the target nodes that a source node may go to
 pub reach-within : (s n : ℕ) → 0 < n → reach_by s n ≤ n
@@ -149,10 +152,12 @@ module _ (source target : List ℕ) (d : TreeBytes 32 source) (e : TreeBytes 64 
 
   -- one more source node
   pub table_next : (n s : ℕ) → n ≤ s + 1 → s < length source → (kids : List ℕ) → KidsOf (tree source) s kids
-      → length kids ≡ get_or source s 0 → (before best row : List ℕ) → Entries before kids ends target 0 (reach_by s (length target)) row → RowPut before s (reach_by s (length target)) row best
+      → length kids ≡ get_or source s 0 → (before best row : List ℕ)
+      → ((t : ℕ) → t < reach_by s (length target) → EntryBy before kids ends (get_or target t 0) t (get_or row t 0))
+      → RowPut before s (reach_by s (length target)) row best
       → Truth (tree source) (tree target) (best_by before) n → Truth (tree source) (tree target) (best_by best) s
   unfolding S T
-  table_next m s close h kids k long before best row w put truth a t l g i root = by_node (ℕ_discrete a s)
+  table_next m s close h kids k long before best row entries put truth a t l g i root = by_node (ℕ_discrete a s)
     where
       sized : size S ≡ length source
       sized = size_bytes source 32 d
@@ -197,9 +202,9 @@ module _ (source target : List ℕ) (d : TreeBytes 32 source) (e : TreeBytes 64 
 
       here : (s ≡ 0 → t ≡ 0) → BestEntry S T (Fits S T) (best_by best) s t (best_by best s t)
       here r =
-          let b : BestEntryBy before kids ends (get_or target t 0) t (best_by best s t) =
+          let b : EntryBy before kids ends (get_or target t 0) t (best_by best s t) =
           let near = in_reach s t (length target) t_in r in
-          rw (put.here t near) (w.entries t (omega arith) near) in
+          rw (put.here t near) (entries t near) in
           let w_t : width (subtree T t) ≡ get_or target t 0 = width_byte target 64 e t t_in in
           let hi : end_by ends t ≡ end T t = end_byte target 64 e ends n t t_in in
           record {

@@ -61,6 +61,12 @@ pub record KidsOf (S : Topo) (s : ℕ) (kids : List ℕ) : Type 0 where
 abbrev pub PlacedBy : List ℕ → List ℕ → List ℕ → ℕ → List ℕ → Type 0
 PlacedBy best kids ends t ys = Placed (can_by best kids) (end_by ends) (end_by ends t) (replicate (length kids) true) (t + 1) ys
 
+pub record EntryBy (best kids ends : List ℕ) (w t v : ℕ) : Type 0 where
+  pub lower : (length kids ≡ 0 → w ≡ 0) → (ys : List ℕ) → PlacedBy best kids ends t ys → v ≤ pack ys
+  pub fits : v < no_images → length kids ≡ 0 → w ≡ 0
+  pub attained : v < no_images → (ys : List ℕ) × PlacedBy best kids ends t ys × (pack ys ≡ v)
+
+-- an entry of the code's table is also at most `no_images`
 pub record BestEntryBy (best kids ends : List ℕ) (w t v : ℕ) : Type 0 where
   pub bound : v ≤ no_images
   pub lower : (length kids ≡ 0 → w ≡ 0) → (ys : List ℕ) → PlacedBy best kids ends t ys → v ≤ pack ys

@@ -3,7 +3,7 @@ use borrow.Rule.Slice.PartMut.{put_mid}
 use Rattle.embedding_program.specs.InnerTables.{best_by}
 use Rattle.std.proofs.lemmas.List.{places}
 use Rattle.base.proofs.Replicate.{get_or_everywhere}
-use Rattle.embedding_program.proofs.Nodes.{listed, branch_of, reach-within, table-start, table_next}
+use Rattle.embedding_program.proofs.Nodes.{entry-unbounded, listed, branch_of, reach-within, table-start, table_next}
 use Rattle.embedding_least.proofs.fill_table.Goals as goal
 
 pub invariant_of-scan : goal.invariant_of-scan
@@ -39,5 +39,5 @@ loop-s-preserved c =
     let kids = listed c.args.source.now c.requires.source_draws s (omega arith) _ c.kids_of-kids.ensures (search rules) _ c.from.ensures in
     table_next c.args.source.now c.args.target.now c.requires.source_draws c.requires.target_draws c.args.target_ends.now c.requires.target_table
     c.loop-s.s s (omega arith) (omega arith) _ kids.are kids.long c.loop-s.best _ c.entries-row.result
-    (rw (← c.reach-count.ensures) c.entries-row.ensures)
+    (λ t h. entry-unbounded _ _ _ _ _ _ (c.entries-row.ensures.entries t (omega arith) (omega (arith, c.reach-count.ensures))))
     (record { here = λ t h. written c.loop-s.best c.copy_from_slice.new.self c.entries-row.result s t c.reach-count.result c.copy_from_slice.ensures.after (search rules) (search rules) (search rules) (search rules) (search rules); others = λ i h. search (rules, places) }) c.loop-s.invariant

@@ -1,5 +1,5 @@
 use Rattle.std.proofs.Common.{refl}
-use Rattle.embedding_program.proofs.Cells.{filling_begin, filling_next, filling_end}
+use Rattle.embedding_program.proofs.Cells.{filling_begin, filling_next, filling_placed}
 use Rattle.embedding_least.proofs.Scan.place.Goals as goal
 
 pub loop-p-init : goal.loop-p-init
@@ -11,4 +11,4 @@ loop-p-preserved c = filling_next _ _ _ _ c.requires.branch.0 _ _ c.loop-p.invar
 
 pub returns-clause-placed : goal.returns-clause-placed
 returns-clause-placed c =
-    filling_end _ _ _ _ c.requires.branch.0 _ _ c.loop-p.invariant c.loop-p-test.false _ c.sets.ensures.value _ (c.loop-p.self.bound _) refl
+    filling_placed _ _ _ _ c.requires.branch.0 _ _ c.loop-p.invariant c.loop-p-test.false _ c.sets.ensures.value _ (c.loop-p.self.bound _) refl
