@@ -356,7 +356,7 @@ module _ (best kids ends : List ℕ) (t : ℕ) (b : BranchOf ends t) where
   filling_end p go w h sets all v e =
       let n : number (replicate (length kids) true) ≡ sets - 1 = omega (arith, number-full (length kids)) in (
         subst (LeastBy best kids ends (end_by ends t) (replicate (length kids) true) (t + 1)) (ap (cell go (t + 1)) n ∙ sym e)
-        (w.rows (t + 1) (omega (arith, w.low)) (omega (arith, w.low, w.high)) (replicate (length kids) true) (length-replicate (length kids) true)),
+            (w.rows (t + 1) (omega (arith, w.low)) (omega (arith, w.low, w.high)) (replicate (length kids) true) (length-replicate (length kids) true)),
         record { some = λ h. omega (arith, b.here); rows = λ q a c. w.rows q (omega arith) c },
       )
 
